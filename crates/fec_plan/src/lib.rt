@@ -12,6 +12,7 @@ mod position;
 
 pub use crate::payload_id::PayloadId;
 pub use crate::plan::{
-    LEAST_SYMBOL, MOST_BLOCKS, MOST_SOURCES, MOST_SYMBOL, PLACE_OCTETS, Plan, PlanFault,
+    LAST_BLOCK, LEAST_SYMBOL, MOST_BLOCKS, MOST_SOURCES, MOST_SYMBOL, PLACE, PLACE_OCTETS, Plan,
+    PlanFault,
 };
 pub use crate::position::{Point, Position, reached_by};

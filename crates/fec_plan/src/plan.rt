@@ -9,6 +9,9 @@ use thiserror::Error;
 /// The most blocks that 24 bits name.
 pub const MOST_BLOCKS: u32 = 16_777_216;
 
+/// The last block that 24 bits name.
+pub const LAST_BLOCK: u32 = MOST_BLOCKS - 1;
+
 /// The least octets of a symbol.
 pub const LEAST_SYMBOL: u16 = 64;
 
@@ -20,6 +23,9 @@ pub const MOST_SOURCES: u8 = 200;
 
 /// The octets of a segment's place, which stand before its own.
 pub const PLACE_OCTETS: u16 = 8;
+
+/// The same, as an index.
+pub const PLACE: usize = PLACE_OCTETS as usize;
 
 /// Why an object can't be cut so.
 #[derive(Clone, Copy, Debug, PartialEq, Eq, Error)]

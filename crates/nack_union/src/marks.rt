@@ -17,16 +17,13 @@ ghost use Rattle.std.specs.List.{list_any};
 use crate::closed::{all_symbols, closed_len, encoded_len};
 use crate::coverage::Coverage;
 use crate::slots::{BLOCK, slot_of};
-use fec_plan::{Plan, Position};
+use fec_plan::{LAST_BLOCK, Plan, Position};
 use norm_base::Memory;
 use norm_ext::flags::{WANT_BLOCK, WANT_INFO, WANT_OBJECT, WANT_SEGMENT};
 use norm_ext::items::has_flag;
 use std::alloc::Global;
 use std::marker::Model;
 use symbol_mask::Mask;
-
-/// The greatest number of a block.
-const LAST_BLOCK: u32 = 16_777_215;
 
 /// An object of the window: how many of its source symbols are closed, the first block that is kept, which of its slots are wanted, and how
 /// many, and which were sent. Of the open round the slots that it asks for, of each block the greatest count, and whether it asks for

@@ -9,6 +9,6 @@ mod read;
 mod write;
 
 pub use crate::hearing::is_for;
-pub use crate::message::{AckBody, AckMsg, NackMsg};
+pub use crate::message::{AckBody, AckMsg, FLUSH_ACK, NackMsg};
 pub use crate::read::{read_ack, read_nack};
 pub use crate::write::{write_ack, write_nack};

@@ -10,7 +10,7 @@ use norm_ext::places::{FEEDBACK, ITEM};
 use norm_ext::{Item, Requests, requests_of as requests_in};
 
 /// The type of an acknowledgement that answers a FLUSH (RFC 5740 section 4.3.2).
-pub(crate) const FLUSH_ACK: u8 = 2;
+pub const FLUSH_ACK: u8 = 2;
 
 /// A negative acknowledgement: a receiver asks for repair. Its parts are lent from the datagram.
 #[derive(Clone, Copy, Debug, PartialEq, Eq)]

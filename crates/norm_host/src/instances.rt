@@ -3,31 +3,20 @@
 
 ghost use Rattle.std.specs.Prelude.{◌≡◌, ◌<◌, ◌^◌, ℕ, decimal, string_bytes, IfNone, IfOk, IfSome};
 ghost use Rattle.std.specs.Duration.{as_nanos};
-ghost use Rattle.norm_ext.specs.InstanceIds.{is_above};
 ghost use Rattle.norm_host.specs.Instances.{minute_at, id_after, next_instance, passed_by, number_line};
 
 use itoa::Buffer;
 use norm_base::{ID_COUNT, InstanceId};
+use norm_ext::is_above;
 use std::alloc::{AllocError, Global};
 use std::str;
 use std::time::Duration;
-
-/// An id lies above those of which it is at most so far ahead: less than half of all.
-const MOST_RISE: u32 = 32_767;
 
 /// The minute since 1970, going round as instance ids do.
 pub fn minute_at(since_1970: Duration) -> InstanceId
     ensures { result ≡ minute_at (as_nanos since_1970) }
 {
     InstanceId((since_1970.as_secs() / 60 % u64::from(ID_COUNT)) as u16)
-}
-
-/// Whether an instance id lies above another.
-fn is_above(from: InstanceId, id: InstanceId) -> bool
-    ensures { result ≡ is_above from id }
-{
-    let rise = (ID_COUNT + u32::from(id.0) - u32::from(from.0)) % ID_COUNT;
-    1 <= rise && rise <= MOST_RISE
 }
 
 /// The last instance that was taken, if one that is given does not lie above it.

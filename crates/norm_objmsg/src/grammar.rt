@@ -12,7 +12,7 @@ ghost use Rattle.norm_ext.specs.Octets.{octets_of};
 ghost use Rattle.norm_ext.specs.Places.{info_header, data_header};
 ghost use Rattle.norm_objmsg.specs.CanWriteMessage.{CanWrite};
 
-use fec_plan::{PLACE_OCTETS, PayloadId};
+use fec_plan::{PLACE, PayloadId};
 use norm_base::Datagram;
 use norm_ext::fitting::{has_room, is_narrow};
 use norm_ext::header::{
@@ -21,9 +21,6 @@ use norm_ext::header::{
 use norm_ext::places::{DATA, DATA_WORDS, ENCODING_AT, INFO, INFO_WORDS, NAME_AT, WORD};
 use norm_ext::pushing::{push_front, push_name, push_object_head};
 use norm_ext::{MessageType, ObjHead, Refusal, read_16, read_32, read_name};
-
-/// The octets of a segment's place, and the places there of where a message starts and of the segment's offset.
-const PLACE: usize = PLACE_OCTETS as usize;
 
 const MSG_START_AT: usize = 2;
 

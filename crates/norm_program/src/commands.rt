@@ -11,11 +11,8 @@ use crate::input::read_input;
 use crate::last_line::{refused_line, say};
 use crate::status::Ending;
 use norm_base::{Memory, Profile, Sink, Source};
-use norm_script::{Refusal, Script, ScriptFault, Why, read, read_commands};
+use norm_script::{MOST_LINES, Refusal, Script, ScriptFault, Why, read, read_commands};
 use std::alloc::{AllocError, Global};
-
-/// The most lines of a script.
-const MOST_LINES: u32 = 8192;
 
 /// The line of the one key that commands go by.
 #[tactic(auto, unfolding(crate::specs::Asked::producers_line))]

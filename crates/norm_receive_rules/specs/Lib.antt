@@ -12,6 +12,7 @@ pub mod Leaving
 pub mod Seeing
 pub mod Acknowledging
 pub mod Overhearing
+pub mod Short
 pub mod Needs
 pub mod StreamNeeds
 pub mod AllNeeds

@@ -16,7 +16,7 @@ use Rattle.norm_receive_rules.specs.AllNeeds.{planned_needs, needs_of, needs_fro
 use Rattle.norm_receive_rules.specs.StreamNeeds.{last_block}
 use Rattle.norm_receive_rules.specs.declared.words.Missing.{Missing}
 use Rattle.norm_receive_rules.specs.declared.words.Missing.TheVariants as missing
-use Rattle.rx_stream.specs.Short.{IsShortFrom}
+use Rattle.norm_receive_rules.specs.Short.{IsShortFrom}
 use Rattle.rx_hold.specs.Told.{IsFirstShort, flags_at, plan_at, missing_at, missing_by}
 use Rattle.norm_receiver.specs.Walking.{Walked, walk_need, walk_where, walk_lacking, walk_on}
 use Rattle.norm_receiver.proofs.NeedLemmas.{cut_same, index_of_found, its_info, no_plan, rest_by}

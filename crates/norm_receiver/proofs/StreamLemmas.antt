@@ -19,8 +19,8 @@ use Rattle.norm_receive_rules.specs.StreamNeeds.{earlier_needs, end_of, end_symb
 use Rattle.norm_receive_rules.specs.declared.words.Missing.{Missing}
 use Rattle.norm_receive_rules.specs.declared.words.Missing.TheVariants as missing
 use Rattle.norm_receive_rules.proofs.PassedLemmas.{or_false}
-use Rattle.rx_entries.specs.Asked.{end_at, seen_at}
-use Rattle.rx_entries.specs.FrontSound.{flags_in, object_in, plan_in}
+use Rattle.rx_hold.specs.Asked.{end_at, seen_at}
+use Rattle.rx_hold.specs.FrontSound.{flags_in, object_in, plan_in}
 use Rattle.rx_hold.specs.EntryHold.{EntryHold, StandsFor as HoldStands}
 use Rattle.rx_hold.specs.EntryState.{EntryState}
 use Rattle.rx_hold.specs.Told.{missing_at, missing_by, plan_at}

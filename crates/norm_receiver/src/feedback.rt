@@ -10,10 +10,7 @@ ghost use Rattle.norm_receiver.specs.Numbers.{numbers_of};
 use crate::numbers::{FlushPlace, Numbers};
 use norm_base::{Datagram, InstanceId, NodeId, Profile};
 use norm_ext::items::item_of;
-use norm_fbmsg::{AckBody, AckMsg, NackMsg, write_ack, write_nack};
-
-/// The type of an acknowledgement that answers a FLUSH (RFC 5740 section 4.3.2).
-const FLUSH_ACK: u8 = 2;
+use norm_fbmsg::{AckBody, AckMsg, FLUSH_ACK, NackMsg, write_ack, write_nack};
 
 impl Numbers {
     /// The current instance's id, or 0 where none began.

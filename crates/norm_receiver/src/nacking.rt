@@ -8,7 +8,7 @@ ghost use Rattle.norm_receive_rules.specs.Plans.{lacking, plan_of};
 ghost use Rattle.norm_receive_rules.specs.Needs.{Object, ObjectInfo, counts_from, object_needs};
 ghost use Rattle.norm_receive_rules.specs.AllNeeds.{needs, needs_of};
 ghost use Rattle.norm_receive_rules.specs.HeardNeeds.{is_heard};
-ghost use Rattle.rx_entries.specs.Asked.{IsShortIn};
+ghost use Rattle.rx_hold.specs.Asked.{IsShortIn};
 ghost use Rattle.norm_receiver.specs.ReceiverKept.{Stands};
 ghost use Rattle.norm_receiver.specs.Walking.{Walked, walk_where, walk_lacking, walk_on, HasRoom, IsAt};
 ghost use Rattle.norm_receiver.specs.PlanOf.{IsPlanOf};

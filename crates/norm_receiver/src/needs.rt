@@ -14,12 +14,9 @@ ghost use Rattle.norm_receiver.specs.ReceiverKept.{HasSeenBlocks};
 use crate::numbers::Numbers;
 use crate::stream_needs::is_stream_quiet;
 use fec_plan::{Plan, Point, Position};
-use norm_ext::flags::STREAM;
+use norm_ext::flags::{INFO, STREAM};
 use norm_ext::items::has_flag;
-use rx_entries::Hold;
-
-/// The flag of an object that has an info (RFC 5740 section 4.2.1).
-const HAS_INFO: u8 = 4;
+use rx_hold::Hold;
 
 /// Whether the sender was seen to be past an object, or flushed it or a later one.
 pub(crate) fn is_covered(farthest: &Option<Point>, flush: &Option<Position>, index: u32) -> bool
@@ -90,7 +87,7 @@ pub(crate) fn lacks_info(hold: &Hold, index: u32, flags: u8, covered: bool) -> b
     if !covered {
         return false;
     }
-    if flags / HAS_INFO % 2 != 1 {
+    if !has_flag(flags, INFO) {
         return false;
     }
     !hold.has_info(index)

@@ -8,6 +8,7 @@ ghost use Rattle.norm_receiver.specs.Numbers.{opening_numbers, entering_numbers,
 
 use fec_plan::{PayloadId, Point, Position};
 use norm_base::{InstanceId, Moment, NodeId, Profile};
+use norm_ext::is_above;
 use std::marker::Model;
 
 /// The numbers of a receiver, each as the rules' state has it.
@@ -74,24 +75,11 @@ impl FlushPlace {
     }
 }
 
-/// So many ids there are.
-const ALL_IDS: u32 = 65_536;
-/// An id lies above those of which it is at most so far ahead.
-const MOST_RISE: u32 = 32_767;
-
 /// The moment so much later; one that passes 64 bits is the last one.
 fn moment_after(now: Moment, span: u64) -> Moment
     ensures { result ≡ moment_after now span }
 {
     Moment(now.0.saturating_add(span))
-}
-
-/// Whether an instance id lies above another.
-fn is_above(from: InstanceId, id: InstanceId) -> bool
-    ensures { result ≡ is_above from id }
-{
-    let rise = (ALL_IDS + u32::from(id.0) - u32::from(from.0)) % ALL_IDS;
-    1 <= rise && rise <= MOST_RISE
 }
 
 impl Numbers {

@@ -4,7 +4,7 @@ use crate::asked::Asked;
 use crate::heard::Heard;
 use crate::numbers::Numbers;
 use norm_base::Profile;
-use rx_entries::Hold;
+use rx_hold::Hold;
 
 /// The parts of a receiver, under one profile: what it holds, what it heard others ask for, and its numbers; and the room in
 /// which requests are read.

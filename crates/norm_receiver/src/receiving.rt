@@ -24,7 +24,7 @@ use norm_base::Memory;
 use norm_cmdmsg::names;
 use norm_ext::{Extensions, Fti, read_fti};
 use norm_receive_rules::Fit;
-use rx_entries::Hold;
+use rx_hold::Hold;
 
 /// What an INFO or DATA brings its object.
 #[derive(Clone, Copy, Debug)]

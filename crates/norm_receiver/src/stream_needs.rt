@@ -6,7 +6,7 @@ ghost use Rattle.fec_plan.specs.Points.{IsBlock, point as point_at, point_before
 ghost use Rattle.norm_receive_rules.specs.Holding.{Holding};
 ghost use Rattle.norm_receive_rules.specs.Plans.{is_done, plan_of, says_stream};
 ghost use Rattle.norm_receive_rules.specs.StreamNeeds.{flush_in, is_behind, open_block, stream_due, stream_needs};
-ghost use Rattle.rx_entries.specs.Asked.{end_at};
+ghost use Rattle.rx_hold.specs.Asked.{end_at};
 ghost use Rattle.rx_hold.specs.EntryHold.{StandsFor as HoldStands};
 ghost use Rattle.norm_receiver.specs.Quiet.{is_nil};
 ghost use Rattle.norm_receiver.specs.ReceiverKept.{HasSeenBlocks};
@@ -17,7 +17,7 @@ use crate::numbers::{FlushPlace, Numbers};
 use crate::searching::LAST_BLOCK;
 use fec_plan::{Plan, Point, Position};
 use norm_receive_rules::Missing;
-use rx_entries::Hold;
+use rx_hold::Hold;
 
 /// Source symbols of a block in a row: from the first to before the one behind.
 #[derive(Clone, Copy, Debug, PartialEq, Eq)]

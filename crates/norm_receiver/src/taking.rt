@@ -13,7 +13,7 @@ use crate::numbers::Numbers;
 use crate::parts::Parts;
 use norm_base::{InstanceId, Memory, NodeId, Profile};
 use norm_order::Up;
-use rx_entries::Hold;
+use rx_hold::Hold;
 use std::alloc::Global;
 
 impl Parts {

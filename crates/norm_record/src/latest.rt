@@ -4,12 +4,7 @@ ghost use Rattle.std.specs.Prelude.{◌≡◌};
 ghost use Rattle.norm_record.specs.Names.{name_of};
 
 use byteorder::{BigEndian, ByteOrder};
-
-/// How many octets the common header of a message has (RFC 5740 section 4.1).
-const COMMON: usize = 8;
-
-/// Where its sequence number stands, and behind it the source.
-const SEQUENCE_AT: usize = 2;
+use norm_ext::places::{COMMON, SEQUENCE_AT};
 
 /// A datagram's name: its sequence number and its source as one number, or 0 without a common header.
 #[tactic(auto, unfolding(crate::specs::Names::name_of))]
@@ -19,5 +14,6 @@ pub(crate) fn name_of(octets: &[u8]) -> u64
     if octets.len() < COMMON {
         return 0;
     }
+    // The source stands right after the sequence number (RFC 5740 section 4.1).
     BigEndian::read_u48(octets.split_at(SEQUENCE_AT).1)
 }

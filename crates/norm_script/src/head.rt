@@ -14,7 +14,7 @@ use std::alloc::Global;
 use std::marker::Model;
 
 /// The most lines of a script.
-pub(crate) const MOST_LINES: u32 = 8192;
+pub const MOST_LINES: u32 = 8192;
 
 /// What a head says so far.
 #[derive(Drop)]

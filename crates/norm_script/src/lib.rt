@@ -21,6 +21,7 @@ mod spelling;
 mod words;
 
 pub use crate::generator::generate;
+pub use crate::head::MOST_LINES;
 pub use crate::laws::{reads_back, reads_generated, reads_scripts, scripts_can_run};
 pub use crate::meaning::Meaning;
 pub use crate::reader::{read, read_commands, read_script, why_refused};

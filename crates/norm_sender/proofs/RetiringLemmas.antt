@@ -14,9 +14,9 @@ use Rattle.norm_send_rules.specs.InWindow.{current_shapes, next_index, last_inde
 use Rattle.norm_send_rules.specs.Enqueuing.{open_stream, with_entry}
 use Rattle.norm_send_rules.specs.Room.{first_kept}
 use Rattle.norm_send_rules.proofs.WantLemmas.{ends_open}
-use Rattle.held_entry.specs.EntryState.{EntryReads, StandsFor as StandsForEntry, first_of}
-use Rattle.held_entry.specs.declared.entry.HeldEntry.{HeldEntry}
-use Rattle.held_entry.specs.declared.entry.HeldEntry.TheVariants as held
+use Rattle.tx_window.specs.EntryState.{EntryReads, StandsFor as StandsForEntry, first_of}
+use Rattle.tx_window.specs.declared.entry.HeldEntry.{HeldEntry}
+use Rattle.tx_window.specs.declared.entry.HeldEntry.TheVariants as held
 use Rattle.tx_window.specs.WindowState.{WindowState, Stands as WindowStands, first_block}
 use Rattle.tx_window.proofs.KeptLemmas.{entry_at_place}
 use Rattle.nack_union.specs.Kept.{Kept, Marked, MayRetire, moved_front, retired, with_object}

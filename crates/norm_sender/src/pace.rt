@@ -2,17 +2,14 @@
 
 ghost use Rattle.std.specs.Prelude.{◌≡◌, ◌+◌, ◌%◌, ◌<◌, ◌||◌, false, true, nat_lt, Some};
 ghost use Rattle.norm_base.specs.Settings.{Settings};
-ghost use Rattle.norm_ext.specs.InstanceIds.{rise};
 ghost use Rattle.norm_send_rules.specs.SenderState.{SenderState, sender_opening};
 ghost use Rattle.norm_send_rules.specs.Restarting.{begun_anew, is_used};
 ghost use Rattle.norm_order.specs.Moments.{moment_after};
 ghost use Rattle.norm_sender.specs.Pacing.{closed_at, is_over, next_flush, pace_of};
 
-use norm_base::{ID_COUNT, InstanceId, Moment};
+use norm_base::{InstanceId, Moment};
+use norm_ext::{MOST_RISE, rise};
 use norm_send_rules::Want;
-
-/// An id lies above those of which it is no more than this ahead.
-const MOST_RISE: u32 = 32_767;
 
 /// The numbers of a sender, each as the rules' state has it.
 #[derive(Clone, Copy, Debug, PartialEq, Eq)]
@@ -41,13 +38,6 @@ pub(crate) fn moment_after(now: Moment, span: u64) -> Moment
     ensures { result ≡ moment_after now span }
 {
     Moment(now.0.saturating_add(span))
-}
-
-/// How far an instance's id lies above another, going round.
-fn rise(from: InstanceId, instance: InstanceId) -> u32
-    ensures { result ≡ rise from instance }
-{
-    (ID_COUNT + u32::from(instance.0) - u32::from(from.0)) % ID_COUNT
 }
 
 impl Pace {

@@ -8,14 +8,10 @@ ghost use Rattle.norm_text.specs.Words.{with_piece, with_word, joined, numbers_w
 ghost use Rattle.norm_show.specs.Words.{item_word, request_word, requests_word};
 
 use norm_ext::items::split_item;
+use norm_ext::places::{NODE, OBJECT};
 use norm_ext::{Item, Request, read_16, read_32, requests_of};
 use norm_text::Line;
 use std::alloc::AllocError;
-
-/// The octets of a node's id.
-const NODE: usize = 4;
-/// The octets of an object transport id.
-const OBJECT: usize = 2;
 
 /// Puts node ids joined by commas, or a dash.
 pub(crate) fn put_nodes(line: &mut Line, list: &[u8]) -> Result<(), AllocError>

@@ -142,11 +142,6 @@ impl<R: Net + Wait + Clock + Drop> UdpFabric<R> {
         self.cause.as_ref()
     }
 
-    /// What the last failed call was about, which is then kept elsewhere.
-    pub fn take_cause(&mut self) -> Option<SocketCause> {
-        self.cause.take()
-    }
-
     /// Keeps what a failed call was about, and counts it.
     fn keep(&mut self, cause: SocketCause)
         ensures counted { Counts self.old.faults self.new.faults true }

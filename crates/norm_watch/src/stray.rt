@@ -1,21 +1,17 @@
 //! Datagrams that come to a receiver, and that its rules pass over.
 
 ghost use Rattle.std.specs.Prelude.{◌≡◌, Some};
-ghost use Rattle.norm_ext.specs.InstanceIds.{is_above};
 ghost use Rattle.norm_watch.specs.Following.{goes_to, names_index, followed, followed_by, is_older};
 
-use norm_base::{ID_COUNT, InstanceId, Local, NodeId, Profile};
+use norm_base::{InstanceId, Local, NodeId, Profile};
 use norm_ext::places::{INSTANCE_AT, SOURCE_AT};
-use norm_ext::{index_named, read_16, read_32};
+use norm_ext::{index_named, is_above, read_16, read_32};
 use norm_udp::{Heard, heard_in};
 use std::fmt;
 use std::time::Duration;
 
 /// How many seconds after a datagram that may be late another shows that it is not. Our own choice.
 const LATE: u64 = 1;
-
-/// How far one instance id lies above another at most (RFC 5740 section 4.1): less than half of all.
-const MOST_RISE: u32 = 32_767;
 
 /// Where the instance of a sender's datagram ends, which stands behind the sender's id (RFC 5740 section 4.2).
 const INSTANCE_END: usize = INSTANCE_AT + 2;
@@ -95,14 +91,6 @@ impl Again {
         self.since = now;
         false
     }
-}
-
-/// Whether an instance id lies above another.
-fn is_above(from: InstanceId, id: InstanceId) -> bool
-    ensures { result ≡ is_above from id }
-{
-    let rise = (ID_COUNT + u32::from(id.0) - u32::from(from.0)) % ID_COUNT;
-    1 <= rise && rise <= MOST_RISE
 }
 
 /// Whether a receiver in this instance goes on to that one.

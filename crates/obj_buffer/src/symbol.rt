@@ -12,11 +12,8 @@ ghost use Rattle.obj_buffer.specs.Pieces.{HoldsObject, AppendsSymbol};
 
 use crate::codes::Codes;
 use fec_plan::Plan;
-use norm_base::Datagram;
+use norm_base::{Datagram, SYMBOL_ROOM};
 use rs_block::Code;
-
-/// The most octets of a symbol.
-const MOST_SYMBOL: usize = 1400;
 
 /// `len` octets from octet `start` on of two pieces in a row: those of the front, and those of the back.
 fn range_of<'a>(front: &'a [u8], back: &'a [u8], start: usize, len: usize) -> (&'a [u8], &'a [u8])
@@ -77,7 +74,7 @@ fn push_parity(
     let start = plan.symbol_number(block, 0) as usize * e;
     let len = usize::from(plan.source_len(block)) * e;
     let (first, rest) = range_of(front, back, start, len);
-    let mut room = [0; MOST_SYMBOL];
+    let mut room = [0; SYMBOL_ROOM];
     let parity = &mut room[..e];
     code.parity_in_two(first, rest, e, symbol, parity);
     out.push(parity);

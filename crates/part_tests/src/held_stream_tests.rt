@@ -1,7 +1,7 @@
 //! A stream of the window: which of its segments were sent, and which blocks may go for room.
 
 use fec_plan::Position;
-use held_stream::HeldStream;
+use stream_buffer::HeldStream;
 use norm_base::{Datagram, Given, Key, Memory, Profile};
 use std::alloc::Global;
 use std::process::Abort;

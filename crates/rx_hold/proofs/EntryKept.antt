@@ -12,7 +12,7 @@ use Rattle.norm_receive_rules.specs.Holding.{Holding, Plan, Held, HeldInfo}
 use Rattle.norm_receive_rules.specs.Putting.{held_before, put_of, with_symbol}
 use Rattle.norm_receive_rules.specs.declared.words.Put.TheVariants as put
 use Rattle.norm_receive_rules.proofs.PassedLemmas.{symbol_passed}
-use Rattle.rx_hold.specs.BlockState.{held_at}
+use Rattle.rx_object.specs.BlockState.{held_at}
 use Rattle.rx_hold.specs.EntryState.{EntryState, infos_in, with_word}
 use Rattle.rx_hold.specs.EntryHold.{PlacedEntries, StandsFor, entry_at, entries_there}
 use Rattle.rx_hold.specs.Told.{is_passed}

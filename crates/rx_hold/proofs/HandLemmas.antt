@@ -10,7 +10,7 @@ use Rattle.fec_plan.proofs.CoverLemmas.{few_blocks, small_some, between}
 use Rattle.norm_receive_rules.specs.Holding.{Holding, Plan, Held}
 use Rattle.norm_receive_rules.specs.Plans.{cut_of_plan, says_stream, is_done, lacking, held_of, has_its_info}
 use Rattle.norm_receive_rules.specs.HandingUp.{is_whole, hands_one, hands_most, handed_up}
-use Rattle.rx_hold.specs.ObjectState.{ObjectState, alone}
+use Rattle.rx_object.specs.ObjectState.{ObjectState, alone}
 
 -- ---- a whole object holds a symbol at least
 

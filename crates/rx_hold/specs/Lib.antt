@@ -1,11 +1,9 @@
-pub mod BlockState
-pub mod Places
-pub mod Offering
-pub mod Rows
-pub mod RowsSound
-pub mod ObjectState
-pub mod ObjectSound
 pub mod Told
 pub mod EntryState
 pub mod EntryHold
-pub mod RoomSound
+pub mod Seats
+pub mod FrontSound
+pub mod Fits
+pub mod Handing
+pub mod Asked
+pub mod HoldSound

@@ -1,19 +1,26 @@
-//! What is held of one object of either kind.
+//! What is held of one object of either kind: data or a file, or a stream.
+//!
+//! This module alone decides which of the two it is: `making` when the object is taken up, `asking` for what it needs, and `handing` for
+//! what it hands up.
 
 ghost use Rattle.std.specs.Prelude.{ℕ, ◌≡◌, ◌≤◌, ◌<◌, ◌+◌, ◌*◌, IfOk, OnErr, None, Some, is_some, length};
 ghost use Rattle.norm_base.specs.Settings.{Settings};
 ghost use Rattle.fec_plan.specs.Partition.{blocks};
 ghost use Rattle.fec_plan.specs.Points.{position};
-ghost use Rattle.norm_receive_rules.specs.Plans.{cut_of_plan, holds, lacking};
+ghost use Rattle.norm_receive_rules.specs.Plans.{cut_of_plan, holds, lacking, says_stream};
 ghost use Rattle.norm_receive_rules.specs.Putting.{put_by};
 ghost use Rattle.rx_hold.specs.EntryState.{IsOfKind, IsOfProfile, alone_in, entry_of, with_seen, with_word};
 
-use crate::object::Object;
-use crate::room::Room;
+mod asking;
+mod handing;
+mod making;
+
+pub use crate::entry::making::{is_stream, plan_by, room_of};
 use fec_plan::{PayloadId, Plan};
 use norm_base::{Memory, Octets};
 use norm_ext::Fti;
 use norm_receive_rules::Put;
+use rx_object::{Object, Room};
 use rx_stream::{Scratch, Stream};
 
 /// What is held of data or a file, or of a stream.
@@ -44,6 +51,13 @@ impl Entry {
             Entry::Object(object) => object.flags(),
             Entry::Stream(stream) => stream.flags(),
         }
+    }
+
+    /// Whether its flags are a stream's.
+    pub fn says_stream(&self) -> bool
+        ensures { result ≡ says_stream (entry_of self.now).plan.flags }
+    {
+        is_stream(self.flags())
     }
 
     /// How it is cut.
@@ -122,8 +136,10 @@ impl Entry {
 
     /// Keeps the info. It takes no memory.
     pub fn put_info(&mut self, info: Octets)
-        requires { (entry_of self.old).info ≡ None }
-        ensures { entry_of self.new ≡ record (entry_of self.old) { info = Some info } }
+        requires kind { IsOfKind self.old }
+        requires new { (entry_of self.old).info ≡ None }
+        ensures state { entry_of self.new ≡ record (entry_of self.old) { info = Some info } }
+        ensures kind { IsOfKind self.new }
     {
         match self {
             Entry::Object(object) => object.put_info(info),

@@ -1,19 +1,19 @@
-//! What a NORM receiver holds of one object until it hands it up (RFC 5740 section 5.3). An [`Entry`] is an object of either
-//! kind: an [`Object`] of data or a file, or a `Stream` of `rx_stream`. Who holds objects in their order makes it of one of these.
+//! What a NORM receiver holds of objects of either kind, data and files or streams, until it hands them up (RFC 5740 section 5.3).
 //!
-//! An `Object` keeps the symbols of its blocks, of which any k give the block's source symbols back (RFC 5510 section 8.3),
-//! and gives its octets away as it is whole. It stands on `Rows`, its blocks one behind the other, which put each symbol
-//! into its block by the functions of `block`. A [`Room`] to solve blocks stands once for all objects of a profile.
+//! [`Hold`] is what a receiver drives. It stands on `Front`: the hand-up point, what was handed up before it, and a ring of the 256
+//! objects from there on, each an `Entry` in its `Seat`. An `Entry` is an object of `rx_object` or a stream of `rx_stream`, and alone decides
+//! which. `fitting` takes objects up, `handing_up` hands up what comes next, and `losing` goes to where the sender's window begins.
 #![tactic(auto)]
 
-mod block;
 mod entry;
-mod object;
+mod fitting;
+mod front;
+mod handing_up;
+mod hold;
+mod losing;
+mod needs;
 mod place;
-mod room;
-mod rows;
+mod ring;
 
-pub use crate::entry::Entry;
-pub use crate::object::Object;
+pub use crate::hold::Hold;
 pub use crate::place::Place;
-pub use crate::room::Room;

@@ -7,7 +7,7 @@ use Rattle.fec_plan.specs.Partition.{Cut, blocks}
 use Rattle.norm_receive_rules.specs.Holding.{Plan}
 use Rattle.norm_receive_rules.specs.Plans.{cut_of_plan, is_done, lacking, says_stream}
 use Rattle.rx_stream.specs.BlockState.{BlockState, empty_block, lacks}
-use Rattle.rx_stream.specs.Short.{IsShortFrom}
+use Rattle.norm_receive_rules.specs.Short.{IsShortFrom}
 use Rattle.rx_stream.specs.StreamSound.{AreOf, AreShorts, stream_of}
 use Rattle.rx_stream.specs.StreamState.{StreamState, alone}
 use Rattle.rx_stream.proofs.StreamLemmas.{lacking_later, stream_lacking}

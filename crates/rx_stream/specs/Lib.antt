@@ -6,4 +6,3 @@ pub mod BlockMoves
 pub mod StreamState
 pub mod StreamSound
 pub mod StreamMoves
-pub mod Short

@@ -4,23 +4,12 @@ ghost use Rattle.std.specs.Prelude.{◌≡◌, ◌≤◌, ◌+◌, IfOk, length,
 ghost use Rattle.norm_ext.specs.Numbers.{number};
 ghost use Rattle.norm_order.specs.Symbols.{padded};
 
+use fec_plan::PLACE;
 use norm_base::{Memory, Octets};
 use norm_ext::{read_16, read_32};
+use norm_order::put_padded;
 use rs_block::Row;
 use std::alloc::Global;
-
-/// The octets of a segment's place, which stand before its own: its length, where its message starts, and its offset.
-const PLACE: usize = 8;
-
-/// Puts octets into a place, and zeros behind them.
-fn put_padded(place: &mut [u8], payload: &[u8])
-    requires { length payload.now ≤ length place.old }
-    ensures { place.new ≡ padded (length place.old) payload.now }
-{
-    let (front, back) = place.split_at_mut(payload.len());
-    front.copy_from_slice(payload);
-    back.fill(0);
-}
 
 /// A symbol of `size` octets that was sent with these.
 ///

@@ -16,7 +16,7 @@ ghost use Rattle.norm_receive_rules.specs.Putting.{is_far, is_misfit, is_segment
 ghost use Rattle.norm_receive_rules.specs.declared.words.Put.TheVariants as put_word;
 ghost use Rattle.rx_stream.specs.BlockState.{BlockState, empty_block, lacks, source_of};
 ghost use Rattle.rx_stream.specs.StreamState.{StreamState, alone, empty_stream, IsOf};
-ghost use Rattle.rx_stream.specs.Short.{IsShortFrom};
+ghost use Rattle.norm_receive_rules.specs.Short.{IsShortFrom};
 ghost use Rattle.short_blocks.specs.State.{is_short, settled};
 ghost use Rattle.rx_stream.specs.BlockMoves.{IsRow, IsSent, MayCome, with_came};
 ghost use Rattle.rx_stream.specs.StreamMoves.{MayKeep, fits_cut, handed_on, left, left_behind, next_up, passed, shape_of};
@@ -24,8 +24,10 @@ ghost use Rattle.rx_stream.specs.StreamMoves.{MayKeep, fits_cut, handed_on, left
 use crate::block::Block;
 use crate::row::{coded_row, offset_of, segment_len, segment_of};
 use crate::scratch::Scratch;
-use fec_plan::{MOST_BLOCKS, PayloadId, Plan};
+use fec_plan::{MOST_BLOCKS, PLACE, PayloadId, Plan};
 use norm_base::{Memory, Octets};
+use norm_ext::flags::INFO;
+use norm_ext::items::has_flag;
 use norm_ext::{Fti, read_16};
 use norm_order::Up;
 use norm_receive_rules::Put;
@@ -35,12 +37,6 @@ use std::alloc::Global;
 use std::collections::VecDeque;
 use std::marker::Model;
 use std::mem;
-
-/// The octets of a segment's place, which stand before its own.
-const PLACE: usize = 8;
-
-/// The flag of an object that has an info (RFC 5740 section 4.2.1).
-const HAS_INFO: u8 = 4;
 
 /// What is held of a stream. Symbols are offered in any order, of any block from the next segment's on, and segments are
 /// handed up in order.
@@ -340,7 +336,7 @@ impl Stream {
     pub fn has_its_info(&self) -> bool
         ensures { result ≡ has_its_info (alone self.now) self.now.plan }
     {
-        self.flags / HAS_INFO % 2 == 0 || self.info.is_some()
+        !has_flag(self.flags, INFO) || self.info.is_some()
     }
 
     /// Keeps the info. It takes no memory.

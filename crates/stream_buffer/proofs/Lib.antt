@@ -6,3 +6,10 @@ pub mod MovesLemmas
 pub mod FaultLemmas
 pub mod FilledLemmas
 pub mod SymbolLemmas
+pub mod MarkLemmas
+pub mod RangeLemmas
+pub mod KnowsLemmas
+pub mod GoingLemmas
+pub mod NotedLemmas
+pub mod GrowingLemmas
+pub mod LawLemmas

@@ -2,3 +2,8 @@ pub mod RowsState
 pub mod StreamState
 pub mod StreamMoves
 pub mod StreamSound
+pub mod HeldState
+pub mod MarksState
+pub mod HeldSound
+pub mod Growing
+pub mod Laws

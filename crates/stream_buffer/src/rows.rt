@@ -7,15 +7,10 @@ ghost use Rattle.fec_plan.specs.Partition.{place_octets};
 ghost use Rattle.norm_order.specs.Symbols.{padded, segment_octets};
 ghost use Rattle.stream_buffer.specs.RowsState.{over};
 
-use norm_base::Memory;
+use fec_plan::PLACE;
+use norm_base::{Memory, SYMBOL_ROOM};
 use std::alloc::Global;
 use std::marker::Model;
-
-/// The octets of a segment's place: how many octets it has, where its message starts, and its offset in the stream.
-const PLACE: usize = 8;
-
-/// The most octets of a row.
-const MOST_ROW: usize = 1408;
 
 /// Segments of a stream, by their numbers, and the one that fills. Each has a row: its place, its octets, and zeros.
 #[derive(Debug, Drop)]
@@ -57,7 +52,7 @@ fn put_zeros(octets: &mut [u8], start: usize, len: usize)
     requires most { len ≤ 1408 }
     ensures { octets.new ≡ over start (replicate len 0) octets.old }
 {
-    let zeros = [0; MOST_ROW];
+    let zeros = [0; SYMBOL_ROOM];
     put(octets, start, zeros.as_slice().split_at(len).0);
 }
 

@@ -18,21 +18,12 @@ ghost use Rattle.stream_buffer.specs.StreamState.{StreamState, StandsFor, Answer
 ghost use Rattle.stream_buffer.specs.StreamMoves.{with_octets, wrote_here, cut_here, ended_here, closed_here, kept_for, from_block, room_fault};
 
 use crate::rows::Rows;
-use fec_plan::Plan;
-use norm_base::{Datagram, Memory, Profile};
+use fec_plan::{MOST_BLOCKS, PLACE, Plan};
+use norm_base::{Datagram, Memory, Profile, SYMBOL_ROOM};
 use norm_send_rules::StreamFault;
 use rs_block::Code;
 use std::alloc::Global;
 use std::marker::Model;
-
-/// The octets of a segment's place, which stand before its own.
-const PLACE: usize = 8;
-
-/// The most octets of a segment as it is coded.
-const MOST_CODED: usize = 1408;
-
-/// The most blocks that 24 bits name.
-const MOST_BLOCKS: u64 = 16_777_216;
 
 /// An open stream: the segments of its last blocks, the octets of the segment that fills, and the code of its blocks.
 ///
@@ -195,7 +186,7 @@ impl StreamBuf {
             (λ fault. (result ≡ Err fault) × (self.new ≡ self.old)) }
     {
         let b = u64::from(self.b);
-        if used > MOST_BLOCKS * b {
+        if used > u64::from(MOST_BLOCKS) * b {
             return Err(StreamFault::Spent {
                 octets: self.octets,
             });
@@ -214,7 +205,7 @@ impl StreamBuf {
         ensures { used ≤ 16777216 * self.now.cut.b → result ≡ div_ceil used self.now.cut.b - self.now.blocks }
     {
         let b = u64::from(self.b);
-        if used > MOST_BLOCKS * b {
+        if used > u64::from(MOST_BLOCKS) * b {
             return 0;
         }
         used.div_ceil(b).saturating_sub(u64::from(self.blocks)) as u32
@@ -355,7 +346,7 @@ impl StreamBuf {
         let b = usize::from(self.b);
         let size = usize::from(self.e) + PLACE;
         let sources = self.rows.run(block as usize * b, b);
-        let mut room = [0; MOST_CODED];
+        let mut room = [0; SYMBOL_ROOM];
         let parity = &mut room[..size];
         self.code.parity(sources, size, symbol, parity);
         out.push(parity);

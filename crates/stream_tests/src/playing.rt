@@ -8,7 +8,7 @@ use norm_base::{Given, Key, Kind, Memory, Octets, Profile};
 use norm_ext::Fti;
 use norm_order::Up;
 use norm_receive_rules::{Fit, Missing, Put};
-use rx_entries::Hold;
+use rx_hold::Hold;
 use std::alloc::Global;
 use std::process::Abort;
 

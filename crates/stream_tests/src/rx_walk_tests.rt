@@ -5,7 +5,7 @@ use crate::playing::{Sizes, fit, flags, is_over, profile_of};
 use fec_plan::{MOST_BLOCKS, PayloadId};
 use norm_base::Memory;
 use norm_receive_rules::{Fit, Put};
-use rx_entries::Hold;
+use rx_hold::Hold;
 use std::process::Abort;
 use std::test::Fail;
 

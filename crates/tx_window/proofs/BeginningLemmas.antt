@@ -10,12 +10,12 @@ use Rattle.norm_base.specs.Settings.{Settings}
 use Rattle.norm_base.specs.declared.kinds.Kind.{Kind}
 use Rattle.fec_plan.specs.Partition.{Cut, IsSound, cut_of, all_symbols}
 use Rattle.norm_send_rules.specs.Enqueuing.{info_length}
-use Rattle.held_object.specs.Held.{HeldObject, octets_of, begun_at}
-use Rattle.held_object.specs.Round.{IsAround}
+use Rattle.tx_object.specs.Held.{HeldObject, octets_of, begun_at}
+use Rattle.tx_object.specs.Round.{IsAround}
 use Rattle.tx_window.specs.Rows.{IsFilling, IsRow, LieInRow, all_octets}
-use Rattle.held_object.specs.Placed.{IsPlaced, taken_by}
+use Rattle.tx_object.specs.Placed.{IsPlaced, taken_by}
 use Rattle.tx_window.proofs.ListLemmas.{slice_get-drop}
-use Rattle.held_object.proofs.SourcesLemmas.{get_front, get_back}
+use Rattle.tx_object.proofs.SourcesLemmas.{get_front, get_back}
 use Rattle.tx_window.proofs.RowLemmas.{IsCutBy, AreCutBy, RowFrom, all_taken, taken_append, taken_cons, octets_append, octets_cons, all_fit, row_more, row_last, row_dropped, symbols_taken}
 
 pub placed_cut : (ring : List ℕ) (p : Settings) (h : HeldObject) → IsPlaced ring p h → IsCutBy p h

@@ -4,10 +4,10 @@ use Rattle.std.specs.Prelude.{slice_get, replicate}
 use Rattle.std.proofs.lemmas.List.{length-replicate}
 use Rattle.norm_base.specs.Settings.{Settings}
 use Rattle.fec_plan.specs.Partition.{Cut}
-use Rattle.held_object.specs.Held.{HeldObject, octets_of, octets_in}
-use Rattle.held_object.specs.Placed.{taken_by}
-use Rattle.held_object.specs.Round.{round, IsAround, IsClear}
-use Rattle.held_object.proofs.RoundLemmas.{length-round}
+use Rattle.tx_object.specs.Held.{HeldObject, octets_of, octets_in}
+use Rattle.tx_object.specs.Placed.{taken_by}
+use Rattle.tx_object.specs.Round.{round, IsAround, IsClear}
+use Rattle.tx_object.proofs.RoundLemmas.{length-round}
 use Rattle.tx_window.specs.Rows.{IsFilling, IsRow}
 use Rattle.tx_window.specs.Ending.{IsEnded}
 use Rattle.tx_window.proofs.RowLemmas.{AreCutBy, all_fit, symbols_taken, taken_append, taken_cons, row_clear}

@@ -16,7 +16,7 @@ use Rattle.norm_send_rules.specs.declared.fault.EnqueueFault.{EnqueueFault}
 use Rattle.norm_send_rules.specs.declared.fault.EnqueueFault.TheVariants.{Empty, TooBig, InfoTooBig, StreamOpen, IdsSpent, WindowFull}
 use Rattle.norm_send_rules.specs.declared.job.Receipt.{Receipt}
 use Rattle.norm_send_rules.specs.declared.job.Receipt.TheVariants.{Object as EnqueuedObject}
-use Rattle.held_entry.specs.declared.entry.HeldEntry.{HeldEntry}
+use Rattle.tx_window.specs.declared.entry.HeldEntry.{HeldEntry}
 use Rattle.tx_window.specs.Taking.{size_fault}
 use Rattle.tx_window.specs.WindowState.{WindowState, Stands, open_of}
 use Rattle.tx_window.specs.Asked.{joining_fault}

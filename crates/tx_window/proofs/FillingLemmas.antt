@@ -7,11 +7,11 @@ use Rattle.std.proofs.lemmas.List.{get_or-append_right, ext_get_or, length-repli
 use Rattle.norm_base.specs.Settings.{Settings}
 use Rattle.fec_plan.specs.Partition.{Cut, cut_of, all_symbols, symbols_in}
 use Rattle.obj_buffer.specs.Pieces.{HoldsObject}
-use Rattle.held_object.specs.Held.{HeldObject, octets_of, octets_in, LiesIn}
-use Rattle.held_object.specs.Round.{round, IsAround, IsClear}
+use Rattle.tx_object.specs.Held.{HeldObject, octets_of, octets_in, LiesIn}
+use Rattle.tx_object.specs.Round.{round, IsAround, IsClear}
 use Rattle.tx_window.specs.Rows.{IsFilling, IsRow, LieInRow}
-use Rattle.held_object.specs.Placed.{IsPlaced, taken_by}
-use Rattle.held_object.proofs.RoundLemmas.{first_lap, second_lap, length-round}
+use Rattle.tx_object.specs.Placed.{IsPlaced, taken_by}
+use Rattle.tx_object.proofs.RoundLemmas.{first_lap, second_lap, length-round}
 use Rattle.tx_window.proofs.RowLemmas.{AreCutBy, all_fit, taken_append, taken_cons, clear_behind, row_clear}
 
 pub round_joined : (ring : List ℕ) (start k n at : ℕ) → start < length ring → k + n ≤ length ring → IsAround (length ring) (start + k) at

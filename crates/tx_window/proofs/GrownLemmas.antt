@@ -12,8 +12,8 @@ use Rattle.norm_send_rules.specs.SenderState.{SenderState}
 use Rattle.norm_send_rules.specs.InWindow.{last_index}
 use Rattle.norm_send_rules.specs.Dropping.{dropped_to}
 use Rattle.norm_send_rules.specs.Streaming.{with_last, with_parts}
-use Rattle.held_entry.specs.EntryState.{first_of, StandsFor as StandsForEntry}
-use Rattle.held_entry.specs.declared.entry.HeldEntry.{HeldEntry}
+use Rattle.tx_window.specs.EntryState.{first_of, StandsFor as StandsForEntry}
+use Rattle.tx_window.specs.declared.entry.HeldEntry.{HeldEntry}
 use Rattle.tx_window.specs.WindowState.{reads, without_info, most_kept, WindowState, Stands, first_block, drop_of, entry_reads}
 use Rattle.tx_window.proofs.ListLemmas.{slice_get-drop, set_get}
 use Rattle.tx_window.specs.Streams.{followed, given_up, last_or}

@@ -10,15 +10,15 @@ use Rattle.fec_plan.specs.declared.position.Position.{Position}
 use Rattle.fec_plan.specs.Partition.{Cut, all_symbols}
 use Rattle.norm_order.specs.Entries.{Object, Entry}
 use Rattle.norm_order.specs.Shapes.{shape_of}
-use Rattle.held_stream.proofs.KnowsLemmas.{closed_of, counted}
-use Rattle.held_entry.specs.Asked.{AnswersKept}
+use Rattle.stream_buffer.proofs.KnowsLemmas.{closed_of, counted}
+use Rattle.tx_window.specs.EntryAsked.{AnswersKept}
 use Rattle.norm_send_rules.specs.SenderState.{SenderState}
 use Rattle.norm_send_rules.specs.InWindow.{next_index}
 use Rattle.norm_send_rules.specs.Room.{window, first_kept}
-use Rattle.held_entry.specs.EntryState.{first_of, StandsFor as StandsForEntry}
-use Rattle.held_entry.specs.Front.{AreEntries}
-use Rattle.held_entry.specs.declared.entry.HeldEntry.{HeldEntry}
-use Rattle.held_entry.specs.declared.entry.HeldEntry.TheVariants as held
+use Rattle.tx_window.specs.EntryState.{first_of, StandsFor as StandsForEntry}
+use Rattle.tx_window.specs.EntryFront.{AreEntries}
+use Rattle.tx_window.specs.declared.entry.HeldEntry.{HeldEntry}
+use Rattle.tx_window.specs.declared.entry.HeldEntry.TheVariants as held
 use Rattle.tx_window.specs.Asked.{AnswersAt, shape_kept, from_first, kept_at}
 use Rattle.tx_window.specs.WindowState.{reads, WindowState, Stands, first_block, entry_reads}
 use Rattle.tx_window.proofs.ListLemmas.{slice_get-drop, found_at, found_behind, none_at, get_some}
@@ -123,7 +123,7 @@ are_entries w s stands = subst (λ n. AreEntries w.ring w.p w.dropped (drop n s.
 })
 
 -- an entry's shape is that of what it stands for
-pub shape_is : (r : Rattle.held_entry.specs.EntryState.EntryReads) (e : HeldEntry) → StandsForEntry r e → shape_of r.p r.object ≡ shape_kept e
+pub shape_is : (r : Rattle.tx_window.specs.EntryState.EntryReads) (e : HeldEntry) → StandsForEntry r e → shape_of r.p r.object ≡ shape_kept e
 shape_is r (held.Object h) is =
     ap (shape_of r.p) is.object
     ∙ ap (λ (c : Cut). record { cut = c; closed = all_symbols c; info = is_some h.info }) (sym is.placed.holds.cut)
@@ -150,11 +150,11 @@ of_kept f s index object is = ap (Rattle.std.specs.Prelude.option_map f) is
 pub none_of : {X : Type 0} (f : Object → X) (s : SenderState) (index : ℕ) → kept_at s index ≡ None → Rattle.std.specs.Prelude.option_map f (kept_at s index) ≡ None
 none_of f s index is = ap (Rattle.std.specs.Prelude.option_map f) is
 
-pub info_some : (s : SenderState) (index : ℕ) (object : Object) → kept_at s index ≡ Some object → Rattle.tx_window.specs.Asked.info_at s index ≡ Rattle.held_object.specs.Held.info_of object
-info_some s index object is = ap (λ (r : Option Object). elim r as (λ v. Option (List ℕ)) [ Some o ↦ Rattle.held_object.specs.Held.info_of o | None ↦ None ]) is
+pub info_some : (s : SenderState) (index : ℕ) (object : Object) → kept_at s index ≡ Some object → Rattle.tx_window.specs.Asked.info_at s index ≡ Rattle.tx_object.specs.Held.info_of object
+info_some s index object is = ap (λ (r : Option Object). elim r as (λ v. Option (List ℕ)) [ Some o ↦ Rattle.tx_object.specs.Held.info_of o | None ↦ None ]) is
 
 pub info_none : (s : SenderState) (index : ℕ) → kept_at s index ≡ None → Rattle.tx_window.specs.Asked.info_at s index ≡ None
-info_none s index is = ap (λ (r : Option Object). elim r as (λ v. Option (List ℕ)) [ Some o ↦ Rattle.held_object.specs.Held.info_of o | None ↦ None ]) is
+info_none s index is = ap (λ (r : Option Object). elim r as (λ v. Option (List ℕ)) [ Some o ↦ Rattle.tx_object.specs.Held.info_of o | None ↦ None ]) is
 
 -- a lent info is no longer than what it is a copy of
 pub short_info : (r info : Option (List ℕ)) (e most : ℕ) → r ≡ info → e ≡ most → Rattle.norm_send_rules.specs.Enqueuing.info_length info ≤ e → MatchOption r Rattle.std.specs.Prelude.⊤ (λ i. length i ≤ most)
@@ -163,8 +163,8 @@ short_info (Some i) info e most is same short = omega (arith, same, short, ap Ra
 
 -- the info of an entry of the window is short
 pub info_short : (ring : List ℕ) (p : Settings) (es : List HeldEntry)
-    → ((n : ℕ) (h : Rattle.held_object.specs.Held.HeldObject) → slice_get es n ≡ Some (held.Object h) → Rattle.held_object.specs.Placed.IsPlaced ring p h)
-    → (n : ℕ) (e : HeldEntry) → slice_get es n ≡ Some e → Rattle.norm_send_rules.specs.Enqueuing.info_length (Rattle.held_entry.specs.Places.held_info e) ≤ p.e
+    → ((n : ℕ) (h : Rattle.tx_object.specs.Held.HeldObject) → slice_get es n ≡ Some (held.Object h) → Rattle.tx_object.specs.Placed.IsPlaced ring p h)
+    → (n : ℕ) (e : HeldEntry) → slice_get es n ≡ Some e → Rattle.norm_send_rules.specs.Enqueuing.info_length (Rattle.tx_window.specs.EntryPlaces.held_info e) ≤ p.e
 info_short ring p es placed n (held.Object h) is = (placed n h is).short
 info_short ring p es placed n (held.Stream stream) is = omega arith
 

@@ -13,11 +13,11 @@ use Rattle.norm_order.specs.Shapes.{Shape, shape_of, encoded_in}
 use Rattle.norm_send_rules.specs.SenderState.{SenderState}
 use Rattle.norm_send_rules.specs.Room.{first_kept}
 use Rattle.norm_send_rules.specs.Watermarks.{all_past, is_past}
-use Rattle.held_object.proofs.MarkedLemmas.{block_there}
-use Rattle.held_entry.specs.Asked.{IsKept, AnswersKept}
-use Rattle.held_entry.specs.EntryState.{EntryReads, first_of, StandsFor as StandsForEntry}
-use Rattle.held_entry.specs.declared.entry.HeldEntry.{HeldEntry}
-use Rattle.held_entry.specs.declared.entry.HeldEntry.TheVariants as held
+use Rattle.tx_object.proofs.MarkedLemmas.{block_there}
+use Rattle.tx_window.specs.EntryAsked.{IsKept, AnswersKept}
+use Rattle.tx_window.specs.EntryState.{EntryReads, first_of, StandsFor as StandsForEntry}
+use Rattle.tx_window.specs.declared.entry.HeldEntry.{HeldEntry}
+use Rattle.tx_window.specs.declared.entry.HeldEntry.TheVariants as held
 use Rattle.tx_window.specs.WindowState.{WindowState, Stands}
 use Rattle.tx_window.specs.Asked.{kept_at, AnswersAt, IsEncodedIn}
 use Rattle.tx_window.specs.Standing.{IsStanding}

@@ -1,3 +1,9 @@
+pub mod EntryObjects
+pub mod EntryStreams
+pub mod EntryOthers
+pub mod EntryGrowth
+pub mod EntryFronts
+pub mod EntryRepairs
 pub mod ListLemmas
 pub mod RowLemmas
 pub mod BeginningLemmas

@@ -3,7 +3,7 @@ use Rattle.std.proofs.Common.{◌≡◌, ℕ, zero, suc, ◌+◌, ◌<◌, ◌�
 use Rattle.std.specs.Prelude.{slice_get, nat_lt, nat_le}
 use Rattle.std.proofs.lemmas.Bool.{lt-ltb, le-ltb, cases_lt}
 use Rattle.tx_window.specs.Asked.{from_first}
-use Rattle.held_object.proofs.HeldLemmas.{taken, refused}
+use Rattle.tx_object.proofs.HeldLemmas.{taken, refused}
 use Rattle.std.proofs.Math.ListN.{set}
 
 pub le-leb : (m n : ℕ) → m ≤ n → nat_le m n ≡ true

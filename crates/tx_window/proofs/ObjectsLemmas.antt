@@ -3,14 +3,14 @@ use Rattle.std.proofs.Common.{◌≡◌, ℕ, zero, suc, ◌+◌, ◌-◌, ◌*�
 use Rattle.std.specs.Prelude.{slice_get}
 use Rattle.norm_base.specs.Settings.{Settings}
 use Rattle.fec_plan.specs.Partition.{Cut, all_symbols}
-use Rattle.held_object.specs.Held.{HeldObject, octets_of}
-use Rattle.held_object.specs.Placed.{IsPlaced, taken_by}
-use Rattle.held_object.specs.Round.{IsAround}
-use Rattle.held_object.proofs.MarkedLemmas.{placed_as}
-use Rattle.held_entry.specs.Places.{Stays, AllStay, held_size}
-use Rattle.held_entry.specs.Asked.{Lies}
-use Rattle.held_entry.specs.declared.entry.HeldEntry.{HeldEntry}
-use Rattle.held_entry.specs.declared.entry.HeldEntry.TheVariants as held
+use Rattle.tx_object.specs.Held.{HeldObject, octets_of}
+use Rattle.tx_object.specs.Placed.{IsPlaced, taken_by}
+use Rattle.tx_object.specs.Round.{IsAround}
+use Rattle.tx_object.proofs.MarkedLemmas.{placed_as}
+use Rattle.tx_window.specs.EntryPlaces.{Stays, AllStay, held_size}
+use Rattle.tx_window.specs.EntryAsked.{Lies}
+use Rattle.tx_window.specs.declared.entry.HeldEntry.{HeldEntry}
+use Rattle.tx_window.specs.declared.entry.HeldEntry.TheVariants as held
 use Rattle.tx_window.specs.Rows.{all_octets, IsRow, LieInRow}
 use Rattle.tx_window.proofs.RowLemmas.{octets_cons, octets_append, AreCutBy, RowFrom, row_dropped, all_fit}
 use Rattle.tx_window.specs.WindowSound.{all_sizes, objects_in}

@@ -18,9 +18,9 @@ use Rattle.norm_send_rules.specs.Repairable.{encoded_of, encoded_from, repairabl
 use Rattle.norm_send_rules.specs.Room.{window}
 use Rattle.norm_send_rules.specs.declared.want.Want.{Want}
 use Rattle.norm_send_rules.specs.declared.want.Want.TheVariants.{Info, Symbol}
-use Rattle.held_entry.specs.EntryState.{first_of}
-use Rattle.held_entry.specs.Repairable.{repairable_from}
-use Rattle.held_entry.specs.declared.entry.HeldEntry.{HeldEntry}
+use Rattle.tx_window.specs.EntryState.{first_of}
+use Rattle.tx_window.specs.EntryRepairable.{repairable_from}
+use Rattle.tx_window.specs.declared.entry.HeldEntry.{HeldEntry}
 use Rattle.tx_window.specs.WindowState.{first_block, OnlyFirstLacks}
 use Rattle.tx_window.proofs.ListLemmas.{drop_one, map_drop}
 

@@ -9,12 +9,12 @@ use Rattle.norm_order.specs.Entries.{Whole, Stream, Entry}
 use Rattle.norm_order.specs.Shapes.{shape_of}
 use Rattle.norm_send_rules.specs.SenderState.{SenderState}
 use Rattle.norm_send_rules.specs.Room.{size_of, has_room, has_to_go, may_go, may_all_go}
-use Rattle.held_entry.specs.Places.{held_size}
-use Rattle.held_entry.specs.EntryState.{EntryReads, StandsFor}
-use Rattle.held_entry.specs.Front.{AreEntries}
-use Rattle.held_entry.specs.declared.entry.HeldEntry.{HeldEntry}
-use Rattle.held_entry.specs.declared.entry.HeldEntry.TheVariants as held
-use Rattle.held_object.specs.Held.{octets_of}
+use Rattle.tx_window.specs.EntryPlaces.{held_size}
+use Rattle.tx_window.specs.EntryState.{EntryReads, StandsFor}
+use Rattle.tx_window.specs.EntryFront.{AreEntries}
+use Rattle.tx_window.specs.declared.entry.HeldEntry.{HeldEntry}
+use Rattle.tx_window.specs.declared.entry.HeldEntry.TheVariants as held
+use Rattle.tx_object.specs.Held.{octets_of}
 use Rattle.tx_window.proofs.ListLemmas.{drop_one, get_some, map_drop, le-leb, lt-leb}
 use Rattle.tx_window.specs.WindowSound.{all_sizes}
 
@@ -103,7 +103,7 @@ sizes_are ring p first (x ∷ xs) s (e ∷ es) are =
     ∙ ap (λ ns. held_size p e ∷ ns) (sizes_are ring p (first + 1) xs s es (record {
       long = let long = are.long in omega (arith, long);
       each = λ n entry k there here.
-          subst (λ i. StandsFor (Rattle.held_entry.specs.EntryState.reads_of ring p i entry.object s) k) (let same : first + suc n ≡ first + 1 + n = omega arith in same) (are.each (suc n) entry k there here);
+          subst (λ i. StandsFor (Rattle.tx_window.specs.EntryState.reads_of ring p i entry.object s) k) (let same : first + suc n ≡ first + 1 + n = omega arith in same) (are.each (suc n) entry k there here);
     }))
 
 -- ---- whether some may go
@@ -131,7 +131,7 @@ some_entries p s index [] e = absurd (cc)
 some_entries p s index (x ∷ xs) e = omega arith
 
 -- where nothing is being filled the octets are those of what is held
-pub octets_held : (ring : List ℕ) (filled : ℕ) (p : Settings) (items : List HeldEntry) (b : Rattle.std.specs.Prelude.Option Rattle.held_object.specs.Held.HeldObject) (octets : ℕ)
+pub octets_held : (ring : List ℕ) (filled : ℕ) (p : Settings) (items : List HeldEntry) (b : Rattle.std.specs.Prelude.Option Rattle.tx_object.specs.Held.HeldObject) (octets : ℕ)
     → octets ≡ all_sizes p items + Rattle.tx_window.specs.Rows.all_octets (Rattle.std.specs.Prelude.option_to_list b)
     → Rattle.std.specs.Prelude.option_map (Rattle.tx_window.specs.Rows.filling_in ring filled) b ≡ Rattle.std.specs.Prelude.None → octets ≡ all_sizes p items
 octets_held ring filled p items None octets is e = omega (arith, is)

@@ -8,10 +8,10 @@ use Rattle.std.proofs.lemmas.Grind.{div_ceil_times}
 use Rattle.std.proofs.Math.Nat.{mul-le-mul_right}
 use Rattle.norm_base.specs.Settings.{Settings}
 use Rattle.fec_plan.specs.Partition.{Cut, cut_of, all_symbols}
-use Rattle.held_object.specs.Held.{HeldObject, octets_of}
-use Rattle.held_object.specs.Round.{IsAround, IsClear}
+use Rattle.tx_object.specs.Held.{HeldObject, octets_of}
+use Rattle.tx_object.specs.Round.{IsAround, IsClear}
 use Rattle.tx_window.specs.Rows.{all_octets, LieInRow, IsRow}
-use Rattle.held_object.specs.Placed.{taken_by}
+use Rattle.tx_object.specs.Placed.{taken_by}
 
 -- the octets of the ring that objects take
 abbrev pub all_taken : List HeldObject → ℕ

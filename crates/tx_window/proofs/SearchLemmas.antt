@@ -21,11 +21,11 @@ use Rattle.norm_send_rules.specs.Sending.{sent_once, new_of, new_from, next_new}
 use Rattle.norm_send_rules.specs.Laws.{next_at}
 use Rattle.norm_send_rules.specs.declared.want.Want.{Want}
 use Rattle.norm_send_rules.specs.declared.want.Want.TheVariants.{Info, Symbol}
-use Rattle.held_object.specs.Held.{HeldObject}
-use Rattle.held_entry.specs.Asked.{IsNext}
-use Rattle.held_entry.specs.EntryState.{EntryReads, StandsFor, IsObject}
-use Rattle.held_entry.specs.declared.entry.HeldEntry.{HeldEntry}
-use Rattle.held_entry.specs.declared.entry.HeldEntry.TheVariants as held
+use Rattle.tx_object.specs.Held.{HeldObject}
+use Rattle.tx_window.specs.EntryAsked.{IsNext}
+use Rattle.tx_window.specs.EntryState.{EntryReads, StandsFor, IsObject}
+use Rattle.tx_window.specs.declared.entry.HeldEntry.{HeldEntry}
+use Rattle.tx_window.specs.declared.entry.HeldEntry.TheVariants as held
 use Rattle.tx_window.specs.Next.{is_next}
 use Rattle.tx_window.proofs.NextLemmas.{Splits, itself_next, block_next, object_over, none_left}
 use Rattle.tx_window.specs.Asked.{later_of}
@@ -217,10 +217,10 @@ some_sent p s block closed fit = go (is_full s block)
 
 some_object : (r : EntryReads) (h : HeldObject) → IsObject r h → HasSome r.p (shape_of r.p r.object)
 some_object r h is = subst (λ (o : Object). HasSome r.p (shape_of r.p o)) (sym is.object) (λ block lt.
-    let l = length (Rattle.std.specs.Prelude.take (Rattle.held_object.specs.Held.octets_of h.cut) (Rattle.held_object.specs.Held.octets_in r.ring h)) in
+    let l = length (Rattle.std.specs.Prelude.take (Rattle.tx_object.specs.Held.octets_of h.cut) (Rattle.tx_object.specs.Held.octets_in r.ring h)) in
     let sound : IsSound (Rattle.fec_plan.specs.Partition.cut_of l r.p.e r.p.b r.p.max_n) = subst IsSound is.placed.holds.cut is.placed.sound in
     let closed = Rattle.tx_window.proofs.SourceLemmas.closed_here r.p l block sound lt in
-    some_sent r.p (shape_of r.p (Rattle.held_object.specs.Placed.object_in r.ring h)) block
+    some_sent r.p (shape_of r.p (Rattle.tx_object.specs.Placed.object_in r.ring h)) block
     (omega (arith, closed, some_sources (Rattle.fec_plan.specs.Partition.cut_of l r.p.e r.p.b r.p.max_n) block sound))
     (sources_fit (Rattle.fec_plan.specs.Partition.cut_of l r.p.e r.p.b r.p.max_n) block sound))
 
@@ -269,7 +269,7 @@ pub same_next : (p : Settings) (s : SenderState) (index : ℕ) → s.next ≡ In
 same_next p s index is =
     ap (λ (v : Want). find (λ w. not (want_before w v) && stands_behind s.current.drop w) (new_from p (want_index v) (Rattle.norm_order.specs.Shapes.shapes_of p (drop (want_index v) s.current.order)))) (sym is)
 
-pub info_is : (e : HeldEntry) → (Rattle.tx_window.specs.Asked.shape_kept e).info ≡ Rattle.std.specs.Prelude.is_some (Rattle.held_entry.specs.Places.held_info e)
+pub info_is : (e : HeldEntry) → (Rattle.tx_window.specs.Asked.shape_kept e).info ≡ Rattle.std.specs.Prelude.is_some (Rattle.tx_window.specs.EntryPlaces.held_info e)
 info_is (held.Object h) = refl
 info_is (held.Stream stream) = refl
 

@@ -7,7 +7,7 @@ use Rattle.norm_order.specs.Shapes.{closed_in}
 use Rattle.fec_plan.proofs.PartitionLemmas.{sources_within}
 use Rattle.norm_base.specs.Settings.{Settings}
 use Rattle.tx_window.specs.WindowState.{shape_of_length}
-use Rattle.held_object.proofs.HeldLemmas.{all_before}
+use Rattle.tx_object.proofs.HeldLemmas.{all_before}
 
 pub closed_here : (p : Settings) (l block : ℕ) → IsSound (cut_of l p.e p.b p.max_n) → block < blocks (cut_of l p.e p.b p.max_n)
     → closed_in (shape_of_length p l) block ≡ source_symbols (cut_of l p.e p.b p.max_n) block

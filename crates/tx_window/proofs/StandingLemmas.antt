@@ -22,13 +22,13 @@ use Rattle.norm_send_rules.specs.Restarting.{begun_anew}
 use Rattle.norm_send_rules.specs.Sending.{noted}
 use Rattle.norm_send_rules.specs.Watermarks.{is_past, members}
 use Rattle.norm_send_rules.specs.declared.want.Want.TheVariants.{Info, Symbol}
-use Rattle.held_object.specs.Held.{HeldObject, octets_in, octets_of}
-use Rattle.held_object.specs.Placed.{IsPlaced, object_in}
-use Rattle.held_object.proofs.SourcesLemmas.{get_front, get_back}
-use Rattle.held_entry.specs.EntryState.{EntryReads, first_of, StandsFor as StandsForEntry}
-use Rattle.held_entry.specs.declared.entry.HeldEntry.{HeldEntry}
-use Rattle.held_entry.specs.declared.entry.HeldEntry.TheVariants as held
-use Rattle.held_entry.proofs.OtherLemmas.{others_stay}
+use Rattle.tx_object.specs.Held.{HeldObject, octets_in, octets_of}
+use Rattle.tx_object.specs.Placed.{IsPlaced, object_in}
+use Rattle.tx_object.proofs.SourcesLemmas.{get_front, get_back}
+use Rattle.tx_window.specs.EntryState.{EntryReads, first_of, StandsFor as StandsForEntry}
+use Rattle.tx_window.specs.declared.entry.HeldEntry.{HeldEntry}
+use Rattle.tx_window.specs.declared.entry.HeldEntry.TheVariants as held
+use Rattle.tx_window.proofs.EntryOthers.{others_stay}
 use Rattle.tx_window.specs.WindowState.{Filling, reads, without_info, most_kept, WindowState, Stands, StandsFor, first_block, open_of, entry_reads}
 use Rattle.tx_window.proofs.ListLemmas.{slice_get-drop, map_drop, set_get}
 use Rattle.norm_order.proofs.SetLemmas.{others_in, positions, numbers}
@@ -388,7 +388,7 @@ false_where true never = absurd (never refl)
 false_where false never = refl
 
 pub new_object : (w : WindowState) (s : SenderState) (h : HeldObject) (object : Object) → Stands w s → IsPlaced w.ring w.p h → object ≡ object_in w.ring h
-    → h ≡ Rattle.held_object.specs.Held.begun_at h.cut h.kind h.info h.start → StandsForEntry (entry_reads w (reads s) (next_index s) object) (held.Object h)
+    → h ≡ Rattle.tx_object.specs.Held.begun_at h.cut h.kind h.info h.start → StandsForEntry (entry_reads w (reads s) (next_index s) object) (held.Object h)
 new_object w s h object stands placed is fresh = record {
   placed = placed;
   object = is;
@@ -396,7 +396,7 @@ new_object w s h object stands placed is fresh = record {
       ap (λ (k : HeldObject). k.sent) fresh
       ∙ ap (λ n. Rattle.std.specs.Prelude.replicate n false)
       (ap (λ (c : Rattle.fec_plan.specs.Partition.Cut). Rattle.fec_plan.specs.Partition.all_symbols c) placed.holds.cut
-      ∙ sym (Rattle.held_object.proofs.SourcesLemmas.sources_long (next_index s) l w.p.e w.p.b w.p.max_n (Rattle.std.specs.Prelude.is_some h.info) sound))
+      ∙ sym (Rattle.tx_object.proofs.SourcesLemmas.sources_long (next_index s) l w.p.e w.p.b w.p.max_n (Rattle.std.specs.Prelude.is_some h.info) sound))
       ∙ sym (all_false (λ at. is_member position_before at s.sent) (Rattle.norm_order.specs.Shapes.sources_in (next_index s) (shape_of w.p (object_in w.ring h))) none_sent)
       ∙ ap (λ (o : Object). map (λ at. is_member position_before at s.sent) (Rattle.norm_order.specs.Shapes.sources_in (next_index s) (shape_of w.p o))) (sym is);
   info = ap (λ (k : HeldObject). k.info_sent) fresh ∙ sym (false_where (is_member nat_lt (next_index s) s.sent_infos) (λ there. omega (arith, stands.infos_before (next_index s) there)));
@@ -410,7 +410,7 @@ new_object w s h object stands placed is fresh = record {
 
     none_sent : (k : ℕ) (at : Position) → slice_get (Rattle.norm_order.specs.Shapes.sources_in (next_index s) (shape_of w.p (object_in w.ring h))) k ≡ Some at → is_member position_before at s.sent ≡ false
     none_sent k at e =
-        let at-is = Rattle.held_object.proofs.SourcesLemmas.source_at (next_index s) l w.p.e w.p.b w.p.max_n (Rattle.std.specs.Prelude.is_some h.info) k at sound e in
+        let at-is = Rattle.tx_object.proofs.SourcesLemmas.source_at (next_index s) l w.p.e w.p.b w.p.max_n (Rattle.std.specs.Prelude.is_some h.info) k at sound e in
         false_where (is_member position_before at s.sent) (λ there. omega (arith, stands.sent_before at there, at-is.0.0))
 
 -- what is being filled is given up

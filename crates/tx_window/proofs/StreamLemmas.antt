@@ -24,17 +24,17 @@ use Rattle.norm_send_rules.specs.declared.fault.StreamFault.{StreamFault}
 use Rattle.norm_send_rules.specs.declared.fault.StreamFault.TheVariants.{Spent, Full}
 use Rattle.norm_send_rules.specs.declared.job.Receipt.{Receipt}
 use Rattle.norm_send_rules.specs.declared.job.Receipt.TheVariants.{Wrote, Closed}
-use Rattle.held_stream.specs.Growing.{growing_fault}
-use Rattle.held_stream.proofs.LawLemmas.{as_ruled}
-use Rattle.held_stream.proofs.GoingLemmas.{none_last}
-use Rattle.held_entry.specs.EntryState.{EntryReads, first_of, StandsFor as StandsForEntry, reads_of}
-use Rattle.held_entry.specs.Growing.{EntryGoesOn, KeepsObject}
-use Rattle.held_entry.specs.Front.{LastGoesOn, LastIsCut}
+use Rattle.stream_buffer.specs.Growing.{growing_fault}
+use Rattle.stream_buffer.proofs.LawLemmas.{as_ruled}
+use Rattle.stream_buffer.proofs.GoingLemmas.{none_last}
+use Rattle.tx_window.specs.EntryState.{EntryReads, first_of, StandsFor as StandsForEntry, reads_of}
+use Rattle.tx_window.specs.EntryGrowing.{EntryGoesOn, KeepsObject}
+use Rattle.tx_window.specs.EntryFront.{LastGoesOn, LastIsCut}
 use Rattle.std.proofs.Math.Nat.{zero-div}
 use Rattle.norm_order.specs.Sets.{is_member}
-use Rattle.held_stream.specs.HeldState.{HeldState, Knows}
-use Rattle.held_entry.specs.declared.entry.HeldEntry.{HeldEntry}
-use Rattle.held_entry.specs.declared.entry.HeldEntry.TheVariants as held
+use Rattle.stream_buffer.specs.HeldState.{HeldState, Knows}
+use Rattle.tx_window.specs.declared.entry.HeldEntry.{HeldEntry}
+use Rattle.tx_window.specs.declared.entry.HeldEntry.TheVariants as held
 use Rattle.tx_window.specs.WindowState.{without_info, reads, WindowState, Stands, first_block, drop_of, entry_reads}
 use Rattle.tx_window.specs.Extents.{shape_of_extent}
 use Rattle.tx_window.specs.declared.extent.Extent.TheVariants as extent

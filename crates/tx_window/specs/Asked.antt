@@ -13,14 +13,14 @@ use Rattle.norm_send_rules.specs.Enqueuing.{open_stream, ids_spent}
 use Rattle.norm_send_rules.specs.declared.fault.EnqueueFault.{EnqueueFault}
 use Rattle.norm_send_rules.specs.declared.fault.EnqueueFault.TheVariants.{StreamOpen, IdsSpent, WindowFull}
 use Rattle.stream_buffer.specs.StreamState.{closed_segments}
-use Rattle.held_entry.specs.Asked.{AnswersKept, IsKept}
-use Rattle.held_entry.specs.declared.entry.HeldEntry.{HeldEntry}
-use Rattle.held_entry.specs.declared.entry.HeldEntry.TheVariants as held
+use Rattle.tx_window.specs.EntryAsked.{AnswersKept, IsKept}
+use Rattle.tx_window.specs.declared.entry.HeldEntry.{HeldEntry}
+use Rattle.tx_window.specs.declared.entry.HeldEntry.TheVariants as held
 use Rattle.tx_window.specs.WindowState.{WindowState, IsInWindow}
 use Rattle.norm_order.specs.Entries.{Object}
 use Rattle.norm_send_rules.specs.Messages.{fti_of_object, object_flags}
 use Rattle.norm_send_rules.specs.declared.want.Want.TheVariants.{Info}
-use Rattle.held_object.specs.Held.{info_of}
+use Rattle.tx_object.specs.Held.{info_of}
 use Rattle.tx_window.specs.declared.window.About.{About}
 
 -- of a list that begins behind the first n, the one with an index among all

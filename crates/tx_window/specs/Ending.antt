@@ -1,8 +1,8 @@
 -- The end of an object that was filled.
 use Rattle.std.specs.Prelude.{ℕ, ◌≡◌, ◌-◌, List, ◌++◌, length, replicate}
-use Rattle.held_object.specs.Held.{HeldObject, octets_in}
-use Rattle.held_object.specs.Placed.{taken_by}
-use Rattle.held_object.specs.Round.{round, IsClear}
+use Rattle.tx_object.specs.Held.{HeldObject, octets_in}
+use Rattle.tx_object.specs.Placed.{taken_by}
+use Rattle.tx_object.specs.Round.{round, IsClear}
 
 -- Zeros are behind so many octets of an object, up to the end of its last symbol, and what lies clear of the object in the ring is as it
 -- was.

@@ -1,3 +1,10 @@
+pub mod EntryState
+pub mod EntryAsked
+pub mod EntryPlaces
+pub mod EntryLaws
+pub mod EntryGrowing
+pub mod EntryFront
+pub mod EntryRepairable
 pub mod Rows
 pub mod Extents
 pub mod WindowState

@@ -3,8 +3,8 @@ use Rattle.std.specs.Prelude.{ℕ, ◌≡◌, ◌+◌, ◌-◌, ◌<◌, ◌≤�
 use Rattle.norm_base.specs.Settings.{Settings}
 use Rattle.norm_order.specs.Entries.{Entry}
 use Rattle.norm_send_rules.specs.Room.{size_of, has_to_go}
-use Rattle.held_entry.specs.Places.{held_size}
-use Rattle.held_entry.specs.declared.entry.HeldEntry.{HeldEntry}
+use Rattle.tx_window.specs.EntryPlaces.{held_size}
+use Rattle.tx_window.specs.declared.entry.HeldEntry.{HeldEntry}
 use Rattle.tx_window.specs.WindowSound.{all_sizes}
 
 -- For an entry of `len` octets so many went from the front, as many as have to, and the others take so many octets.

@@ -3,9 +3,9 @@ use Rattle.std.specs.Prelude.{ℕ, ◌≡◌, ◌+◌, ◌%◌, ◌<◌, ◌≤�
 use Rattle.norm_base.specs.Settings.{Settings}
 use Rattle.fec_plan.specs.Partition.{IsSound, cut_of}
 use Rattle.norm_send_rules.specs.Enqueuing.{info_length}
-use Rattle.held_object.specs.Round.{round, IsAround}
-use Rattle.held_object.specs.Held.{HeldObject, octets_of, begun_at, LiesIn}
-use Rattle.held_object.specs.Placed.{taken_by}
+use Rattle.tx_object.specs.Round.{round, IsAround}
+use Rattle.tx_object.specs.Held.{HeldObject, octets_of, begun_at, LiesIn}
+use Rattle.tx_object.specs.Placed.{taken_by}
 use Rattle.tx_window.specs.WindowState.{Filling}
 
 -- how many octets objects have

@@ -12,8 +12,8 @@ use Rattle.norm_send_rules.specs.Streaming.{wrote, closed}
 use Rattle.norm_send_rules.specs.declared.fault.EnqueueFault.{EnqueueFault}
 use Rattle.norm_send_rules.specs.declared.fault.EnqueueFault.TheVariants.{Empty, TooBig}
 use Rattle.norm_send_rules.specs.declared.job.Receipt.TheVariants.{Wrote, Closed}
-use Rattle.held_entry.specs.EntryState.{first_of}
-use Rattle.held_entry.specs.declared.entry.HeldEntry.{HeldEntry}
+use Rattle.tx_window.specs.EntryState.{first_of}
+use Rattle.tx_window.specs.declared.entry.HeldEntry.{HeldEntry}
 use Rattle.tx_window.specs.WindowState.{without_info, WindowState, Stands}
 
 -- Octets were written at this index and offset, or refused as the rules say; and the window stands for the state after it.

@@ -2,11 +2,11 @@
 use Rattle.std.specs.Prelude.{ℕ, Bool, true, false, ◌≡◌, ◌+◌, ◌*◌, ◌/◌, ◌<◌, ◌≤◌, List, [], ◌∷◌, ◌++◌, length, map, sum, Some, slice_get, option_map, option_to_list}
 use Rattle.std.specs.VecDeque.{deque_capacity}
 use Rattle.norm_base.specs.Settings.{Settings}
-use Rattle.held_object.specs.Held.{HeldObject}
-use Rattle.held_object.specs.Placed.{IsPlaced}
-use Rattle.held_entry.specs.Places.{held_size}
-use Rattle.held_entry.specs.declared.entry.HeldEntry.{HeldEntry}
-use Rattle.held_entry.specs.declared.entry.HeldEntry.TheVariants as held
+use Rattle.tx_object.specs.Held.{HeldObject}
+use Rattle.tx_object.specs.Placed.{IsPlaced}
+use Rattle.tx_window.specs.EntryPlaces.{held_size}
+use Rattle.tx_window.specs.declared.entry.HeldEntry.{HeldEntry}
+use Rattle.tx_window.specs.declared.entry.HeldEntry.TheVariants as held
 use Rattle.tx_window.specs.Rows.{all_octets, filling_in, IsFilling, IsRow}
 use Rattle.tx_window.specs.Extents.{shape_of_extent, IsSized}
 use Rattle.tx_window.specs.WindowState.{WindowState}

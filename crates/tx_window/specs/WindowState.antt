@@ -8,8 +8,8 @@ use Rattle.norm_order.specs.Sets.{is_member}
 use Rattle.norm_order.specs.Shapes.{Shape, shapes_of, last_source}
 use Rattle.norm_send_rules.specs.SenderState.{SenderState}
 use Rattle.norm_send_rules.specs.Enqueuing.{open_parts}
-use Rattle.held_entry.specs.EntryState.{EntryReads, first_of, StandsFor as StandsForEntry}
-use Rattle.held_entry.specs.declared.entry.HeldEntry.{HeldEntry}
+use Rattle.tx_window.specs.EntryState.{EntryReads, first_of, StandsFor as StandsForEntry}
+use Rattle.tx_window.specs.declared.entry.HeldEntry.{HeldEntry}
 use Rattle.fec_plan.specs.Partition.{cut_of, all_symbols}
 use Rattle.norm_base.specs.declared.kinds.Kind.{Kind}
 use Rattle.norm_send_rules.specs.Watermarks.{all_past}

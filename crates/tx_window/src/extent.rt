@@ -8,9 +8,9 @@ ghost use Rattle.tx_window.specs.Asked.{from_first};
 ghost use Rattle.tx_window.specs.Extents.{shape_of_extent, IsSized};
 ghost use Rattle.tx_window.specs.declared.extent.Extent.TheVariants.{Object as OfObject, Stream as OfStream};
 
-use held_object::plan_of;
 use norm_base::Profile;
 use std::collections::VecDeque;
+use tx_object::plan_of;
 
 /// The extents of so many entries are kept, the last ones: an id names no entry before them.
 const MOST_KEPT: usize = 32_769;

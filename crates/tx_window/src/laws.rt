@@ -1,5 +1,6 @@
 //! What is promised of the states for which a window stands. Each law is the contract of a function that does nothing.
 
+ghost use Rattle.tx_window.specs.EntryLaws.{OthersStay};
 ghost use Rattle.tx_window.specs.Laws.{MayBeNoted, IsThere, SymbolIsDecided};
 
 /// An encoded symbol of the order whose block was not dropped may be noted as sent.
@@ -19,4 +20,10 @@ pub fn is_there()
 #[tactic(auto, using(crate::proofs::LawLemmas::symbol_is_decided))]
 pub fn symbol_is_decided()
     ensures { SymbolIsDecided }
+{}
+
+/// What an entry stands for stays so if a symbol or an info of another one is sent.
+#[tactic(auto, using(crate::proofs::EntryOthers::others_stay))]
+pub fn others_stay()
+    ensures { OthersStay }
 {}

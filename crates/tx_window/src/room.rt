@@ -14,17 +14,17 @@ ghost use Rattle.norm_send_rules.specs.Room.{window, size_of, has_to_go, may_all
 ghost use Rattle.norm_send_rules.specs.Enqueuing.{object_fault, info_length};
 ghost use Rattle.norm_send_rules.specs.Streaming.{open_fault};
 ghost use Rattle.norm_send_rules.specs.declared.fault.EnqueueFault.TheVariants.{Memory as EnqueueMemory};
-ghost use Rattle.held_entry.specs.Front.{AreEntries};
-ghost use Rattle.held_entry.specs.Places.{held_size};
+ghost use Rattle.tx_window.specs.EntryFront.{AreEntries};
+ghost use Rattle.tx_window.specs.EntryPlaces.{held_size};
 ghost use Rattle.tx_window.specs.Making.{IsRoomMade};
 ghost use Rattle.tx_window.specs.Taking.{size_fault};
 ghost use Rattle.tx_window.specs.Asked.{joining_fault};
 ghost use Rattle.tx_window.specs.WindowState.{Stands, first_block, most_kept, OnlyFirstLacks};
 ghost use Rattle.tx_window.specs.WindowSound.{all_sizes, is_stream_held};
 
+use crate::entry::{HeldEntry, may_all_go};
 use crate::extent::{Extent, keep_extent};
 use crate::window::Window;
-use held_entry::{HeldEntry, may_all_go};
 use norm_base::Profile;
 use norm_ext::LAST_INDEX;
 use norm_send_rules::EnqueueFault;

@@ -9,22 +9,22 @@ ghost use Rattle.norm_send_rules.specs.SenderState.{SenderState};
 ghost use Rattle.norm_send_rules.specs.InWindow.{current_shapes, last_index};
 ghost use Rattle.norm_send_rules.specs.Room.{first_kept};
 ghost use Rattle.norm_send_rules.specs.Streaming.{cut};
-ghost use Rattle.held_entry.specs.EntryState.{EntryReads, StandsFor as StandsForEntry};
-ghost use Rattle.held_entry.specs.declared.entry.HeldEntry.{HeldEntry as Kept};
+ghost use Rattle.tx_window.specs.EntryState.{EntryReads, StandsFor as StandsForEntry};
+ghost use Rattle.tx_window.specs.declared.entry.HeldEntry.{HeldEntry as Kept};
 ghost use Rattle.tx_window.specs.WindowState.{Stands, drop_of};
 ghost use Rattle.tx_window.specs.WindowMoves.{WindowMoves};
 ghost use Rattle.tx_window.specs.Taking.{IsOpened, IsUnopened};
 ghost use Rattle.tx_window.specs.Streams.{IsWritten, IsClosed, EndsIn, followed, last_or, write_size_fault};
 
+use crate::entry::{HeldEntry, close_last, cut_last, write_last};
 use crate::extent::Extent;
 use crate::room::{buffer_len, drop_front, hold_range, join, make_room};
 use crate::window::Window;
 use fec_plan::Position;
-use held_entry::{HeldEntry, close_last, cut_last, write_last};
-use held_stream::HeldStream;
 use norm_base::Profile;
 use norm_send_rules::EnqueueFault;
 use std::collections::VecDeque;
+use stream_buffer::HeldStream;
 
 /// Puts this extent in place of the last one, where there is one.
 fn set_last(extents: &mut VecDeque<Extent>, extent: Extent)

@@ -5,9 +5,9 @@ ghost use Rattle.std.specs.VecDeque.{deque_capacity};
 ghost use Rattle.norm_base.specs.declared.node.Origin.{Origin};
 ghost use Rattle.fec_plan.specs.Partition.{all_symbols};
 ghost use Rattle.norm_order.specs.Shapes.{last_in};
-ghost use Rattle.held_object.specs.Held.{octets_of};
-ghost use Rattle.held_object.specs.Placed.{taken_by};
-ghost use Rattle.held_entry.specs.declared.entry.HeldEntry.TheVariants.{Object as OfHeld};
+ghost use Rattle.tx_object.specs.Held.{octets_of};
+ghost use Rattle.tx_object.specs.Placed.{taken_by};
+ghost use Rattle.tx_window.specs.declared.entry.HeldEntry.TheVariants.{Object as OfHeld};
 ghost use Rattle.norm_send_rules.specs.SenderState.{SenderState};
 ghost use Rattle.norm_send_rules.specs.InWindow.{next_index as next_index_of};
 ghost use Rattle.norm_send_rules.specs.Enqueuing.{object_fault, info_length, with_entry};
@@ -18,15 +18,15 @@ ghost use Rattle.tx_window.specs.declared.extent.Extent.TheVariants.{Object as O
 ghost use Rattle.tx_window.specs.Taking.{room_made, filled_entry, with_piece, GivesBack, IsRefusal, IsEnqueued};
 ghost use Rattle.tx_window.specs.WindowMoves.{WindowMoves};
 
+use crate::entry::HeldEntry;
 use crate::extent::Extent;
 use crate::room::{join, make_room};
 use crate::window::Window;
 use fec_plan::Position;
-use held_entry::HeldEntry;
-use held_object::{Held, Ring};
 use norm_base::{Kind, Octets};
 use norm_send_rules::EnqueueFault;
 use std::collections::VecDeque;
+use tx_object::{Held, Ring};
 
 /// How many octets an info has; without one there are none.
 pub fn info_len(info: &Option<Octets>) -> usize

@@ -12,17 +12,16 @@ ghost use Rattle.norm_send_rules.specs.Repairable.{streams, repairable};
 ghost use Rattle.norm_send_rules.specs.Laws.{next_at};
 ghost use Rattle.norm_send_rules.specs.Sending.{next_new};
 ghost use Rattle.norm_send_rules.specs.declared.want.Want.TheVariants.{Symbol};
-ghost use Rattle.held_entry.specs.Asked.{IsNext};
-ghost use Rattle.held_entry.specs.EntryState.{EntryReads, first_of, StandsFor as StandsForEntry};
+ghost use Rattle.tx_window.specs.EntryAsked.{IsNext};
+ghost use Rattle.tx_window.specs.EntryState.{EntryReads, first_of, StandsFor as StandsForEntry};
 ghost use Rattle.tx_window.specs.Asked.{from_first, kept_at, info_at, about_of, AnswersAt, IsOpenAt, later_of};
 ghost use Rattle.tx_window.specs.Next.{HasNext};
 ghost use Rattle.tx_window.specs.WindowState.{Stands, drop_of};
 
+use crate::entry::HeldEntry;
 use crate::extent::{Extent, extent_at, is_closed};
 use crate::room::{count_repairable, count_streams, hold_range};
 use fec_plan::{Plan, Position};
-use held_entry::HeldEntry;
-use held_object::{Held, Ring};
 use norm_base::{Datagram, Memory, Profile};
 use norm_ext::Fti;
 use norm_send_rules::Want;
@@ -30,6 +29,7 @@ use obj_buffer::CodeTable;
 use std::alloc::Global;
 use std::collections::VecDeque;
 use std::marker::Model;
+use tx_object::{Held, Ring};
 
 /// The window of a sender. The octets of its objects lie in one ring, made once; a stream takes its memory as it is opened.
 ///

@@ -4,9 +4,9 @@ use Rattle.fec_plan.specs.Points.{point}
 use Rattle.norm_order.specs.Entries.{Entry}
 use Rattle.norm_order.specs.Shapes.{shape_of, shapes_of}
 use Rattle.norm_send_rules.specs.Repairable.{encoded_from}
-use Rattle.held_object.proofs.ListLemmas.{get_there}
-use Rattle.held_entry.specs.EntryState.{reads_of}
-use Rattle.held_entry.specs.Repairable.{repairable_from}
+use Rattle.tx_object.proofs.ListLemmas.{get_there}
+use Rattle.tx_window.specs.EntryState.{reads_of}
+use Rattle.tx_window.specs.EntryRepairable.{repairable_from}
 use Rattle.tx_window.specs.WindowState.{first_block}
 use Rattle.tx_window.proofs.ListLemmas.{get_some}
 use Rattle.tx_window.proofs.RepairableLemmas.{behind, one_entry, first_at, none_left}

@@ -5,7 +5,7 @@ use Rattle.norm_order.specs.Entries.{Entry}
 use Rattle.norm_order.specs.Shapes.{shapes_of}
 use Rattle.norm_send_rules.specs.SenderState.{SenderState}
 use Rattle.norm_send_rules.specs.Repairable.{encoded_from}
-use Rattle.held_entry.specs.Front.{AreEntries}
+use Rattle.tx_window.specs.EntryFront.{AreEntries}
 use Rattle.tx_window.specs.WindowState.{first_block, OnlyFirstLacks}
 use Rattle.tx_window.proofs.RepairableLemmas.{behind}
 use Rattle.tx_window.proofs.room.count_repairable.Given as goal

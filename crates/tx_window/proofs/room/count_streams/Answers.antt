@@ -3,8 +3,8 @@ use Rattle.std.specs.Prelude.{filter}
 use Rattle.std.proofs.lemmas.List.{drop_all}
 use Rattle.norm_order.specs.Entries.{Entry}
 use Rattle.norm_send_rules.specs.Repairable.{is_stream}
-use Rattle.held_object.proofs.ListLemmas.{get_there}
-use Rattle.held_entry.specs.EntryState.{reads_of}
+use Rattle.tx_object.proofs.ListLemmas.{get_there}
+use Rattle.tx_window.specs.EntryState.{reads_of}
 use Rattle.tx_window.proofs.ListLemmas.{get_some}
 use Rattle.tx_window.proofs.RoomLemmas.{kind_is, streams_from}
 use Rattle.tx_window.proofs.room.count_streams.Goals.{then-is_stream, else-is_stream}

@@ -4,7 +4,7 @@ use Rattle.norm_base.specs.Settings.{Settings}
 use Rattle.norm_order.specs.Entries.{Entry}
 use Rattle.norm_send_rules.specs.SenderState.{SenderState}
 use Rattle.norm_send_rules.specs.Repairable.{is_stream}
-use Rattle.held_entry.specs.Front.{AreEntries}
+use Rattle.tx_window.specs.EntryFront.{AreEntries}
 use Rattle.tx_window.proofs.room.count_streams.Given as goal
 
 abbrev pub invariant-loop-place : goal.invariant-loop-place

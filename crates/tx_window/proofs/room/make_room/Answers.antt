@@ -1,7 +1,7 @@
 use Rattle.std.proofs.Common.{◌≡◌, ap, sym, ◌∙◌, arith, List, length, map, drop}
 use Rattle.std.proofs.lemmas.List.{length-drop}
-use Rattle.held_entry.specs.Places.{held_size}
-use Rattle.held_entry.specs.declared.entry.HeldEntry.{HeldEntry}
+use Rattle.tx_window.specs.EntryPlaces.{held_size}
+use Rattle.tx_window.specs.declared.entry.HeldEntry.{HeldEntry}
 use Rattle.tx_window.specs.WindowSound.{all_sizes}
 use Rattle.tx_window.proofs.room.make_room.Goals as goal
 

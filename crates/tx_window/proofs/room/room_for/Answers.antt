@@ -1,11 +1,11 @@
 use Rattle.std.proofs.Common.{◌≡◌, ◌+◌, ◌<◌, ◌≤◌, ◌⊎◌, inl, inr, ap, ◌∙◌, arith, suc, length, drop, map}
 use Rattle.std.specs.Prelude.{slice_get, Some}
 use Rattle.std.proofs.lemmas.List.{length-drop, length-map, drop_all}
-use Rattle.held_entry.specs.Places.{held_size}
+use Rattle.tx_window.specs.EntryPlaces.{held_size}
 use Rattle.norm_base.specs.Settings.{Settings}
 use Rattle.norm_send_rules.specs.Room.{has_to_go}
 use Rattle.tx_window.specs.WindowSound.{all_sizes}
-use Rattle.held_object.proofs.ListLemmas.{get_there}
+use Rattle.tx_object.proofs.ListLemmas.{get_there}
 use Rattle.tx_window.proofs.RoomLemmas.{stops, nothing, goes_on, sizes_behind, sizes_long, left_behind}
 use Rattle.tx_window.proofs.room.room_for.Goals.{else-few-via-then-few+else-left-len, else-few-via-else-few}
 use Rattle.tx_window.proofs.room.room_for.Goals as goal

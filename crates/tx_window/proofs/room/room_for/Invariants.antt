@@ -2,7 +2,7 @@ use Rattle.std.proofs.Common.{◌≡◌, ◌+◌, ◌≤◌, List, drop, map}
 use Rattle.norm_order.specs.Entries.{Entry}
 use Rattle.norm_send_rules.specs.Room.{has_to_go}
 use Rattle.tx_window.specs.WindowSound.{all_sizes}
-use Rattle.held_entry.specs.Places.{held_size}
+use Rattle.tx_window.specs.EntryPlaces.{held_size}
 use Rattle.tx_window.proofs.RoomLemmas.{AreSizes}
 use Rattle.tx_window.proofs.room.room_for.Given as goal
 

@@ -1,7 +1,7 @@
 use Rattle.std.proofs.Common.{◌≡◌, ◌+◌, ◌-◌, ap, subst, ℕ}
 use Rattle.std.specs.Prelude.{length, replicate}
-use Rattle.held_object.specs.Placed.{taken_by}
-use Rattle.held_object.specs.Round.{round, IsAround, IsClear}
+use Rattle.tx_object.specs.Placed.{taken_by}
+use Rattle.tx_object.specs.Round.{round, IsAround, IsClear}
 use Rattle.tx_window.proofs.EndingLemmas.{ended}
 use Rattle.tx_window.proofs.taking.end_octets.Goals as goal
 

@@ -3,8 +3,8 @@ use Rattle.std.specs.Prelude.{nat_lt}
 use Rattle.std.proofs.lemmas.Bool.{lt-ltb, le-ltb}
 use Rattle.fec_plan.specs.Points.{Position, position}
 use Rattle.norm_order.specs.Shapes.{shape_of}
-use Rattle.held_entry.specs.Asked.{IsNext}
-use Rattle.held_entry.specs.EntryState.{first_of}
+use Rattle.tx_window.specs.EntryAsked.{IsNext}
+use Rattle.tx_window.specs.EntryState.{first_of}
 use Rattle.tx_window.specs.Asked.{later_of}
 use Rattle.tx_window.proofs.KeptLemmas.{chosen, passed_over}
 use Rattle.tx_window.proofs.window.next_of.Goals as goal

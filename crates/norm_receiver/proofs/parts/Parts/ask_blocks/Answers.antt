@@ -5,8 +5,8 @@ use Rattle.norm_receive_rules.specs.HeardNeeds.{is_heard}
 use Rattle.norm_receive_rules.specs.Needs.{counts_from}
 use Rattle.norm_receive_rules.specs.Holding.{Plan}
 use Rattle.norm_receive_rules.specs.Plans.{plan_of, lacking}
-use Rattle.rx_stream.specs.Short.{IsShortFrom}
-use Rattle.rx_entries.specs.Asked.{IsShortIn}
+use Rattle.norm_receive_rules.specs.Short.{IsShortFrom}
+use Rattle.rx_hold.specs.Asked.{IsShortIn}
 use Rattle.norm_receiver.specs.Walking.{Walked, IsAt, walk_lacking}
 use Rattle.norm_receiver.proofs.AskLemmas.{for_some, of_some, counts_begun, counts_left, counts_more, counts_none, counts_over, fewer_left}
 use Rattle.norm_receiver.proofs.NeedLemmas.{cut_same}

@@ -6,7 +6,7 @@ use Rattle.norm_receive_rules.specs.ReceiverState.{ReceiverState}
 use Rattle.norm_receive_rules.specs.HeardNeeds.{is_heard}
 use Rattle.norm_receive_rules.specs.Needs.{counts_from}
 use Rattle.norm_receive_rules.specs.Plans.{plan_of}
-use Rattle.rx_entries.specs.Asked.{IsShortIn}
+use Rattle.rx_hold.specs.Asked.{IsShortIn}
 use Rattle.norm_receiver.specs.Inside.{kept_of}
 use Rattle.norm_receiver.specs.ReceiverKept.{Stands}
 use Rattle.norm_receiver.specs.Walking.{Walked, HasRoom, IsAt}

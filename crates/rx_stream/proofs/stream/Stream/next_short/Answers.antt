@@ -2,7 +2,7 @@ use Rattle.std.proofs.Common.{◌≡◌, ◌+◌, ◌-◌, ◌<◌, ◌≤◌, �
 use Rattle.std.specs.Prelude.{nat_lt, unwrap_or}
 use Rattle.fec_plan.specs.Partition.{Cut, blocks, stream_cut}
 use Rattle.norm_receive_rules.specs.Plans.{cut_of_plan, is_done}
-use Rattle.rx_stream.specs.Short.{IsShortFrom}
+use Rattle.norm_receive_rules.specs.Short.{IsShortFrom}
 use Rattle.rx_stream.specs.StreamState.{StreamState, alone}
 use Rattle.rx_stream.specs.StreamSound.{stream_of}
 use Rattle.rx_stream.proofs.ShortLemmas.{behind_short, found_short, short_is}

@@ -5,9 +5,9 @@ use Rattle.norm_base.specs.Settings.{Settings}
 use Rattle.fec_plan.specs.Points.{Point}
 use Rattle.norm_send_rules.specs.Dropping.{dropped_to}
 use Rattle.norm_send_rules.specs.Room.{window, has_to_go, drop_after}
-use Rattle.held_object.specs.Held.{HeldObject, octets_of}
-use Rattle.held_object.specs.Placed.{IsPlaced}
-use Rattle.held_entry.specs.declared.entry.HeldEntry.{HeldEntry}
+use Rattle.tx_object.specs.Held.{HeldObject, octets_of}
+use Rattle.tx_object.specs.Placed.{IsPlaced}
+use Rattle.tx_window.specs.declared.entry.HeldEntry.{HeldEntry}
 use Rattle.tx_window.specs.WindowState.{Filling, WindowState, Stands}
 use Rattle.tx_window.specs.Rows.{filling_in, IsRow, IsFilling, all_octets}
 use Rattle.tx_window.proofs.RowLemmas.{octets_cons}
@@ -94,7 +94,7 @@ invariant_of-self-2 c =
           (row_begun w.ring p hs (gone_of n es) h w.free c.behind-self-inside.result (omega (arith, e-is, c.taken.ensures.sound.least_e)) old.ring_long row
           (λ i k e. placed_cut w.ring p k (old.placed i k e)) filling.cut (ap (λ (k : HeldObject). k.start) c.in-Ok.ensures)
           (omega (arith, fewer, left, octets, c.in-Some-make_room.ensures.made.fit)) (omega (arith, few, objects_left n es))
-          (subst (λ m. Rattle.held_object.specs.Round.IsAround (length w.ring) (w.free + m) c.behind-self-inside.result) c.taken.ensures.exact c.behind-self-inside.ensures));
+          (subst (λ m. Rattle.tx_object.specs.Round.IsAround (length w.ring) (w.free + m) c.behind-self-inside.result) c.taken.ensures.exact c.behind-self-inside.ensures));
       placed = λ i k e. old.placed (gone_of n es + i) k (sym (slice_get-drop (gone_of n es) hs i) ∙ ap (λ ks. slice_get ks i) (sym objects) ∙ e);
       sized = subst (λ (xs : List Extent). (i : ℕ) (x : Extent) → slice_get xs i ≡ Some x → IsSized x) (sym c.make_room.ensures.extents) old.sized;
       filling = λ k e. subst (IsFilling w.ring p 0) (is k e) filling;

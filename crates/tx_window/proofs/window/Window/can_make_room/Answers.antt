@@ -2,7 +2,7 @@ use Rattle.std.proofs.Common.{◌+◌, ◌<◌, ◌≤◌, ◌⊎◌, inl, inr, 
 use Rattle.std.specs.Bool.{MatchBool}
 use Rattle.std.proofs.lemmas.List.{length-map}
 use Rattle.norm_send_rules.specs.Room.{window, may_all_go, has_to_go}
-use Rattle.held_entry.specs.Places.{held_size}
+use Rattle.tx_window.specs.EntryPlaces.{held_size}
 use Rattle.tx_window.specs.WindowState.{WindowState, Stands}
 use Rattle.tx_window.specs.WindowSound.{window_view, all_sizes}
 use Rattle.tx_window.proofs.KeptLemmas.{are_entries, dropped_is}

@@ -2,8 +2,8 @@ use Rattle.std.proofs.Common.{◌≡◌, ◌+◌, ◌++◌, ap, sym, subst, ◌�
 use Rattle.std.specs.Prelude.{slice_get}
 use Rattle.norm_base.specs.Settings.{Settings}
 use Rattle.norm_send_rules.specs.Restarting.{begun_anew}
-use Rattle.held_object.specs.Held.{HeldObject}
-use Rattle.held_entry.specs.declared.entry.HeldEntry.{HeldEntry}
+use Rattle.tx_object.specs.Held.{HeldObject}
+use Rattle.tx_window.specs.declared.entry.HeldEntry.{HeldEntry}
 use Rattle.tx_window.specs.Rows.{all_octets}
 use Rattle.tx_window.proofs.RowLemmas.{row_empty}
 use Rattle.tx_window.specs.Extents.{shape_of_extent}

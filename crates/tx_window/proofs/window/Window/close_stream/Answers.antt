@@ -3,8 +3,8 @@ use Rattle.std.specs.Prelude.{option_to_list}
 use Rattle.norm_order.specs.Entries.{End, Stream}
 use Rattle.norm_send_rules.specs.InWindow.{last_index}
 use Rattle.norm_send_rules.specs.Room.{window}
-use Rattle.held_entry.specs.EntryState.{reads_of}
-use Rattle.held_entry.specs.declared.entry.HeldEntry.{HeldEntry}
+use Rattle.tx_window.specs.EntryState.{reads_of}
+use Rattle.tx_window.specs.declared.entry.HeldEntry.{HeldEntry}
 use Rattle.tx_window.specs.WindowState.{WindowState, Stands}
 use Rattle.tx_window.specs.WindowSound.{window_view, objects_in}
 use Rattle.tx_window.specs.Streams.{followed, IsClosed}

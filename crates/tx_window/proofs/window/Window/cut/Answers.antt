@@ -1,8 +1,8 @@
 use Rattle.std.proofs.Common.{◌+◌, ◌-◌, ap, sym, subst, ◌∙◌, refl, arith, List, length}
 use Rattle.std.specs.Prelude.{option_to_list}
 use Rattle.norm_send_rules.specs.Streaming.{cut}
-use Rattle.held_entry.specs.EntryState.{reads_of}
-use Rattle.held_entry.specs.declared.entry.HeldEntry.{HeldEntry}
+use Rattle.tx_window.specs.EntryState.{reads_of}
+use Rattle.tx_window.specs.declared.entry.HeldEntry.{HeldEntry}
 use Rattle.tx_window.specs.WindowState.{WindowState, Stands}
 use Rattle.tx_window.specs.WindowSound.{window_view, objects_in}
 use Rattle.tx_window.specs.Asked.{IsOpenAt}

@@ -1,7 +1,7 @@
 use Rattle.std.proofs.Common.{◌≡◌, ◌+◌, ◌-◌, ◌<◌, ap, sym, subst, ◌∙◌, arith, Some, Option, length}
 use Rattle.std.specs.Prelude.{slice_get}
 use Rattle.fec_plan.specs.declared.position.Position.{Position}
-use Rattle.held_object.proofs.ListLemmas.{get_there}
+use Rattle.tx_object.proofs.ListLemmas.{get_there}
 use Rattle.norm_order.specs.Entries.{Stream}
 use Rattle.norm_order.specs.Shapes.{shape_of, last_source, last_in}
 use Rattle.norm_send_rules.specs.SenderState.{SenderState}

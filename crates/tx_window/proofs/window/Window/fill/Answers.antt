@@ -2,10 +2,10 @@ use Rattle.std.proofs.Common.{◌≡◌, ◌+◌, ◌≤◌, ◌++◌, ap, sym, 
 use Rattle.std.specs.Prelude.{slice_get, option_to_list, option_map, MatchOption}
 use Rattle.norm_base.specs.Settings.{Settings}
 use Rattle.fec_plan.specs.Partition.{Cut}
-use Rattle.held_object.specs.Held.{HeldObject, octets_of, octets_in}
-use Rattle.held_object.specs.Placed.{taken_by}
-use Rattle.held_object.specs.Round.{round, IsAround}
-use Rattle.held_object.proofs.RoundLemmas.{length-round}
+use Rattle.tx_object.specs.Held.{HeldObject, octets_of, octets_in}
+use Rattle.tx_object.specs.Placed.{taken_by}
+use Rattle.tx_object.specs.Round.{round, IsAround}
+use Rattle.tx_object.proofs.RoundLemmas.{length-round}
 use Rattle.tx_window.specs.WindowState.{Filling, WindowState, Stands}
 use Rattle.tx_window.specs.Rows.{filling_in, IsRow, IsFilling}
 use Rattle.tx_window.proofs.RowLemmas.{symbols_taken}

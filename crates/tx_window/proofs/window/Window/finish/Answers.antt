@@ -7,11 +7,11 @@ use Rattle.norm_order.specs.Entries.{Whole}
 use Rattle.norm_order.specs.Shapes.{Shape, shape_of, last_in}
 use Rattle.norm_send_rules.specs.Enqueuing.{with_entry}
 use Rattle.norm_send_rules.specs.InWindow.{next_index}
-use Rattle.held_object.specs.Held.{HeldObject, octets_of, octets_in}
-use Rattle.held_object.specs.Placed.{IsPlaced, taken_by, object_in}
-use Rattle.held_object.specs.Round.{round}
-use Rattle.held_entry.specs.declared.entry.HeldEntry.{HeldEntry}
-use Rattle.held_entry.specs.declared.entry.HeldEntry.TheVariants as held
+use Rattle.tx_object.specs.Held.{HeldObject, octets_of, octets_in}
+use Rattle.tx_object.specs.Placed.{IsPlaced, taken_by, object_in}
+use Rattle.tx_object.specs.Round.{round}
+use Rattle.tx_window.specs.declared.entry.HeldEntry.{HeldEntry}
+use Rattle.tx_window.specs.declared.entry.HeldEntry.TheVariants as held
 use Rattle.tx_window.specs.WindowState.{Filling, most_kept, WindowState, Stands}
 use Rattle.tx_window.specs.Taking.{filled_entry}
 use Rattle.tx_window.specs.Rows.{filling_in, IsRow, IsFilling, all_octets}

@@ -1,6 +1,6 @@
 use Rattle.std.proofs.Common.{◌≡◌, ◌<◌, ap, sym, ◌∙◌, arith, length}
 use Rattle.fec_plan.specs.Points.{Point}
-use Rattle.held_object.proofs.ListLemmas.{get_there}
+use Rattle.tx_object.proofs.ListLemmas.{get_there}
 use Rattle.tx_window.specs.WindowState.{WindowState, first_block}
 use Rattle.tx_window.proofs.KeptLemmas.{block_empty, block_first}
 use Rattle.tx_window.proofs.window.Window.first.Goals as goal

@@ -1,5 +1,5 @@
 use Rattle.std.proofs.Common.{◌≡◌, ◌<◌, ◌≤◌, subst, arith, length}
-use Rattle.held_object.proofs.ListLemmas.{get_there}
+use Rattle.tx_object.proofs.ListLemmas.{get_there}
 use Rattle.tx_window.specs.WindowState.{WindowState, first_block}
 use Rattle.tx_window.proofs.KeptLemmas.{block_empty, block_first}
 use Rattle.tx_window.proofs.window.Window.fits.Goals as goal

@@ -4,11 +4,11 @@ use Rattle.std.proofs.lemmas.List.{length-set, append-nil}
 use Rattle.norm_base.specs.Settings.{Settings}
 use Rattle.fec_plan.specs.Points.{Position}
 use Rattle.norm_order.specs.Shapes.{shape_of, last_in}
-use Rattle.held_entry.specs.EntryState.{first_of, StandsFor as StandsForEntry}
-use Rattle.held_object.specs.Held.{HeldObject}
-use Rattle.held_object.proofs.ListLemmas.{get_there}
-use Rattle.held_entry.specs.Places.{held_size}
-use Rattle.held_entry.specs.declared.entry.HeldEntry.{HeldEntry}
+use Rattle.tx_window.specs.EntryState.{first_of, StandsFor as StandsForEntry}
+use Rattle.tx_object.specs.Held.{HeldObject}
+use Rattle.tx_object.proofs.ListLemmas.{get_there}
+use Rattle.tx_window.specs.EntryPlaces.{held_size}
+use Rattle.tx_window.specs.declared.entry.HeldEntry.{HeldEntry}
 use Rattle.tx_window.specs.WindowState.{without_info, WindowState}
 use Rattle.tx_window.specs.Rows.{all_octets, filling_in, IsRow}
 use Rattle.tx_window.proofs.ListLemmas.{slice_get-drop}

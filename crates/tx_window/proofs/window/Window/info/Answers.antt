@@ -2,7 +2,7 @@ use Rattle.std.proofs.Common.{ap, sym, subst, ◌∙◌}
 use Rattle.std.specs.Prelude.{option_copied}
 use Rattle.tx_window.specs.WindowState.{reads, WindowState, Stands, entry_reads}
 use Rattle.tx_window.proofs.ListLemmas.{found_at}
-use Rattle.held_entry.specs.Places.{held_info}
+use Rattle.tx_window.specs.EntryPlaces.{held_info}
 use Rattle.tx_window.specs.WindowSound.{window_view}
 use Rattle.tx_window.proofs.KeptLemmas.{found, not_kept, info_some, info_none, short_info, info_short}
 use Rattle.tx_window.proofs.ObjectsLemmas.{placed_there}

@@ -2,7 +2,7 @@ use Rattle.std.proofs.Common.{◌≡◌, ◌++◌, ap, sym, subst, ◌∙◌, ar
 use Rattle.std.specs.Prelude.{option_to_list, option_map}
 use Rattle.std.proofs.lemmas.List.{append-nil}
 use Rattle.fec_plan.specs.Partition.{Cut}
-use Rattle.held_object.specs.Held.{HeldObject}
+use Rattle.tx_object.specs.Held.{HeldObject}
 use Rattle.tx_window.specs.Rows.{IsRow, IsFilling, all_octets, filling_in}
 use Rattle.tx_window.proofs.RowLemmas.{octets_cons}
 use Rattle.tx_window.proofs.BeginningLemmas.{row_left}

@@ -5,8 +5,8 @@ use Rattle.std.proofs.lemmas.List.{length-replicate}
 use Rattle.norm_base.specs.Settings.{Settings}
 use Rattle.norm_base.specs.ProfileView.{settings_of}
 use Rattle.norm_send_rules.specs.SenderState.{sender_opening}
-use Rattle.held_object.specs.Held.{HeldObject}
-use Rattle.held_entry.specs.declared.entry.HeldEntry.{HeldEntry}
+use Rattle.tx_object.specs.Held.{HeldObject}
+use Rattle.tx_window.specs.declared.entry.HeldEntry.{HeldEntry}
 use Rattle.tx_window.proofs.RowLemmas.{row_empty}
 use Rattle.tx_window.specs.Extents.{shape_of_extent}
 use Rattle.tx_window.specs.WindowState.{WindowState, Stands}

@@ -6,8 +6,8 @@ use Rattle.norm_send_rules.specs.Sending.{next_new}
 use Rattle.norm_send_rules.specs.Laws.{next_at}
 use Rattle.norm_send_rules.specs.Wants.{want_index}
 use Rattle.norm_send_rules.specs.declared.want.Want.TheVariants.{Symbol}
-use Rattle.held_entry.specs.Asked.{IsNext}
-use Rattle.held_entry.specs.EntryState.{first_of}
+use Rattle.tx_window.specs.EntryAsked.{IsNext}
+use Rattle.tx_window.specs.EntryState.{first_of}
 use Rattle.tx_window.specs.WindowState.{reads, WindowState, Stands, entry_reads}
 use Rattle.tx_window.proofs.ListLemmas.{found_at}
 use Rattle.tx_window.specs.WindowSound.{window_view}

@@ -1,8 +1,8 @@
 use Rattle.std.proofs.Common.{◌≡◌, ◌-◌, sym, subst, arith}
 use Rattle.std.specs.Prelude.{Some, slice_get, slice_set, option_to_list}
 use Rattle.std.proofs.lemmas.List.{length-set}
-use Rattle.held_entry.proofs.FrontLemmas.{one_stays}
-use Rattle.held_object.proofs.ListLemmas.{get_there}
+use Rattle.tx_window.proofs.EntryFronts.{one_stays}
+use Rattle.tx_object.proofs.ListLemmas.{get_there}
 use Rattle.tx_window.specs.WindowState.{WindowState, Stands, IsInWindow}
 use Rattle.tx_window.specs.WindowSound.{window_view, objects_in}
 use Rattle.tx_window.proofs.ObjectsLemmas.{alike, sizes_stay, placed_stay, row_stays}

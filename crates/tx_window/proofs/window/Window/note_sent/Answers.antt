@@ -5,8 +5,8 @@ use Rattle.fec_plan.specs.Points.{Position, position}
 use Rattle.norm_order.specs.Shapes.{Shape, encoded_in}
 use Rattle.norm_send_rules.specs.Sending.{noted}
 use Rattle.norm_send_rules.specs.declared.want.Want.TheVariants.{Symbol}
-use Rattle.held_entry.proofs.FrontLemmas.{one_stays}
-use Rattle.held_object.proofs.ListLemmas.{get_there}
+use Rattle.tx_window.proofs.EntryFronts.{one_stays}
+use Rattle.tx_object.proofs.ListLemmas.{get_there}
 use Rattle.tx_window.specs.WindowState.{WindowState, Stands}
 use Rattle.tx_window.specs.WindowSound.{window_view, objects_in}
 use Rattle.tx_window.specs.Asked.{IsEncodedIn}

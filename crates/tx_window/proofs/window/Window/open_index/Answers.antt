@@ -1,6 +1,6 @@
 use Rattle.std.proofs.Common.{◌≡◌, ◌+◌, ◌-◌, ◌<◌, ap, sym, subst, ◌∙◌, arith, Some, length}
 use Rattle.std.specs.Prelude.{slice_get, is_some}
-use Rattle.held_object.proofs.ListLemmas.{get_there}
+use Rattle.tx_object.proofs.ListLemmas.{get_there}
 use Rattle.norm_send_rules.specs.Enqueuing.{open_parts}
 use Rattle.norm_send_rules.specs.InWindow.{last_index}
 use Rattle.tx_window.specs.WindowState.{reads, WindowState, Stands, entry_reads}

@@ -12,10 +12,10 @@ use Rattle.norm_send_rules.specs.InWindow.{next_index}
 use Rattle.norm_send_rules.specs.declared.fault.EnqueueFault.{EnqueueFault}
 use Rattle.norm_send_rules.specs.declared.job.Receipt.{Receipt}
 use Rattle.norm_send_rules.specs.declared.job.Receipt.TheVariants.{Opened}
-use Rattle.held_object.specs.Held.{HeldObject}
-use Rattle.held_object.specs.Placed.{IsPlaced}
-use Rattle.held_entry.specs.declared.entry.HeldEntry.{HeldEntry}
-use Rattle.held_entry.specs.declared.entry.HeldEntry.TheVariants as held
+use Rattle.tx_object.specs.Held.{HeldObject}
+use Rattle.tx_object.specs.Placed.{IsPlaced}
+use Rattle.tx_window.specs.declared.entry.HeldEntry.{HeldEntry}
+use Rattle.tx_window.specs.declared.entry.HeldEntry.TheVariants as held
 use Rattle.tx_window.specs.WindowState.{most_kept, WindowState, Stands}
 use Rattle.tx_window.specs.Rows.{filling_in, IsRow, all_octets}
 use Rattle.tx_window.proofs.ListLemmas.{slice_get-drop}

@@ -1,6 +1,6 @@
 use Rattle.std.proofs.Common.{◌≡◌, ◌+◌, ◌-◌, ◌*◌, ◌<◌, ◌≤◌, ap, sym, subst, ◌∙◌, arith, Some, length}
 use Rattle.std.specs.Prelude.{slice_get, min}
-use Rattle.held_object.proofs.ListLemmas.{get_there}
+use Rattle.tx_object.proofs.ListLemmas.{get_there}
 use Rattle.norm_order.specs.Entries.{Object, Stream}
 use Rattle.norm_order.specs.Shapes.{shape_of}
 use Rattle.norm_send_rules.specs.InWindow.{last_index}

@@ -5,8 +5,8 @@ use Rattle.norm_order.specs.Segments.{written}
 use Rattle.norm_send_rules.specs.InWindow.{last_index}
 use Rattle.norm_send_rules.specs.Room.{window}
 use Rattle.norm_send_rules.specs.Streaming.{parts_now}
-use Rattle.held_entry.specs.EntryState.{reads_of}
-use Rattle.held_entry.specs.declared.entry.HeldEntry.{HeldEntry}
+use Rattle.tx_window.specs.EntryState.{reads_of}
+use Rattle.tx_window.specs.declared.entry.HeldEntry.{HeldEntry}
 use Rattle.tx_window.specs.WindowState.{WindowState, Stands}
 use Rattle.tx_window.specs.WindowSound.{window_view, objects_in}
 use Rattle.tx_window.specs.Streams.{write_size_fault, followed, IsWritten}

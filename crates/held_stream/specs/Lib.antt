@@ -1,5 +1,0 @@
-pub mod HeldState
-pub mod MarksState
-pub mod HeldSound
-pub mod Growing
-pub mod Laws

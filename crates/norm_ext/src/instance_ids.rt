@@ -1,0 +1,24 @@
+//! Instance ids, which go round (RFC 5740 section 4.1): a sender takes one above the other.
+
+ghost use Rattle.std.specs.Prelude.{◌≡◌};
+ghost use Rattle.norm_ext.specs.InstanceIds.{is_above, rise};
+
+use norm_base::{ID_COUNT, InstanceId};
+
+/// How far an id lies above another at most: less than half of all ids. Of ids that are further apart nobody can say which came first.
+pub const MOST_RISE: u32 = 32_767;
+
+/// Returns how far an id lies above another, going round.
+pub fn rise(from: InstanceId, id: InstanceId) -> u32
+    ensures { result ≡ rise from id }
+{
+    (ID_COUNT + u32::from(id.0) - u32::from(from.0)) % ID_COUNT
+}
+
+/// Whether an id lies above another.
+pub fn is_above(from: InstanceId, id: InstanceId) -> bool
+    ensures { result ≡ is_above from id }
+{
+    let rise = rise(from, id);
+    1 <= rise && rise <= MOST_RISE
+}

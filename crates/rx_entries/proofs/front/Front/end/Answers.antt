@@ -1,8 +1,0 @@
-use Rattle.rx_entries.proofs.EndLemmas.{read_end, read_no_end}
-use Rattle.rx_entries.proofs.front.Front.end.Goals as goal
-
-pub returns-in-Some : goal.returns-in-Some
-returns-in-Some c = λ s stands. read_end c.args.self.now s c.args.index c.requires.front stands c.requires.reached c.in-Some.entry.now c.end_in.result c.in-Some.ensures c.end_in.ensures
-
-pub returns-in-None : goal.returns-in-None
-returns-in-None c = λ s stands. read_no_end c.args.self.now s c.args.index c.requires.front stands c.requires.reached c.in-None.ensures

@@ -1,0 +1,351 @@
+//! What a receiver holds of objects that it did not hand up yet.
+
+ghost use Rattle.std.specs.Prelude.{ℕ, ◌≡◌, ◌<◌, ◌≤◌, ◌+◌, [], IfOk, IfNone, IfSome, MatchOption, OnErr, is_some, length, not, option_map, false, ⊤};
+ghost use Rattle.fec_plan.specs.Partition.{blocks};
+ghost use Rattle.fec_plan.specs.Payload.{Name};
+ghost use Rattle.fec_plan.specs.Points.{point as point_at, point_of, point_before, position};
+ghost use Rattle.norm_ext.specs.declared.fti.Fti.{Fti as FtiValue};
+ghost use Rattle.norm_receive_rules.specs.Acknowledging.{lost_nothing};
+ghost use Rattle.norm_receive_rules.specs.Fitting.{fit_of, fitted, with_plan};
+ghost use Rattle.norm_receive_rules.specs.HandingUp.{handed_up};
+ghost use Rattle.norm_receive_rules.specs.Holding.{Holding, holding_nothing};
+ghost use Rattle.norm_receive_rules.specs.Losing.{squelched};
+ghost use Rattle.norm_receive_rules.specs.Plans.{holds, info_of, plan_of};
+ghost use Rattle.norm_receive_rules.specs.Putting.{put_info_of, put_of, with_info, with_symbol};
+ghost use Rattle.norm_receive_rules.specs.Seeing.{sees_block};
+ghost use Rattle.norm_receive_rules.specs.Taking.{up_taken};
+ghost use Rattle.norm_receive_rules.specs.declared.words.Fit.TheVariants as fit_word;
+ghost use Rattle.rx_hold.specs.EntryHold.{StandsFor};
+ghost use Rattle.rx_hold.specs.Told.{IsFirstShort, first_short_at, flags_at, missing_at, plan_at};
+ghost use Rattle.norm_receive_rules.specs.Short.{IsShortFrom};
+ghost use Rattle.rx_hold.specs.Asked.{IsShortIn, end_at, seen_at};
+ghost use Rattle.rx_hold.specs.FrontSound.{IsUnused, flags_in, plan_in};
+ghost use Rattle.rx_hold.specs.Handing.{IsSettled};
+ghost use Rattle.rx_hold.specs.HoldSound.{empty_hold};
+
+use crate::front::Front;
+use crate::place::Place;
+use crate::ring::{PLACES, fill};
+use fec_plan::{PayloadId, Plan, Point, Position};
+use norm_base::{Memory, Profile};
+use norm_ext::Fti;
+use norm_order::Up;
+use norm_receive_rules::{Fit, Missing, Put};
+use rx_object::Room;
+use rx_stream::Scratch;
+use std::alloc::Global;
+use std::collections::VecDeque;
+use std::marker::Model;
+
+/// The octets of a segment's place, which stand before its own.
+const SEGMENT_PLACE: usize = 8;
+
+/// What a receiver holds.
+#[derive(Debug, Drop)]
+pub struct Hold {
+    alloc: Global,
+    front: Front,
+    /// Room to solve the blocks of data and files.
+    room: Room,
+    /// Room to solve those of streams.
+    scratch: Scratch,
+}
+
+impl Model for Hold {
+    ghost use Rattle.rx_hold.specs.EntryHold.{EntryHold};
+
+    ghost Value = { EntryHold };
+
+    ghost use Rattle.rx_hold.specs.Handing.{IsSettled};
+    ghost use Rattle.rx_hold.specs.HoldSound.{hold_view, IsSoundHold};
+
+    ghost view = { hold_view };
+
+    ghost invariant = { IsSoundHold };
+}
+
+impl Hold {
+    /// Nothing is held.
+    ///
+    /// # Errors
+    ///
+    /// `Memory` where memory runs out.
+    pub fn new(alloc: Global, profile: &Profile) -> Result<Hold, Memory>
+        ensures empty { IfOk result (λ hold. hold ≡ empty_hold profile.now) }
+        ensures begun { IfOk result (λ hold. StandsFor hold holding_nothing) }
+        ensures settled { IfOk result (λ hold. IsSettled hold) }
+    {
+        let mut ring = VecDeque::with_capacity(alloc, PLACES)?;
+        fill(&mut ring);
+        let size = usize::from(profile.e);
+        let room = Room::new(alloc, profile.b, size)?;
+        let scratch = Scratch::new(alloc, profile.b, size + SEGMENT_PLACE)?;
+        Ok(Hold {
+            alloc,
+            front: Front {
+                profile: *profile,
+                point: 0,
+                ring,
+                taken: 0,
+                waiting: 0,
+                ups: VecDeque::new(alloc),
+                lost: false,
+            },
+            room,
+            scratch,
+        })
+    }
+
+    /// A hold of this profile of which nothing is held, for an instance that begins: it takes the place of this one once
+    /// nothing can fail any more.
+    ///
+    /// # Errors
+    ///
+    /// `Memory` where memory runs out.
+    pub fn anew(&self) -> Result<Hold, Memory>
+        ensures empty { IfOk result (λ hold. hold ≡ empty_hold self.now.p) }
+        ensures begun { IfOk result (λ hold. StandsFor hold holding_nothing) }
+        ensures settled { IfOk result (λ hold. IsSettled hold) }
+    {
+        Hold::new(self.alloc, &self.front.profile)
+    }
+
+    /// All is forgotten, as the receiver enters another instance. It takes no memory.
+    pub fn clear(&mut self)
+        ensures empty { self.new ≡ empty_hold self.old.p }
+        ensures begun { StandsFor self.new holding_nothing }
+        ensures settled { IsSettled self.new }
+    {
+        self.front.ring.clear();
+        fill(&mut self.front.ring);
+        self.front.ups.clear();
+        self.front.point = 0;
+        self.front.taken = 0;
+        self.front.waiting = 0;
+        self.front.lost = false;
+    }
+
+    /// The next source symbol that is to be handed up.
+    pub fn hand_up(&self) -> Place
+        ensures exact { position result.index result.block result.symbol ≡ self.now.point }
+        ensures state { (s : Holding) → StandsFor self.now s → position result.index result.block result.symbol ≡ s.point }
+    {
+        Place {
+            index: self.front.point,
+            block: self.front.first_block(),
+            symbol: self.front.first_symbol(),
+        }
+    }
+
+    /// How an object is cut. `None` exactly where it has no plan.
+    pub fn plan(&self, index: u32) -> Option<Plan>
+        requires { self.now.point.index ≤ index }
+        ensures exact { result ≡ plan_in self.now index }
+        ensures state { (s : Holding) → StandsFor self.now s → result ≡ plan_at s index }
+    {
+        self.front.plan(index)
+    }
+
+    /// The flags of an object. `None` exactly where it has no plan.
+    pub fn flags(&self, index: u32) -> Option<u8>
+        requires { self.now.point.index ≤ index }
+        ensures exact { result ≡ flags_in self.now index }
+        ensures state { (s : Holding) → StandsFor self.now s → result ≡ flags_at s index }
+    {
+        self.front.flags(index)
+    }
+
+    /// Whether the info of an object is held.
+    pub fn has_info(&self, index: u32) -> bool
+        requires { self.now.point.index ≤ index }
+        ensures { (s : Holding) → StandsFor self.now s → result ≡ is_some (info_of s index) }
+    {
+        self.front.has_info(index)
+    }
+
+    /// Whether a symbol is held.
+    pub fn holds(&self, at: Position) -> bool
+        requires { point_before (point_of at) (point_of self.now.point) ≡ false }
+        ensures { (s : Holding) → StandsFor self.now s → result ≡ holds s at }
+    {
+        self.front.holds(at.index, at.block, at.symbol)
+    }
+
+    /// What is lacking of a block. Where the object has a plan, the block is one of its.
+    pub fn missing(&self, index: u32, block: u32) -> Missing
+        requires reached { point_before (point_at index block) (point_of self.now.point) ≡ false }
+        requires block { MatchOption (plan_in self.now index) ⊤ (λ cut. block < blocks cut) }
+        ensures { (s : Holding) → StandsFor self.now s → result ≡ missing_at s index block }
+    {
+        self.front.missing(index, block)
+    }
+
+    /// The first block of an object that lacks symbols. `None` where it has no plan, or all its blocks are done. Of data and files it takes
+    /// constant time, and of a stream it looks at one block more than there is room for, at most.
+    pub fn first_short(&self, index: u32) -> Option<u32>
+        requires { self.now.point.index ≤ index }
+        ensures exact { (s : Holding) → StandsFor self.now s → result ≡ first_short_at s index }
+        ensures first { (s : Holding) → StandsFor self.now s → IfSome (plan_of s index) (λ plan. IsFirstShort s plan result) }
+        ensures ahead { IfSome result (λ block. point_before (point_at index block) (point_of self.now.point) ≡ false) }
+        ensures short { IfSome result (λ block. IsShortIn self.now index block) }
+    {
+        self.front.first_short(index)
+    }
+
+    /// The first block of an object behind one that lacks symbols that lacks symbols too. `None` where each is done.
+    pub fn next_short(&self, index: u32, block: u32) -> Option<u32>
+        requires reached { self.now.point.index ≤ index }
+        requires short { IsShortIn self.now index block }
+        ensures next { (s : Holding) → StandsFor self.now s → IfSome (plan_of s index) (λ plan. IsShortFrom s plan (block + 1) result) }
+        ensures behind { IfSome result (λ next. block < next) }
+        ensures ahead { IfSome result (λ next. point_before (point_at index next) (point_of self.now.point) ≡ false) }
+        ensures short { IfSome result (λ next. IsShortIn self.now index next) }
+    {
+        self.front.next_short(index, block)
+    }
+
+    /// The greatest block that was seen of a stream. `None` exactly where no stream has the index.
+    pub fn seen(&self, index: u32) -> Option<u32>
+        requires { self.now.point.index ≤ index }
+        ensures { (s : Holding) → StandsFor self.now s → result ≡ seen_at s index }
+    {
+        self.front.seen(index)
+    }
+
+    /// The place of a stream's end, where that is held or given by what is held of its block. `None` where that is not so, or no
+    /// stream has the index. It looks at each block from the next segment's on, at one of which nothing is held for a moment only.
+    pub fn end(&self, index: u32) -> Option<PayloadId>
+        requires { self.now.point.index ≤ index }
+        ensures { (s : Holding) → StandsFor self.now s → option_map (λ (id : Name). position index id.block id.symbol) result ≡ end_at self.now.p s index }
+    {
+        self.front.end(index)
+    }
+
+    /// Whether an object was lost in this instance.
+    pub fn has_lost(&self) -> bool
+        ensures { (s : Holding) → StandsFor self.now s → lost_nothing s ≡ not result }
+    {
+        self.front.lost
+    }
+
+    /// How many hand-ups were not taken yet.
+    pub fn ups(&self) -> usize
+        ensures { result ≡ length self.now.ups }
+    {
+        self.front.ups.len()
+    }
+
+    /// A block is seen, whether what came with it is kept or not: of a stream the greatest one is kept.
+    pub fn see(&mut self, at: Point)
+        ensures profile { self.new.p ≡ self.old.p }
+        ensures state { (s : Holding) → StandsFor self.old s → StandsFor self.new (sees_block at s) }
+    {
+        self.front.see_block(at.index, at.block);
+    }
+
+    /// Takes the next hand-up, where one is left. `None` where all were taken; then nothing changes.
+    pub fn next_up(&mut self) -> Option<Up>
+        ensures profile { self.new.p ≡ self.old.p }
+        ensures none { IfNone result ((self.old.ups ≡ []) × (self.new ≡ self.old)) }
+        ensures rest { self.new ≡ record self.old { ups = self.new.ups } }
+        ensures settled { IsSettled self.old → IsSettled self.new }
+        ensures state { (s : Holding) → StandsFor self.old s → (result ≡ (up_taken s).1) × StandsFor self.new (up_taken s).0 }
+    {
+        self.front.ups.pop_front()
+    }
+
+    /// A symbol of an object comes: it is kept where it is news. What can be handed up by it waits for `advance`.
+    ///
+    /// The first word that applies: `Had` where the object was handed up or lost, the symbol is held, or its block is done; `Away`
+    /// where the object has no plan, or there is no room for a stream's block; `Unfit` where it has no such encoded symbol, or the
+    /// payload is not the symbol's; `Kept`.
+    ///
+    /// # Errors
+    ///
+    /// `Memory` where memory runs out; then nothing changes.
+    pub fn put(&mut self, index: u32, id: PayloadId, payload: &[u8]) -> Result<Put, Memory>
+        ensures profile { self.new.p ≡ self.old.p }
+        ensures state { IfOk result (λ word. (s : Holding) → StandsFor self.old s
+            → (word ≡ put_of self.old.p s (position index id.block id.symbol) payload.now)
+            × StandsFor self.new (with_symbol word (position index id.block id.symbol) payload.now s)) }
+        ensures refused { OnErr result (self.new ≡ self.old) }
+    {
+        self.front
+            .put(index, id, payload, &mut self.room, &mut self.scratch)
+    }
+
+    /// The transmission information of an object, and its flags, come: where they fit and are new, the object is taken up. Data and
+    /// files take all the memory that their symbols need; a stream takes that of each symbol as it comes.
+    ///
+    /// The first word that applies: `Known` where the object has this plan already, or was handed up or lost; `Away` where it is 256
+    /// objects or more ahead, or is new and there is no room for its octets, which of a stream are those of its buffer; `Unfit` where
+    /// the plan is refused, is not the one that is known, or is not of the profile; `Taken`. Of a stream the length says nothing.
+    ///
+    /// # Errors
+    ///
+    /// `Memory` where memory runs out; then nothing changes.
+    pub fn fti(&mut self, index: u32, fti: &Fti, flags: u8) -> Result<Fit, Memory>
+        requires { index < 4294967295 }
+        ensures profile { self.new.p ≡ self.old.p }
+        ensures state { IfOk result (λ word. (s : Holding) → StandsFor self.old s
+            → (word ≡ fit_of self.old.p s index fti.now flags) × StandsFor self.new (fitted word index fti.now flags s)) }
+        ensures unused { IfOk result (λ word. word ≡ fit_word.Taken → IsUnused self.new index) }
+        ensures fresh { IfOk result (λ word. word ≡ fit_word.Taken → (s : Holding) → StandsFor self.old s → plan_of s index ≡ None) }
+        ensures refused { OnErr result (self.new ≡ self.old) }
+    {
+        self.front.fti(self.alloc, index, fti, flags)
+    }
+
+    /// Takes back the plan of an object. The last call of `fti` took it up, and nothing was put to it since.
+    pub fn untake(&mut self, index: u32)
+        requires { IsUnused self.old index }
+        ensures profile { self.new.p ≡ self.old.p }
+        ensures state { (s : Holding) (f : FtiValue) (flags : ℕ) → plan_of s index ≡ None → StandsFor self.old (with_plan index f flags s) → StandsFor self.new s }
+    {
+        self.front.untake(index);
+    }
+
+    /// The info of an object comes: it is kept where it is news.
+    ///
+    /// The first word that applies: `Had` where the object was handed up or lost, or its info is held; `Away` where it has
+    /// no plan; `Unfit` where the info is above `e` octets or the object's flags have no INFO; `Kept`.
+    ///
+    /// # Errors
+    ///
+    /// `Memory` where memory runs out; then nothing changes.
+    pub fn put_info(&mut self, index: u32, info: &[u8]) -> Result<Put, Memory>
+        ensures profile { self.new.p ≡ self.old.p }
+        ensures state { IfOk result (λ word. (s : Holding) → StandsFor self.old s
+            → (word ≡ put_info_of self.old.p s index info.now) × StandsFor self.new (with_info word index info.now s)) }
+        ensures refused { OnErr result (self.new ≡ self.old) }
+    {
+        self.front.keep_info(self.alloc, index, info)
+    }
+
+    /// Hands up all that can be: objects of data and files that are whole, of a stream its open, each next segment that is there,
+    /// and its end. It takes no memory.
+    pub fn advance(&mut self)
+        ensures profile { self.new.p ≡ self.old.p }
+        ensures state { (s : Holding) → StandsFor self.old s → StandsFor self.new (handed_up self.old.p s) }
+        ensures settled { IsSettled self.new }
+    {
+        self.front.advance();
+    }
+
+    /// The sender's window begins at this block of this object: what is not there before it is lost, of a stream within which it begins
+    /// the rest where the next segment is in a block that was dropped and is not there. It takes first all the memory that the
+    /// hand-ups need.
+    ///
+    /// # Errors
+    ///
+    /// `Memory` where memory runs out; then nothing changes.
+    pub fn lose_before(&mut self, index: u32, block: u32) -> Result<(), Memory>
+        requires { index < 4294967295 }
+        ensures profile { self.new.p ≡ self.old.p }
+        ensures state { IfOk result (λ _. (s : Holding) → StandsFor self.old s → StandsFor self.new (squelched self.old.p (point_at index block) s)) }
+        ensures settled { IfOk result (λ _. IsSettled self.new) }
+        ensures refused { OnErr result (self.new ≡ self.old) }
+    {
+        self.front.squelch(index, block)
+    }
+}

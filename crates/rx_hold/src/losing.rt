@@ -1,0 +1,114 @@
+//! What a squelch makes lost (RFC 5740 section 5.3 on NORM_CMD(SQUELCH)).
+
+ghost use Rattle.std.specs.Prelude.{ℕ, ◌≡◌, ◌==◌, ◌&&◌, ◌+◌, ◌-◌, ◌<◌, ◌≤◌, IfOk, IsTrue, OnErr};
+ghost use Rattle.fec_plan.specs.Points.{point as point_at};
+ghost use Rattle.norm_receive_rules.specs.Holding.{Holding};
+ghost use Rattle.norm_receive_rules.specs.Losing.{is_cut_off, loses_before, loses_one, squelched};
+ghost use Rattle.rx_hold.specs.EntryHold.{StandsFor, at_place};
+ghost use Rattle.rx_hold.specs.FrontSound.{HasRoom, IsFront, front_view};
+ghost use Rattle.rx_hold.specs.Handing.{IsSettled, cut_by_place};
+
+use crate::front::Front;
+use crate::handing_up::push;
+use crate::ring::Seat;
+use norm_base::Memory;
+use norm_order::Up;
+use std::collections::VecDeque;
+
+/// Whether what is at the first place is cut off before this block: there is nothing, or a stream whose next segment is missing.
+fn is_first_cut_off(ring: &VecDeque<Option<Seat>>, block: u32) -> bool
+    ensures { result ≡ cut_by_place block (at_place ring.now.items 0) }
+{
+    match ring.front() {
+        Some(Some(seat)) => seat.entry.is_cut_off(block),
+        _ => block > 0,
+    }
+}
+
+impl Front {
+    /// The object at the hand-up point is lost, or the rest of it. It takes no memory.
+    fn lose_first(&mut self)
+        requires front { IsFront self.old }
+        requires room { HasRoom 1 self.old }
+        requires last { self.old.point < 4294967295 }
+        ensures sound { IsFront self.new }
+        ensures room { (n : ℕ) → HasRoom (n + 1) self.old → HasRoom n self.new }
+        ensures profile { self.new.profile ≡ self.old.profile }
+        ensures point { self.new.point ≡ self.old.point + 1 }
+        ensures state { (s : Holding) → StandsFor (front_view self.old) s → StandsFor (front_view self.new) (loses_one s) }
+    {
+        let index = self.point;
+        drop(self.pass_first());
+        push(&mut self.ups, Up::Lost { index });
+        self.lost = true;
+    }
+
+    /// Hands up what is there of the objects before an index, in order; what is left of each is lost. It takes no memory.
+    fn lose_all_before(&mut self, index: u32)
+        requires front { IsFront self.old }
+        requires room { HasRoom (index - self.old.point + 1) self.old }
+        ensures sound { IsFront self.new }
+        ensures room { HasRoom 1 self.new }
+        ensures profile { self.new.profile ≡ self.old.profile }
+        ensures state { (s : Holding) → StandsFor (front_view self.old) s
+            → StandsFor (front_view self.new) (loses_before (index - s.point.index) self.old.profile index s) }
+        ensures settled { IsSettled (front_view self.new) }
+    {
+        self.advance();
+        while self.point < index {
+            self.lose_first();
+            self.advance();
+        }
+    }
+
+    /// Whether the window begins within the object at the hand-up point, and that is cut off.
+    fn is_cut_off(&self, index: u32, block: u32) -> bool
+        requires { IsFront self.now }
+        ensures exact { (s : Holding) → StandsFor (front_view self.now) s
+            → result ≡ (s.point.index == index && is_cut_off s (point_at index block)) }
+        ensures here { IsTrue result → self.now.point ≡ index }
+    {
+        let cut = is_first_cut_off(&self.ring, block);
+        self.point == index && cut
+    }
+
+    /// The sender's window begins at this block: what is not there before it is lost. It takes no memory.
+    pub fn lose_before(&mut self, index: u32, block: u32)
+        requires front { IsFront self.old }
+        requires room { HasRoom (index - self.old.point + 1) self.old }
+        requires last { index < 4294967295 }
+        ensures sound { IsFront self.new }
+        ensures profile { self.new.profile ≡ self.old.profile }
+        ensures state { (s : Holding) → StandsFor (front_view self.old) s
+            → StandsFor (front_view self.new) (squelched self.old.profile (point_at index block) s) }
+        ensures settled { IsSettled (front_view self.new) }
+    {
+        self.lose_all_before(index);
+        if self.is_cut_off(index, block) {
+            self.lose_first();
+            self.advance();
+        }
+    }
+
+    /// The sender's window begins at this block: what is not there before it is lost. It takes first all the memory that the hand-ups
+    /// need.
+    ///
+    /// # Errors
+    ///
+    /// `Memory` where memory runs out; then nothing changes.
+    pub fn squelch(&mut self, index: u32, block: u32) -> Result<(), Memory>
+        requires front { IsFront self.old }
+        requires last { index < 4294967295 }
+        ensures sound { IsFront self.new }
+        ensures profile { self.new.profile ≡ self.old.profile }
+        ensures state { IfOk result (λ _. (s : Holding) → StandsFor (front_view self.old) s
+            → StandsFor (front_view self.new) (squelched self.old.profile (point_at index block) s)) }
+        ensures settled { IfOk result (λ _. IsSettled (front_view self.new)) }
+        ensures refused { OnErr result (front_view self.new ≡ front_view self.old) }
+    {
+        let gap = index.saturating_sub(self.point) as usize;
+        self.reserve(gap + 1)?;
+        self.lose_before(index, block);
+        Ok(())
+    }
+}

@@ -1,0 +1,171 @@
+//! The places of the 256 objects from the hand-up point on.
+
+ghost use Rattle.std.specs.Prelude.{◌≡◌, ◌-◌, ◌<◌, ◌≤◌, [], MatchOption, IfOk, OnErr, None, Some, length, option_copied, option_map, replicate, slice_set, ⊤};
+ghost use Rattle.std.specs.VecDeque.{deque_capacity};
+ghost use Rattle.rx_hold.specs.EntryState.{IsOfKind, entry_of};
+ghost use Rattle.rx_hold.specs.EntryHold.{at_place};
+ghost use Rattle.rx_hold.specs.Seats.{Becomes, GetsWord, IsInformed, IsOffered, IsSame, IsSeen, MayOffer, counted, stream_at};
+
+use crate::entry::Entry;
+use fec_plan::PayloadId;
+use norm_base::{Memory, Octets};
+use norm_receive_rules::Put;
+use rx_object::Room;
+use rx_stream::Scratch;
+use std::collections::VecDeque;
+
+/// How many objects are taken up from the hand-up point on.
+pub const PLACES: usize = 256;
+
+/// What is at a place: an object of either kind.
+#[derive(Debug, Drop)]
+pub struct Seat {
+    pub entry: Entry,
+    /// For how many hand-ups of it there is room.
+    pub waiting: usize,
+}
+
+/// The object with an index that is at the hand-up point or behind it.
+pub fn entry_at(ring: &VecDeque<Option<Seat>>, point: u32, index: u32) -> Option<&Entry>
+    requires { point ≤ index }
+    ensures { option_copied result ≡ option_map (λ seat. seat.entry) (at_place ring.now.items (index - point)) }
+{
+    match ring.get((index - point) as usize) {
+        Some(Some(seat)) => Some(&seat.entry),
+        _ => None,
+    }
+}
+
+/// Makes each of the places empty, in a ring that has room for them.
+pub fn fill(ring: &mut VecDeque<Option<Seat>>)
+    requires empty { ring.old.items ≡ [] }
+    requires room { 256 ≤ deque_capacity ring.old }
+    ensures items { ring.new.items ≡ replicate 256 None }
+    ensures capacity { deque_capacity ring.new ≡ deque_capacity ring.old }
+{
+    for _ in 0..PLACES {
+        ring.push_back(None).unwrap();
+    }
+}
+
+/// Whether a stream is at a place.
+pub fn is_stream_at(ring: &VecDeque<Option<Seat>>, place: usize) -> bool
+    ensures { result ≡ stream_at (at_place ring.now.items place) }
+{
+    match ring.get(place) {
+        Some(Some(seat)) => seat.entry.says_stream(),
+        _ => false,
+    }
+}
+
+/// How many hand-ups more a symbol may make that got this word: a stream's that is kept, a segment. Data and files make one in all.
+pub fn counted(is_stream: bool, word: Put) -> usize
+    ensures { result ≡ counted is_stream word }
+{
+    if !is_stream {
+        return 0;
+    }
+    match word {
+        Put::Kept => 1,
+        Put::Had | Put::Away | Put::Unfit => 0,
+    }
+}
+
+impl Seat {
+    /// Offers a symbol, and counts the hand-up that it may make.
+    fn offer(
+        &mut self,
+        id: PayloadId,
+        payload: &[u8],
+        room: &mut Room,
+        scratch: &mut Scratch,
+    ) -> Result<Put, Memory>
+        requires { MayOffer self.old id.block room.old scratch.old }
+        ensures word { IfOk result (λ word. GetsWord (Some self.old) word id.block id.symbol payload.now) }
+        ensures offered { IfOk result (λ word. IsOffered word id.block id.symbol payload.now self.old self.new) }
+        ensures refused { OnErr result (IsSame self.old self.new) }
+        ensures room { room.new ≡ room.old }
+        ensures scratch { scratch.new ≡ scratch.old }
+    {
+        let is_stream = self.entry.says_stream();
+        let word = self.entry.offer(id, payload, room, scratch)?;
+        self.waiting += counted(is_stream, word);
+        Ok(word)
+    }
+
+    /// A block is seen.
+    fn see(&mut self, block: u32)
+        requires { IsOfKind self.old.entry }
+        ensures { IsSeen block self.old self.new }
+    {
+        self.entry.see(block);
+    }
+
+    /// Keeps the info.
+    fn put_info(&mut self, info: Octets)
+        requires kind { IsOfKind self.old.entry }
+        requires new { (entry_of self.old.entry).info ≡ None }
+        ensures { IsInformed info self.old self.new }
+    {
+        self.entry.put_info(info);
+    }
+}
+
+/// Offers a symbol to what is at a place.
+pub fn offer_at(
+    ring: &mut VecDeque<Option<Seat>>,
+    place: usize,
+    id: PayloadId,
+    payload: &[u8],
+    room: &mut Room,
+    scratch: &mut Scratch,
+) -> Result<Put, Memory>
+    requires place { place < length ring.old.items }
+    requires may { MatchOption (at_place ring.old.items place) ⊤ (λ seat. MayOffer seat id.block room.old scratch.old) }
+    ensures word { IfOk result (λ word. GetsWord (at_place ring.old.items place) word id.block id.symbol payload.now) }
+    ensures items { IfOk result (λ word. Becomes ring.old.items ring.new.items place (IsOffered word id.block id.symbol payload.now)) }
+    ensures refused { OnErr result (Becomes ring.old.items ring.new.items place IsSame) }
+    ensures capacity { deque_capacity ring.new ≡ deque_capacity ring.old }
+    ensures room { room.new ≡ room.old }
+    ensures scratch { scratch.new ≡ scratch.old }
+{
+    match &mut ring[place] {
+        Some(seat) => seat.offer(id, payload, room, scratch),
+        None => Ok(Put::Away),
+    }
+}
+
+/// A block is seen of what is at a place.
+pub fn see_at(ring: &mut VecDeque<Option<Seat>>, place: usize, block: u32)
+    requires place { place < length ring.old.items }
+    requires kind { MatchOption (at_place ring.old.items place) ⊤ (λ seat. IsOfKind seat.entry) }
+    ensures items { Becomes ring.old.items ring.new.items place (IsSeen block) }
+    ensures capacity { deque_capacity ring.new ≡ deque_capacity ring.old }
+{
+    if let Some(seat) = &mut ring[place] {
+        seat.see(block);
+    }
+}
+
+/// Takes what is at a place.
+pub fn take_at(ring: &mut VecDeque<Option<Seat>>, place: usize) -> Option<Seat>
+    requires { place < length ring.old.items }
+    ensures found { result ≡ at_place ring.old.items place }
+    ensures items { ring.new.items ≡ slice_set ring.old.items place None }
+    ensures capacity { deque_capacity ring.new ≡ deque_capacity ring.old }
+{
+    ring[place].take()
+}
+
+/// Keeps the info of what is at a place, where it is there.
+pub fn put_info_at(ring: &mut VecDeque<Option<Seat>>, place: usize, info: Octets)
+    requires place { place < length ring.old.items }
+    requires kind { MatchOption (at_place ring.old.items place) ⊤ (λ seat. IsOfKind seat.entry) }
+    requires new { MatchOption (at_place ring.old.items place) ⊤ (λ seat. (entry_of seat.entry).info ≡ None) }
+    ensures items { Becomes ring.old.items ring.new.items place (IsInformed info) }
+    ensures capacity { deque_capacity ring.new ≡ deque_capacity ring.old }
+{
+    if let Some(seat) = &mut ring[place] {
+        seat.put_info(info);
+    }
+}

@@ -1,0 +1,16 @@
+pub mod FreePlaces
+pub mod SolvedLemmas
+pub mod Listed
+pub mod Alone
+pub mod Cuts
+pub mod RowLemmas
+pub mod ObjectLemmas
+pub mod WordLemmas
+pub mod OneMore
+pub mod ThenLemmas
+pub mod NewLemmas
+pub mod SourceLemmas
+pub mod Covering
+pub mod DoneBlocks
+pub mod WholeLemmas
+pub mod MaskLemmas

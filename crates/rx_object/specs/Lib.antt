@@ -1,0 +1,8 @@
+pub mod BlockState
+pub mod Places
+pub mod Offering
+pub mod Rows
+pub mod RowsSound
+pub mod ObjectState
+pub mod ObjectSound
+pub mod RoomSound

@@ -1,0 +1,116 @@
+//! The symbols of one block, kept in place: a block's row has as many places as the block has source symbols, each of so
+//! many octets, and beside it stands for each place the id of the symbol that lies there.
+
+ghost use Rattle.std.specs.Prelude.{ℕ, ◌≡◌, ◌==◌, ◌<◌, ◌≤◌, ◌+◌, ◌*◌, ◌≢◌, length, false, slice_index, IsTrue, EachIndex, MatchOption};
+ghost use Rattle.std.specs.Bool.{Decides};
+ghost use Rattle.gf_field.specs.Symbol.{AreIds, given};
+ghost use Rattle.rs_block.specs.Codeword.{AreSources};
+ghost use Rattle.norm_order.specs.Symbols.{padded};
+ghost use Rattle.rx_object.specs.Places.{AreApart, free_places, has_id, pieces, symbol_in, with_one};
+
+use crate::room::Room;
+use norm_order::put_padded;
+
+/// The id of a place where no symbol lies.
+pub const FREE: u8 = 255;
+
+/// The first place that is free. `None` exactly where none is.
+fn first_free(ids: &[u8]) -> Option<usize>
+    ensures { MatchOption result (EachIndex ids.now (λ i. slice_index ids.now i ≢ 255)) (λ i. (i < length ids.now) × (slice_index ids.now i ≡ 255)) }
+{
+    ids.iter().position(|id| *id == FREE)
+}
+
+/// A place that is free: the symbol's own one where it is a source symbol and its place is free, and else the first one.
+fn free_place(ids: &[u8], symbol: u8) -> usize
+    requires { 0 < free_places ids.now }
+    ensures within { result < length ids.now }
+    ensures free { slice_index ids.now result ≡ 255 }
+{
+    let own = usize::from(symbol);
+    if own < ids.len() && ids[own] == FREE {
+        return own;
+    }
+    first_free(ids).unwrap()
+}
+
+/// Puts a symbol that is new into a free place.
+fn keep(ids: &mut [u8], row: &mut [u8], size: usize, symbol: u8, payload: &[u8])
+    requires id { symbol < 255 }
+    requires new { has_id symbol ids.old ≡ false }
+    requires lacks { 0 < free_places ids.old }
+    requires apart { AreApart ids.old }
+    requires row { length row.old ≡ length ids.old * size }
+    requires fits { length payload.now ≤ size }
+    ensures symbols { (id : ℕ) → id < 255 → given ids.new (pieces size (length ids.old) row.new) id
+        ≡ with_one symbol (padded size payload.now) (given ids.old (pieces size (length ids.old) row.old)) id }
+    ensures lacks { free_places ids.old ≡ free_places ids.new + 1 }
+    ensures apart { AreApart ids.new }
+{
+    let place = free_place(ids, symbol);
+    ids[place] = symbol;
+    let start = place * size;
+    put_padded(&mut row[start..start + size], payload);
+}
+
+/// Whether each place has its own source symbol.
+fn are_own(ids: &[u8]) -> bool
+    ensures { Decides result (EachIndex ids.now (λ i. slice_index ids.now i ≡ i)) }
+{
+    for (i, id) in ids.iter().enumerate() {
+        if usize::from(*id) != i {
+            return false;
+        }
+    }
+    true
+}
+
+/// Puts the source symbols of a block of which no place is free into their places.
+fn solve(room: &mut Room, ids: &[u8], row: &mut [u8])
+    requires some { 1 ≤ length ids.now }
+    requires few { length ids.now ≤ room.old.k }
+    requires apart { AreApart ids.now }
+    requires full { free_places ids.now ≡ 0 }
+    requires row { length row.old ≡ length ids.now * room.old.size }
+    ensures sources { AreSources (length ids.now) room.old.size ids.now row.old row.new }
+    ensures different { AreIds (length ids.now) 255 ids.now }
+    ensures same { room.new ≡ room.old }
+{
+    if are_own(ids) {
+        return;
+    }
+    room.solve_in(ids, row);
+}
+
+/// Puts a symbol that is new into a block that lacks so many. As the last one that is lacking comes, the block's source
+/// symbols come to lie at their places. There is room to solve blocks of as many source symbols of this size.
+pub fn put(
+    room: &mut Room,
+    ids: &mut [u8],
+    row: &mut [u8],
+    size: usize,
+    symbol: u8,
+    payload: &[u8],
+    lacking: u8,
+)
+    requires size { room.old.size ≡ size }
+    requires few { length ids.old ≤ room.old.k }
+    requires most { length ids.old ≤ 255 }
+    requires id { symbol < 255 }
+    requires new { has_id symbol ids.old ≡ false }
+    requires some { 1 ≤ lacking }
+    requires lacks { free_places ids.old ≡ lacking }
+    requires apart { AreApart ids.old }
+    requires row { length row.old ≡ length ids.old * size }
+    requires fits { length payload.now ≤ size }
+    ensures symbols { (id : ℕ) → id < 255 → symbol_in size ids.new row.new id ≡ with_one symbol (padded size payload.now) (symbol_in size ids.old row.old) id }
+    ensures lacks { free_places ids.old ≡ free_places ids.new + 1 }
+    ensures apart { AreApart ids.new }
+    ensures same { room.new ≡ room.old }
+{
+    keep(ids, row, size, symbol, payload);
+    if lacking > 1 {
+        return;
+    }
+    solve(room, ids, row);
+}

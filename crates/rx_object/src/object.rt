@@ -1,0 +1,320 @@
+//! What is held of one object.
+
+ghost use Rattle.std.specs.Prelude.{ℕ, ◌≡◌, ◌==◌, ◌<◌, ◌≤◌, ◌*◌, ◌+◌, ◌-◌, IfOk, IsTrue, None, Some, is_some, true, false, length, take, slice_get, slice_index};
+ghost use Rattle.norm_base.specs.Settings.{Settings};
+ghost use Rattle.fec_plan.specs.Partition.{blocks, source_symbols, all_symbols};
+ghost use Rattle.fec_plan.specs.Points.{position};
+ghost use Rattle.norm_order.specs.declared.up.Up.TheVariants.{Object as ObjectUp};
+ghost use Rattle.norm_receive_rules.specs.Holding.{new_plan};
+ghost use Rattle.norm_receive_rules.specs.Plans.{says_info, says_stream, cut_of_plan, holds, lacking, is_done, has_its_info};
+ghost use Rattle.norm_receive_rules.specs.Putting.{put_by};
+ghost use Rattle.norm_receive_rules.specs.HandingUp.{is_whole, kind_of, told_info, object_octets};
+ghost use Rattle.std.specs.List.{list_all, range_with_len};
+ghost use Rattle.norm_order.specs.Symbols.{padded};
+ghost use Rattle.norm_receive_rules.specs.declared.words.Put.TheVariants as put;
+ghost use Rattle.rx_object.specs.ObjectState.{empty_object, alone, offered_to, short_blocks};
+ghost use Rattle.rx_object.specs.Offering.{is_payload};
+ghost use Rattle.rx_object.specs.Places.{AreApart, free_places, has_id};
+ghost use Rattle.norm_receive_rules.specs.Short.{IsShortFrom};
+ghost use Rattle.rx_object.specs.Rows.{block_ids, coded_symbol, with_coded, start_of};
+ghost use Rattle.short_blocks.specs.State.{is_short, settled};
+
+use crate::block::FREE;
+use crate::room::Room;
+use crate::rows::Rows;
+use fec_plan::Plan;
+use norm_base::{Kind, Memory, Octets};
+use norm_ext::Fti;
+use norm_ext::flags::{FILE, INFO};
+use norm_ext::items::has_flag;
+use norm_order::Up;
+use norm_receive_rules::Put;
+use short_blocks::Shorts;
+use std::alloc::Global;
+use std::marker::Model;
+
+/// What is held of an object of data or a file. The rows of its blocks are one buffer, which is handed up as it is.
+#[derive(Debug, Drop)]
+pub struct Object {
+    index: u32,
+    fti: Fti,
+    flags: u8,
+    info: Option<Octets>,
+    rows: Rows,
+    /// For each block how many symbols are held.
+    counts: Vec<u8>,
+    /// The blocks that are not done.
+    shorts: Shorts,
+}
+
+impl Model for Object {
+    ghost use Rattle.std.specs.List.{list_all, range_with_len};
+    ghost use Rattle.norm_receive_rules.specs.declared.words.Put.TheVariants as put;
+    ghost use Rattle.rx_object.specs.ObjectState.{ObjectState};
+
+    ghost Value = { ObjectState };
+
+    ghost use Rattle.rx_object.specs.ObjectSound.{IsObject, object_view};
+
+    ghost view = { object_view };
+
+    ghost invariant = { IsObject };
+}
+
+/// Whether a payload is that of an encoded symbol of an object.
+fn is_payload(plan: &Plan, block: u32, symbol: u8, payload: &[u8]) -> bool
+    ensures exact { result ≡ is_payload plan.now block symbol payload.now }
+    ensures id { IsTrue result → symbol < 255 }
+{
+    block < plan.blocks()
+        && symbol < plan.encoded_len(block)
+        && payload.len() == usize::from(plan.symbol_octets(block, symbol))
+}
+
+/// A block lacked so many symbols, and one came: it is done where that was the last.
+fn note(shorts: &mut Shorts, block: u32, lacked: u8)
+    requires reached { shorts.old.start ≤ block }
+    requires short { is_short shorts.old block ≡ true }
+    ensures last { lacked ≡ 1 → shorts.new ≡ settled block shorts.old }
+    ensures more { (lacked ≡ 1 → ⊥) → shorts.new ≡ shorts.old }
+{
+    if lacked == 1 {
+        shorts.settle(block);
+    }
+}
+
+/// The kind that flags say.
+fn kind_of(flags: u8) -> Kind
+    ensures { result ≡ kind_of flags }
+{
+    if has_flag(flags, FILE) {
+        return Kind::File;
+    }
+    Kind::Data
+}
+
+/// The info of an object that has one.
+fn told_info(flags: u8, info: Option<Octets>) -> Option<Octets>
+    ensures { result ≡ elim (says_info flags) [ true ↦ info | false ↦ None ] }
+{
+    if has_flag(flags, INFO) {
+        return info;
+    }
+    None
+}
+
+/// The first octets of these.
+fn front_of(octets: Vec<u8>, len: usize) -> Octets
+    ensures exact { result ≡ take len octets.items }
+    ensures bytes { (i : ℕ) → slice_index octets.items i < 256 }
+{
+    let mut front = octets;
+    front.truncate(len);
+    Octets::of(front)
+}
+
+impl Object {
+    /// An object of data or a file of which nothing is held. It takes all the memory that its symbols need.
+    ///
+    /// # Errors
+    ///
+    /// `Memory` where memory runs out.
+    pub fn new(
+        alloc: Global,
+        index: u32,
+        fti: &Fti,
+        flags: u8,
+        plan: &Plan,
+    ) -> Result<Object, Memory>
+        requires cut { plan.now ≡ cut_of_plan (new_plan index fti.now flags) }
+        requires kind { says_stream flags ≡ false }
+        requires length { fti.now.l ≤ 16777216 }
+        ensures { IfOk result (λ o. o ≡ empty_object (new_plan index fti.now flags)) }
+    {
+        let rows = Rows::new(alloc, plan)?;
+        let count = plan.blocks();
+        let counts = vec![in alloc; 0; count as usize]?;
+        let shorts = Shorts::new(alloc, count)?;
+        Ok(Object {
+            index,
+            fti: *fti,
+            flags,
+            info: None,
+            rows,
+            counts,
+            shorts,
+        })
+    }
+
+    /// The object's transmission information.
+    pub fn fti(&self) -> Fti
+        ensures { result ≡ self.now.plan.fti }
+    {
+        self.fti
+    }
+
+    /// How many octets the object has.
+    pub fn octets(&self) -> u64
+        ensures { result ≡ self.now.plan.fti.l }
+    {
+        self.fti.l
+    }
+
+    /// Its flags.
+    pub fn flags(&self) -> u8
+        ensures { result ≡ self.now.plan.flags }
+    {
+        self.flags
+    }
+
+    /// How it is cut.
+    pub fn plan(&self) -> Plan
+        ensures { result ≡ cut_of_plan self.now.plan }
+    {
+        self.rows.plan
+    }
+
+    /// Whether its info is held.
+    pub fn has_info(&self) -> bool
+        ensures { result ≡ is_some self.now.info }
+    {
+        self.info.is_some()
+    }
+
+    /// Whether a symbol is held.
+    pub fn holds(&self, block: u32, symbol: u8) -> bool
+        ensures { result ≡ holds (alone self.now) (position self.now.plan.index block symbol) }
+    {
+        if block >= self.rows.plan.blocks() || symbol == FREE {
+            return false;
+        }
+        self.rows.holds(block, symbol)
+    }
+
+    /// How many symbols a block lacks to as many as it has source symbols.
+    pub fn lacking(&self, block: u32) -> u8
+        requires { block < blocks (cut_of_plan self.now.plan) }
+        ensures { result ≡ lacking (alone self.now) self.now.plan block }
+    {
+        self.rows.plan.source_len(block) - self.counts[block as usize]
+    }
+
+    /// Whether a block is one of the object's and lacks nothing.
+    fn is_done(&self, block: u32) -> bool
+        ensures { result ≡ is_done (alone self.now) self.now.plan block }
+    {
+        block < self.rows.plan.blocks() && self.lacking(block) == 0
+    }
+
+    /// Whether a payload is that of an encoded symbol of the object.
+    fn fits(&self, block: u32, symbol: u8, payload: &[u8]) -> bool
+        ensures exact { result ≡ is_payload (cut_of_plan self.now.plan) block symbol payload.now }
+        ensures id { IsTrue result → symbol < 255 }
+        ensures kind { says_stream self.now.plan.flags ≡ false }
+    {
+        is_payload(&self.rows.plan, block, symbol, payload)
+    }
+
+    /// The first block that is not done. `None` where all are. It takes constant time.
+    pub fn first_short(&self) -> Option<u32>
+        ensures { result ≡ slice_get (short_blocks self.now) 0 }
+    {
+        self.shorts.first()
+    }
+
+    /// The first block behind one that lacks symbols that lacks symbols too. `None` where each is done. It takes constant time.
+    pub fn next_short(&self, block: u32) -> Option<u32>
+        requires block { block < blocks (cut_of_plan self.now.plan) }
+        requires short { is_done (alone self.now) self.now.plan block ≡ false }
+        ensures { IsShortFrom (alone self.now) self.now.plan (block + 1) result }
+    {
+        self.shorts.next(block)
+    }
+
+    /// Whether each block is done.
+    fn all_done(&self) -> bool
+        ensures { result ≡ list_all (is_done (alone self.now) self.now.plan) (range_with_len 0 (blocks (cut_of_plan self.now.plan))) }
+    {
+        self.shorts.first().is_none()
+    }
+
+    /// Whether the object's info is held where it has one.
+    fn has_its_info(&self) -> bool
+        ensures { result ≡ has_its_info (alone self.now) self.now.plan }
+    {
+        !has_flag(self.flags, INFO) || self.info.is_some()
+    }
+
+    /// Whether the object is whole: its info is held where it has one, and each block is done. It takes constant time.
+    pub fn is_whole(&self) -> bool
+        ensures { result ≡ is_whole (alone self.now) self.now.plan }
+    {
+        self.has_its_info() && self.all_done()
+    }
+
+    /// Keeps the info. It takes no memory.
+    pub fn put_info(&mut self, info: Octets)
+        requires { self.old.info ≡ None }
+        ensures { self.new ≡ record self.old { info = Some info } }
+    {
+        self.info = Some(info);
+    }
+
+    /// Keeps a symbol that is not held, of a block that is not done.
+    fn put(&mut self, block: u32, symbol: u8, payload: &[u8], room: &mut Room)
+        requires id { symbol < 255 }
+        requires new { holds (alone self.old) (position self.old.plan.index block symbol) ≡ false }
+        requires lacks { is_done (alone self.old) self.old.plan block ≡ false }
+        requires fits { is_payload (cut_of_plan self.old.plan) block symbol payload.now ≡ true }
+        requires room { room.old ≡ record { k = self.old.plan.fti.b; size = self.old.plan.fti.e } }
+        ensures state { self.new ≡ offered_to put.Kept block symbol payload.now self.old }
+        ensures same { room.new ≡ room.old }
+    {
+        let lacking = self.lacking(block);
+        self.rows.put(block, symbol, payload, lacking, room);
+        self.counts[block as usize] += 1;
+        note(&mut self.shorts, block, lacking);
+    }
+
+    /// A symbol of the object comes: it is kept where it is news, and a block that is done by it is solved in the room that is
+    /// lent. It takes no memory.
+    pub fn offer(&mut self, block: u32, symbol: u8, payload: &[u8], room: &mut Room) -> Put
+        requires room { room.old ≡ record { k = self.old.plan.fti.b; size = self.old.plan.fti.e } }
+        ensures word { (p : Settings) → result ≡ put_by p (alone self.old) self.old.plan (position self.old.plan.index block symbol) payload.now }
+        ensures state { self.new ≡ offered_to result block symbol payload.now self.old }
+        ensures same { room.new ≡ room.old }
+    {
+        if self.holds(block, symbol) {
+            return Put::Had;
+        }
+        if self.is_done(block) {
+            return Put::Had;
+        }
+        if !self.fits(block, symbol, payload) {
+            return Put::Unfit;
+        }
+        self.put(block, symbol, payload, room);
+        Put::Kept
+    }
+
+    /// The hand-up of an object that is whole. It takes no memory, and copies no octets.
+    pub fn into_up(self) -> Up
+        requires { is_whole (alone self) self.plan ≡ true }
+        ensures { result ≡ ObjectUp self.plan.index (kind_of self.plan.flags) (told_info (alone self) self.plan) (object_octets (alone self) self.plan) }
+    {
+        let Object {
+            index,
+            fti,
+            flags,
+            info,
+            rows,
+            ..
+        } = self;
+        Up::Object {
+            index,
+            kind: kind_of(flags),
+            info: told_info(flags, info),
+            bytes: front_of(rows.octets, fti.l as usize),
+        }
+    }
+}

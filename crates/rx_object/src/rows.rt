@@ -1,0 +1,167 @@
+//! The blocks of an object, one behind the other in one buffer.
+
+ghost use Rattle.std.specs.Prelude.{ℕ, [], ◌≡◌, ◌≢◌, ◌<◌, ◌≤◌, ◌*◌, ◌+◌, ◌^◌, IfOk, Some, is_some, true, false, length, replicate};
+ghost use Rattle.fec_plan.specs.Partition.{blocks, all_symbols};
+ghost use Rattle.norm_order.specs.Symbols.{padded};
+ghost use Rattle.rx_object.specs.Places.{AreApart, free_places, has_id};
+ghost use Rattle.rx_object.specs.Rows.{block_ids, coded_symbol, with_coded, start_of, end_of};
+ghost use Rattle.rx_object.specs.RowsSound.{AreRows};
+
+use crate::block::{self, FREE};
+use crate::room::Room;
+use fec_plan::Plan;
+use norm_base::Memory;
+use std::alloc::Global;
+use symbol_mask::IdMask;
+
+/// A place for each source symbol of an object, block by block.
+#[derive(Debug, Drop)]
+pub struct Rows {
+    /// How the object is cut.
+    pub plan: Plan,
+    /// The octets of all places.
+    pub octets: Vec<u8>,
+    /// For each place the id of the symbol that lies there.
+    pub ids: Vec<u8>,
+    /// For each block the ids of its places as a set.
+    pub masks: Vec<IdMask>,
+}
+
+/// The first place of a block.
+fn start_of(plan: &Plan, block: u32) -> usize
+    requires object { is_some plan.now.l ≡ true }
+    ensures exact { result ≡ start_of plan.now block }
+    ensures most { result < 2 ^ 43 }
+{
+    plan.symbol_number(block, 0) as usize
+}
+
+/// The place behind the last one of a block.
+fn end_of(plan: &Plan, block: u32) -> usize
+    requires object { is_some plan.now.l ≡ true }
+    ensures { result ≡ end_of plan.now block }
+{
+    start_of(plan, block) + usize::from(plan.source_len(block))
+}
+
+/// So many empty sets.
+fn empty_masks(alloc: Global, count: u32) -> Result<Vec<IdMask>, Memory>
+    ensures { IfOk result (λ masks. masks.items ≡ replicate count []) }
+{
+    let mut masks = Vec::with_capacity(alloc, count as usize)?;
+    for _ in 0..count {
+        masks.push(IdMask::new())?;
+    }
+    Ok(masks)
+}
+
+/// Puts a symbol that is new into a block that lacks so many, and solves the block that is whole by it.
+fn put_at(
+    plan: &Plan,
+    room: &mut Room,
+    ids: &mut [u8],
+    octets: &mut [u8],
+    block: u32,
+    symbol: u8,
+    payload: &[u8],
+    lacking: u8,
+)
+    requires object { is_some plan.now.l ≡ true }
+    requires block { block < blocks plan.now }
+    requires octets { length octets.old ≡ all_symbols plan.now * plan.now.e }
+    requires ids { length ids.old ≡ all_symbols plan.now }
+    requires most { all_symbols plan.now * plan.now.e ≤ 16778616 }
+    requires room { room.old ≡ record { k = plan.now.b; size = plan.now.e } }
+    requires id { symbol < 255 }
+    requires new { has_id symbol (block_ids plan.now ids.old block) ≡ false }
+    requires some { 1 ≤ lacking }
+    requires lacks { free_places (block_ids plan.now ids.old block) ≡ lacking }
+    requires apart { AreApart (block_ids plan.now ids.old block) }
+    requires fits { length payload.now ≤ plan.now.e }
+    ensures symbols { (b id : ℕ) → b < blocks plan.now → id < 255 → coded_symbol plan.now ids.new octets.new b id
+        ≡ with_coded block symbol (padded plan.now.e payload.now) (coded_symbol plan.now ids.old octets.old) b id }
+    ensures others { (b : ℕ) → b ≢ block → block_ids plan.now ids.new b ≡ block_ids plan.now ids.old b }
+    ensures lacks { free_places (block_ids plan.now ids.old block) ≡ free_places (block_ids plan.now ids.new block) + 1 }
+    ensures apart { AreApart (block_ids plan.now ids.new block) }
+    ensures same { room.new ≡ room.old }
+{
+    let size = usize::from(plan.e());
+    let start = start_of(plan, block);
+    let end = end_of(plan, block);
+    let own = &mut ids[start..end];
+    let row = &mut octets[start * size..end * size];
+    block::put(room, own, row, size, symbol, payload, lacking);
+}
+
+impl Rows {
+    /// Places that are all free. It takes all the memory that the symbols of the object need.
+    ///
+    /// # Errors
+    ///
+    /// `Memory` where memory runs out.
+    pub fn new(alloc: Global, plan: &Plan) -> Result<Rows, Memory>
+        requires object { is_some plan.now.l ≡ true }
+        requires most { (l : ℕ) → plan.now.l ≡ Some l → l ≤ 16777216 }
+        ensures plan { IfOk result (λ rows. rows.plan ≡ plan.now) }
+        ensures free { IfOk result (λ rows. rows.ids.items ≡ replicate (all_symbols plan.now) 255) }
+        ensures rows { IfOk result AreRows }
+    {
+        let size = usize::from(plan.e());
+        let last = plan.blocks() - 1;
+        let places = end_of(plan, last);
+        let octets = vec![in alloc; 0; places * size]?;
+        let ids = vec![in alloc; FREE; places]?;
+        let masks = empty_masks(alloc, plan.blocks())?;
+        Ok(Rows {
+            plan: *plan,
+            octets,
+            ids,
+            masks,
+        })
+    }
+
+    /// Whether a symbol lies in a block. It takes constant time.
+    pub fn holds(&self, block: u32, symbol: u8) -> bool
+        requires rows { AreRows self.now }
+        requires block { block < blocks self.now.plan }
+        requires id { symbol < 255 }
+        ensures { result ≡ has_id symbol (block_ids self.now.plan self.now.ids.items block) }
+    {
+        self.masks[block as usize].contains(symbol)
+    }
+
+    /// Puts a symbol that is new into a block that lacks so many, and solves the block that is whole by it. It takes no memory.
+    pub fn put(&mut self, block: u32, symbol: u8, payload: &[u8], lacking: u8, room: &mut Room)
+        requires rows { AreRows self.old }
+        requires block { block < blocks self.old.plan }
+        requires id { symbol < 255 }
+        requires new { has_id symbol (block_ids self.old.plan self.old.ids.items block) ≡ false }
+        requires some { 1 ≤ lacking }
+        requires lacks { free_places (block_ids self.old.plan self.old.ids.items block) ≡ lacking }
+        requires apart { AreApart (block_ids self.old.plan self.old.ids.items block) }
+        requires fits { length payload.now ≤ self.old.plan.e }
+        requires room { room.old ≡ record { k = self.old.plan.b; size = self.old.plan.e } }
+        ensures plan { self.new.plan ≡ self.old.plan }
+        ensures rows { AreRows self.new }
+        ensures symbols { (b id : ℕ) → b < blocks self.old.plan → id < 255
+            → coded_symbol self.old.plan self.new.ids.items self.new.octets.items b id
+            ≡ with_coded block symbol (padded self.old.plan.e payload.now) (coded_symbol self.old.plan self.old.ids.items self.old.octets.items) b id }
+        ensures others { (b : ℕ) → b ≢ block → block_ids self.old.plan self.new.ids.items b ≡ block_ids self.old.plan self.old.ids.items b }
+        ensures lacks { free_places (block_ids self.old.plan self.old.ids.items block)
+            ≡ free_places (block_ids self.old.plan self.new.ids.items block) + 1 }
+        ensures apart { AreApart (block_ids self.old.plan self.new.ids.items block) }
+        ensures same { room.new ≡ room.old }
+    {
+        put_at(
+            &self.plan,
+            room,
+            &mut self.ids,
+            &mut self.octets,
+            block,
+            symbol,
+            payload,
+            lacking,
+        );
+        self.masks[block as usize].insert(symbol);
+    }
+}

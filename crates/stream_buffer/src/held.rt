@@ -1,0 +1,381 @@
+//! A stream of the window, open or closed.
+
+ghost use Rattle.std.specs.Prelude.{ℕ, true, ◌≡◌, ◌<◌, ◌≤◌, ◌+◌, ◌-◌, ◌*◌, ◌++◌, List, [], ◌∷◌, IfOk, OnErr, OnOk, length, nat_lt, max, not, false, None};
+ghost use Rattle.std.specs.List.{list_all, range_with_len};
+ghost use Rattle.norm_base.specs.Sizes.{datagram_room};
+ghost use Rattle.norm_base.specs.declared.kinds.Mode.TheVariants.{Hold, Drop as Dropping};
+ghost use Rattle.norm_base.specs.Settings.{Settings};
+ghost use Rattle.norm_base.specs.declared.node.Origin.{Origin};
+ghost use Rattle.fec_plan.specs.Partition.{place_octets};
+ghost use Rattle.fec_plan.specs.Points.{Position as Place, position, position_before, reached_by};
+ghost use Rattle.norm_order.specs.Entries.{Part, Write, End, Stream};
+ghost use Rattle.norm_order.specs.Segments.{has_end, written};
+ghost use Rattle.norm_order.specs.Sets.{is_member, with_member};
+ghost use Rattle.norm_order.specs.Shapes.{shape_of, encoded_in, sources_in, last_in};
+ghost use Rattle.norm_send_rules.specs.SenderState.{SenderState};
+ghost use Rattle.norm_send_rules.specs.Watermarks.{all_past};
+ghost use Rattle.norm_send_rules.specs.Room.{all_sent, block_may_go};
+ghost use Rattle.stream_buffer.specs.StreamState.{StandsFor, Answers, closed_segments, with_cut, is_there, octets_of};
+ghost use Rattle.stream_buffer.specs.HeldState.{HeldState, Knows, AllSent, run_of};
+ghost use Rattle.stream_buffer.specs.Growing.{has_room, Grows};
+
+use crate::marks::Marks;
+use crate::stream::StreamBuf;
+use fec_plan::{Plan, Position, reached_by};
+use norm_base::{Datagram, Memory, Mode, Profile};
+use norm_send_rules::StreamFault;
+use std::alloc::Global;
+use std::marker::Model;
+
+/// A stream of the window. [`write`](HeldStream::write) and [`cut`](HeldStream::cut) come in any order, and
+/// [`close`](HeldStream::close) once behind them; the other calls come at any time. All memory is taken by
+/// [`new`](HeldStream::new).
+#[derive(Debug, Drop)]
+pub struct HeldStream {
+    buffer: StreamBuf,
+    /// For each closed segment from the first kept block on, whether it was sent.
+    marks: Marks,
+    /// Segments of a block.
+    b: u8,
+}
+
+impl Model for HeldStream {
+    ghost use Rattle.stream_buffer.specs.HeldState.{HeldState};
+    ghost use Rattle.stream_buffer.specs.HeldSound.{held_view, HeldSound};
+
+    ghost Value = { HeldState };
+
+    ghost view = { held_view };
+
+    ghost invariant = { HeldSound };
+}
+
+/// Whether every member is listed past a position, where the mode asks for that.
+fn is_released(profile: &Profile, past: &Option<Position>, last: Position) -> bool
+    ensures { result ≡ (elim profile.now.mode [ Hold ↦ reached_by past.now last | Dropping ↦ true ]) }
+{
+    match profile.mode {
+        Mode::Drop => true,
+        Mode::Hold => reached_by(*past, &last),
+    }
+}
+
+impl HeldStream {
+    /// A stream to which nothing was written.
+    ///
+    /// # Errors
+    ///
+    /// `Memory` where memory runs out.
+    pub fn new(alloc: Global, profile: &Profile) -> Result<HeldStream, Memory>
+        ensures { IfOk result (λ stream. (index : ℕ) (sent : List Place)
+            → ((at : Place) → is_member position_before at sent ≡ true → at.index ≡ index → ⊥) → Knows profile.now index [] sent stream) }
+    {
+        let buffer = StreamBuf::new(alloc, profile)?;
+        let room = usize::from(profile.blocks) * usize::from(profile.b);
+        let marks = Marks::new(alloc, room)?;
+        Ok(HeldStream {
+            buffer,
+            marks,
+            b: profile.b,
+        })
+    }
+
+    /// How the stream is cut.
+    pub fn plan(&self) -> Plan
+        ensures exact { result ≡ self.now.buffer.cut }
+        ensures stream { self.now.buffer.cut.l ≡ None }
+    {
+        self.buffer.plan()
+    }
+
+    /// The first block that was not given up.
+    pub fn first_block(&self) -> u32
+        ensures { result ≡ self.now.buffer.first }
+    {
+        self.buffer.first_block()
+    }
+
+    /// How many segments were closed so far.
+    pub fn segments(&self) -> u32
+        ensures exact { result ≡ closed_segments self.now.buffer }
+        ensures few { result ≤ 16777216 * self.now.buffer.cut.b }
+    {
+        self.buffer.segments()
+    }
+
+    /// Its segments have room, and 24 bits number its blocks. Nothing is done.
+    pub fn fits(&self)
+        ensures room { closed_segments self.now.buffer ≤ (self.now.buffer.first + self.now.buffer.blocks) * self.now.buffer.cut.b }
+        ensures few { closed_segments self.now.buffer ≤ 16777216 * self.now.buffer.cut.b }
+        ensures first { self.now.buffer.first ≤ 16777216 }
+    {
+        let _kept = self.buffer.kept();
+        let _closed = self.buffer.segments();
+    }
+
+    /// How many octets were written so far.
+    pub fn octets(&self) -> u32
+        ensures { result ≡ self.now.buffer.octets }
+    {
+        self.buffer.octets()
+    }
+
+    /// Whether the stream was closed.
+    pub fn is_ended(&self) -> bool
+        ensures { result ≡ self.now.buffer.ended }
+    {
+        self.buffer.is_ended()
+    }
+
+    /// Adds a symbol, and answers whether it is there: its block was not given up, and its segment is closed, or of a
+    /// parity symbol all segments of its block are. It takes no memory.
+    pub fn symbol(&self, block: u32, symbol: u8, out: &mut Datagram) -> bool
+        requires symbol { symbol < self.now.buffer.cut.max_n }
+        requires room { length out.old + self.now.buffer.cut.e + place_octets ≤ datagram_room }
+        ensures { (p : Settings) (parts : List Part) → StandsFor p parts self.now.buffer
+            → (result ≡ is_there p parts self.now.buffer.first block symbol) × (out.new ≡ out.old ++ octets_of p parts self.now.buffer.first block symbol) }
+    {
+        self.buffer.symbol(block, symbol, out)
+    }
+
+    /// Writes octets, where blocks below `may_go`, whose segments were all sent, may be given up for room.
+    fn put(&mut self, bytes: &[u8], may_go: u32) -> Result<u32, StreamFault>
+        requires some { 1 ≤ length bytes.now }
+        requires closed { may_go * self.old.buffer.cut.b ≤ closed_segments self.old.buffer }
+        requires sent { (may_go - self.old.buffer.first) * self.old.buffer.cut.b ≤ run_of self.old.sent }
+        ensures answer { (p : Settings) (parts : List Part) (by : Origin) → StandsFor p parts self.old.buffer
+            → Answers p parts (Write by bytes.now ∷ []) may_go self.old.buffer.octets self.old.buffer self.new.buffer result }
+        ensures knows { OnOk result ((p : Settings) (index : ℕ) (parts : List Part) (by : Origin) (sent : List Place) → Knows p index parts sent self.old
+            → AllSent p index sent may_go → Knows p index (parts ++ Write by bytes.now ∷ []) sent self.new) }
+        ensures refused { OnErr result (self.new ≡ self.old) }
+    {
+        let first = self.buffer.first_block();
+        match self.buffer.write(bytes, may_go) {
+            Err(fault) => Err(fault),
+            Ok(offset) => {
+                let gone = (self.buffer.first_block() - first) as usize * usize::from(self.b);
+                let kept = self.buffer.kept();
+                self.marks.follow(gone, kept);
+                Ok(offset)
+            }
+        }
+    }
+
+    /// Closes the segment that fills, where it holds octets.
+    pub fn cut(&mut self)
+        ensures knows { (p : Settings) (index : ℕ) (parts : List Part) (sent : List Place) → Knows p index parts sent self.old
+            → Knows p index (with_cut p.e parts) sent self.new }
+        ensures first { self.new.buffer.first ≡ self.old.buffer.first }
+    {
+        self.buffer.cut();
+        let kept = self.buffer.kept();
+        self.marks.follow(0, kept);
+    }
+
+    /// Ends the stream, where blocks below `may_go`, whose segments were all sent, may be given up for room.
+    fn end(&mut self, may_go: u32) -> Result<(), StreamFault>
+        requires closed { may_go * self.old.buffer.cut.b ≤ closed_segments self.old.buffer }
+        requires sent { (may_go - self.old.buffer.first) * self.old.buffer.cut.b ≤ run_of self.old.sent }
+        ensures answer { (p : Settings) (parts : List Part) → StandsFor p parts self.old.buffer
+            → Answers p parts (End ∷ []) may_go tt self.old.buffer self.new.buffer result }
+        ensures knows { OnOk result ((p : Settings) (index : ℕ) (parts : List Part) (sent : List Place) → Knows p index parts sent self.old
+            → AllSent p index sent may_go → Knows p index (parts ++ End ∷ []) sent self.new) }
+        ensures refused { OnErr result (self.new ≡ self.old) }
+    {
+        let first = self.buffer.first_block();
+        match self.buffer.close(may_go) {
+            Err(fault) => Err(fault),
+            Ok(()) => {
+                let gone = (self.buffer.first_block() - first) as usize * usize::from(self.b);
+                let kept = self.buffer.kept();
+                self.marks.follow(gone, kept);
+                Ok(())
+            }
+        }
+    }
+
+    /// Marks an encoded symbol of a kept block as sent.
+    pub fn note_sent(&mut self, block: u32, symbol: u8)
+        requires { self.old.buffer.first ≤ block }
+        ensures first { self.new.buffer.first ≡ self.old.buffer.first }
+        ensures knows { (p : Settings) (index : ℕ) (parts : List Part) (sent : List Place) → Knows p index parts sent self.old
+            → nat_lt symbol (encoded_in (shape_of p (Stream parts)) block) ≡ true
+            → Knows p index parts (with_member position_before (position index block symbol) sent) self.new }
+    {
+        if symbol >= self.b {
+            return;
+        }
+        let first = self.buffer.first_block();
+        let place = (block - first) as usize * usize::from(self.b) + usize::from(symbol);
+        if place >= self.marks.len() {
+            return;
+        }
+        self.marks.note(place);
+    }
+
+    /// Whether the kept blocks before this one, of which there is one, may all go, of the stream with this index. It is asked
+    /// of all of them at once: how many segments were sent in a row, and whether every member is listed past the last.
+    fn front_may_go(&self, profile: &Profile, index: u32, past: &Option<Position>, to: u32) -> bool
+        requires { self.now.buffer.first < to }
+        ensures exact { (s : SenderState) (parts : List Part) → Knows profile.now index parts s.sent self.now
+            → ((at : Place) → all_past s at ≡ reached_by past.now at)
+            → result ≡ list_all (block_may_go profile.now s index (shape_of profile.now (Stream parts))) (range_with_len self.now.buffer.first (to - self.now.buffer.first)) }
+        ensures run { result ≡ true → (to - self.now.buffer.first) * self.now.buffer.cut.b ≤ run_of self.now.sent }
+        ensures closed { result ≡ true → to * self.now.buffer.cut.b ≤ closed_segments self.now.buffer }
+    {
+        let blocks = to - self.buffer.first_block();
+        if !self.marks.are_sent(blocks as usize * usize::from(self.b)) {
+            return false;
+        }
+        // Proof: how many segments can be closed is known of each buffer that was asked, and so that 24 bits number the last block.
+        let _closed = self.buffer.segments();
+        let last = Position {
+            index,
+            block: to - 1,
+            symbol: self.b - 1,
+        };
+        is_released(profile, past, last)
+    }
+
+    /// Whether the kept blocks before this one may all go, of the stream with this index, where all members are listed past
+    /// `past`: all their segments are closed and were sent, and where the mode asks for that every member is listed past
+    /// them.
+    pub fn blocks_may_go(
+        &self,
+        profile: &Profile,
+        index: u32,
+        past: &Option<Position>,
+        to: u32,
+    ) -> bool
+        ensures exact { (s : SenderState) (parts : List Part) → Knows profile.now index parts s.sent self.now
+            → ((at : Place) → all_past s at ≡ reached_by past.now at)
+            → result ≡ list_all (block_may_go profile.now s index (shape_of profile.now (Stream parts))) (range_with_len self.now.buffer.first (to - self.now.buffer.first)) }
+        ensures closed { result ≡ true → to * self.now.buffer.cut.b ≤ closed_segments self.now.buffer }
+    {
+        if to <= self.buffer.first_block() {
+            return true;
+        }
+        self.front_may_go(profile, index, past, to)
+    }
+
+    /// The blocks below this one may be given up for room, where the first that is kept then is `least`. `before` says
+    /// whether all entries before the stream may go.
+    fn may_go(
+        &self,
+        profile: &Profile,
+        index: u32,
+        past: &Option<Position>,
+        before: bool,
+        least: u32,
+    ) -> u32
+        ensures exact { (s : SenderState) (parts : List Part) → Knows profile.now index parts s.sent self.now
+            → ((at : Place) → all_past s at ≡ reached_by past.now at)
+            → nat_lt (max self.now.buffer.first result) least ≡ not (has_room profile.now s index parts self.now.buffer.first before least) }
+        ensures closed { result * self.now.buffer.cut.b ≤ closed_segments self.now.buffer }
+        ensures run { (result - self.now.buffer.first) * self.now.buffer.cut.b ≤ run_of self.now.sent }
+        ensures sent { (s : SenderState) (parts : List Part) → Knows profile.now index parts s.sent self.now
+            → ((at : Place) → all_past s at ≡ reached_by past.now at) → AllSent profile.now index s.sent result }
+    {
+        if !before {
+            return 0;
+        }
+        if least <= self.buffer.first_block() {
+            return 0;
+        }
+        if !self.front_may_go(profile, index, past, least) {
+            return 0;
+        }
+        least
+    }
+
+    /// Writes octets, at least one, to the stream with this index, and answers the offset of the first. Where there is no
+    /// room, blocks go for it, oldest first and no more than needed, if they may and the entries before the stream may
+    /// (`before`). It takes no memory.
+    ///
+    /// # Errors
+    ///
+    /// `Spent` where the stream would have more octets than 32 bits count, or more segments than 2^24 blocks; `Full` where
+    /// blocks would have to go that may not. Nothing changes then.
+    pub fn write(
+        &mut self,
+        profile: &Profile,
+        index: u32,
+        past: &Option<Position>,
+        before: bool,
+        bytes: &[u8],
+    ) -> Result<u32, StreamFault>
+        requires { 1 ≤ length bytes.now }
+        ensures answer { (s : SenderState) (parts : List Part) (by : Origin) → Knows profile.now index parts s.sent self.old → has_end parts ≡ false
+            → ((at : Place) → all_past s at ≡ reached_by past.now at)
+            → Grows profile.now s index parts (Write by bytes.now ∷ []) before (length (written parts)) self.old self.new result }
+        ensures refused { OnErr result (self.new ≡ self.old) }
+    {
+        let least = self.buffer.least_for(bytes);
+        let may_go = self.may_go(profile, index, past, before, least);
+        self.put(bytes, may_go)
+    }
+
+    /// Ends the stream with this index: closes the segment that fills, where it holds octets, and adds one of no octets.
+    /// Blocks go for room as in [`write`](HeldStream::write). It takes no memory.
+    ///
+    /// # Errors
+    ///
+    /// As in [`write`](HeldStream::write).
+    pub fn close(
+        &mut self,
+        profile: &Profile,
+        index: u32,
+        past: &Option<Position>,
+        before: bool,
+    ) -> Result<(), StreamFault>
+        ensures answer { (s : SenderState) (parts : List Part) → Knows profile.now index parts s.sent self.old → has_end parts ≡ false
+            → ((at : Place) → all_past s at ≡ reached_by past.now at)
+            → Grows profile.now s index parts (End ∷ []) before tt self.old self.new result }
+        ensures refused { OnErr result (self.new ≡ self.old) }
+    {
+        let least = self.buffer.least_for_end();
+        let may_go = self.may_go(profile, index, past, before, least);
+        self.end(may_go)
+    }
+
+    /// Whether all closed segments were sent.
+    pub fn is_sent(&self) -> bool
+        ensures { (p : Settings) (s : SenderState) (index : ℕ) (parts : List Part) → Knows p index parts s.sent self.now
+            → result ≡ all_sent s (sources_in index (shape_of p (Stream parts))) }
+    {
+        self.marks.all_sent()
+    }
+
+    /// The last of so many segments, where the stream has this index. `None` exactly where there is none.
+    fn last_of(&self, index: u32, segments: u32) -> Option<Position>
+        requires { segments ≤ 16777216 * self.now.buffer.cut.b }
+        ensures { (p : Settings) (parts more : List Part) → StandsFor p parts self.now.buffer → segments ≡ (shape_of p (Stream more)).closed
+            → result ≡ last_in index (shape_of p (Stream more)) }
+    {
+        if segments == 0 {
+            return None;
+        }
+        let b = u32::from(self.b);
+        let last = segments - 1;
+        Some(Position {
+            index,
+            block: last / b,
+            symbol: (last % b) as u8,
+        })
+    }
+
+    /// The last closed segment, where the stream has this index. `None` exactly where no segment is closed.
+    pub fn last(&self, index: u32) -> Option<Position>
+        ensures { (p : Settings) (parts : List Part) → StandsFor p parts self.now.buffer → result ≡ last_in index (shape_of p (Stream parts)) }
+    {
+        self.last_of(index, self.buffer.segments())
+    }
+
+    /// The last closed segment once the one that fills is cut, where the stream has this index.
+    pub fn last_cut(&self, index: u32) -> Option<Position>
+        ensures { (p : Settings) (parts : List Part) → StandsFor p parts self.now.buffer
+            → result ≡ last_in index (shape_of p (Stream (with_cut p.e parts))) }
+    {
+        self.last_of(index, self.buffer.segments_cut())
+    }
+}

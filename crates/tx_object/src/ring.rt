@@ -1,0 +1,106 @@
+//! A ring of octets, in which an object lies in one piece or, round the end, in two.
+
+ghost use Rattle.std.specs.Prelude.{ℕ, List, ◌≡◌, ◌<◌, ◌≤◌, ◌+◌, ◌-◌, ◌++◌, IfOk, length, min, replicate, take, drop};
+ghost use Rattle.tx_object.specs.Round.{round, IsClear, IsAround};
+
+use norm_base::{Memory, SYMBOL_ROOM};
+use std::alloc::Global;
+use std::marker::Model;
+
+/// Octets that go on from their end to their beginning.
+#[derive(Debug, Drop)]
+pub struct Ring {
+    octets: Vec<u8>,
+}
+
+impl Model for Ring {
+    ghost use Rattle.std.specs.Prelude.{ℕ, List};
+
+    ghost Value = { List ℕ };
+
+    ghost view = { λ r. r.octets.items };
+}
+
+/// Puts a piece over the octets from `start` on.
+fn put(octets: &mut [u8], start: usize, piece: &[u8])
+    requires { start + length piece.now ≤ length octets.old }
+    ensures { octets.new ≡ take start octets.old ++ piece.now ++ drop (start + length piece.now) octets.old }
+{
+    octets[start..start + piece.len()].copy_from_slice(piece);
+}
+
+impl Ring {
+    /// A ring of so many octets, each 0.
+    pub fn new(alloc: Global, len: usize) -> Result<Ring, Memory>
+        ensures { IfOk result (λ ring. ring ≡ replicate len 0) }
+    {
+        let octets = vec![in alloc; 0; len]?;
+        Ok(Ring { octets })
+    }
+
+    /// How many octets it has.
+    pub fn len(&self) -> usize
+        ensures { result ≡ length self.now }
+    {
+        self.octets.len()
+    }
+
+    /// The octet that is `count` behind another one.
+    pub fn behind(&self, at: usize, count: usize) -> usize
+        requires at { at < length self.now }
+        requires count { count ≤ length self.now }
+        ensures { IsAround (length self.now) (at + count) result }
+    {
+        let to_end = self.octets.len() - at;
+        if count < to_end {
+            at + count
+        } else {
+            count - to_end
+        }
+    }
+
+    /// `len` octets from octet `start` on: those up to the ring's end, and those behind.
+    pub fn pieces(&self, start: usize, len: usize) -> (&[u8], &[u8])
+        requires start { start < length self.now }
+        requires len { len ≤ length self.now }
+        ensures octets { result.0.now ++ result.1.now ≡ round self.now start len }
+        ensures front_len { length result.0.now ≡ min len (length self.now - start) }
+    {
+        let (_, behind) = self.octets.as_slice().split_at(start);
+        let in_front = len.min(behind.len());
+        (
+            behind.split_at(in_front).0,
+            self.octets.as_slice().split_at(len - in_front).0,
+        )
+    }
+
+    /// Puts the octets into the ring from octet `start` on.
+    pub fn write(&mut self, start: usize, piece: &[u8])
+        requires start { start < length self.old }
+        requires len { length piece.now ≤ length self.old }
+        ensures size { length self.new ≡ length self.old }
+        ensures written { round self.new start (length piece.now) ≡ piece.now }
+        ensures others { (other len : ℕ) → IsClear (length self.old) start (length piece.now) other len
+            → round self.new other len ≡ round self.old other len }
+    {
+        let in_front = piece.len().min(self.octets.len() - start);
+        let (first, rest) = piece.split_at(in_front);
+        put(&mut self.octets, start, first);
+        put(&mut self.octets, 0, rest);
+    }
+
+    /// Puts zeros into the ring from octet `start` on, at most 1,400 of them.
+    pub fn clear(&mut self, start: usize, len: usize)
+        requires start { start < length self.old }
+        requires len { len ≤ length self.old }
+        requires most { len ≤ 1400 }
+        ensures size { length self.new ≡ length self.old }
+        ensures cleared { round self.new start len ≡ replicate len 0 }
+        ensures others { (other count : ℕ) → IsClear (length self.old) start len other count
+            → round self.new other count ≡ round self.old other count }
+    {
+        let zeros = [0; SYMBOL_ROOM];
+        let (piece, _) = zeros.as_slice().split_at(len);
+        self.write(start, piece);
+    }
+}

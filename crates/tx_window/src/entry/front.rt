@@ -1,0 +1,113 @@
+//! The entries of a window in their order: whether the first may go, and how the last goes on.
+
+ghost use Rattle.std.specs.Prelude.{ℕ, ◌≡◌, ◌+◌, ◌≤◌, List, [], ◌∷◌, length, take, OnErr};
+ghost use Rattle.fec_plan.specs.Points.{Position as Place, reached_by};
+ghost use Rattle.norm_order.specs.Entries.{Entry, Write, End};
+ghost use Rattle.norm_order.specs.Segments.{written};
+ghost use Rattle.norm_base.specs.declared.node.Origin.{Origin};
+ghost use Rattle.norm_send_rules.specs.SenderState.{SenderState};
+ghost use Rattle.norm_send_rules.specs.Watermarks.{all_past};
+ghost use Rattle.norm_send_rules.specs.Room.{may_all_go};
+ghost use Rattle.tx_window.specs.EntryFront.{AreEntries, LastGoesOn, LastIsCut};
+ghost use Rattle.tx_window.specs.EntryPlaces.{AllStay};
+ghost use Rattle.std.specs.VecDeque.{deque_capacity};
+
+use crate::entry::HeldEntry;
+use fec_plan::Position;
+use norm_base::Profile;
+use norm_send_rules::EnqueueFault;
+use std::collections::VecDeque;
+
+/// Whether the first entries may all go, so many of them, where the first has this index and all members are listed past `past`.
+pub fn may_all_go(
+    held: &VecDeque<HeldEntry>,
+    profile: &Profile,
+    first: u32,
+    past: &Option<Position>,
+    count: usize,
+) -> bool
+    requires count { count ≤ length held.now.items }
+    requires numbered { first + length held.now.items ≤ 4294967295 }
+    ensures { (ring : List ℕ) (s : SenderState) (entries : List Entry) → AreEntries ring profile.now first entries s held.now.items
+        → ((at : Place) → all_past s at ≡ reached_by past.now at) → result ≡ may_all_go profile.now s first (take count entries) }
+{
+    // Proof: by place, so that the loop's invariant speaks of so many entries.
+    for place in 0..count {
+        let entry = &held[place];
+        if !entry.may_go(profile, first + place as u32, past) {
+            return false;
+        }
+    }
+    true
+}
+
+/// Writes octets, at least one, to the last entry, where that is an open stream, and answers the offset of the first. The first entry
+/// has this index. Blocks of the stream go for room only where all entries before it may go. It takes no memory.
+///
+/// # Errors
+///
+/// `NoStream` where there is no entry, or the last is no open stream; else why the stream takes no more. Nothing changes then.
+pub fn write_last(
+    held: &mut VecDeque<HeldEntry>,
+    profile: &Profile,
+    first: u32,
+    past: &Option<Position>,
+    bytes: &[u8],
+) -> Result<u32, EnqueueFault>
+    requires some { 1 ≤ length bytes.now }
+    requires numbered { first + length held.old.items ≤ 4294967295 }
+    ensures stays { AllStay held.old.items held.new.items }
+    ensures room { deque_capacity held.new ≡ deque_capacity held.old }
+    ensures refused { OnErr result (held.new.items ≡ held.old.items) }
+    ensures goes { (ring : List ℕ) (s : SenderState) (entries : List Entry) (by : Origin) → AreEntries ring profile.now first entries s held.old.items
+        → ((at : Place) → all_past s at ≡ reached_by past.now at)
+        → LastGoesOn ring profile.now first entries s (Write by bytes.now ∷ []) (λ parts. length (written parts)) held.old.items held.new.items result }
+{
+    if held.is_empty() {
+        return Err(EnqueueFault::NoStream);
+    }
+    let last = held.len() - 1;
+    let before = may_all_go(held, profile, first, past, last);
+    held[last].write(profile, first + last as u32, past, before, bytes)
+}
+
+/// Ends the last entry, where that is an open stream. The first entry has this index. Blocks go for room as in [`write_last`]. It
+/// takes no memory.
+///
+/// # Errors
+///
+/// As in [`write_last`].
+pub fn close_last(
+    held: &mut VecDeque<HeldEntry>,
+    profile: &Profile,
+    first: u32,
+    past: &Option<Position>,
+) -> Result<(), EnqueueFault>
+    requires { first + length held.old.items ≤ 4294967295 }
+    ensures stays { AllStay held.old.items held.new.items }
+    ensures room { deque_capacity held.new ≡ deque_capacity held.old }
+    ensures refused { OnErr result (held.new.items ≡ held.old.items) }
+    ensures goes { (ring : List ℕ) (s : SenderState) (entries : List Entry) → AreEntries ring profile.now first entries s held.old.items
+        → ((at : Place) → all_past s at ≡ reached_by past.now at)
+        → LastGoesOn ring profile.now first entries s (End ∷ []) (λ parts. tt) held.old.items held.new.items result }
+{
+    if held.is_empty() {
+        return Err(EnqueueFault::NoStream);
+    }
+    let last = held.len() - 1;
+    let before = may_all_go(held, profile, first, past, last);
+    held[last].close(profile, first + last as u32, past, before)
+}
+
+/// Closes the segment that fills of the last entry, where that is a stream with one that holds octets.
+pub fn cut_last(held: &mut VecDeque<HeldEntry>)
+    ensures stays { AllStay held.old.items held.new.items }
+    ensures room { deque_capacity held.new ≡ deque_capacity held.old }
+    ensures cut { LastIsCut held.old.items held.new.items }
+{
+    if held.is_empty() {
+        return;
+    }
+    let last = held.len() - 1;
+    held[last].cut();
+}
