@@ -2,7 +2,7 @@
 
 Every receiver's hand-ups go through the accepted order of an instance without a gap and with equal contents; a loss stands only in `drop`
 mode or at a receiver that was struck; a member is listed only behind its hand-ups; a watermark is satisfied exactly when its quorum is
-listed; and each producer's commands are answered once each, in their order. The lines are those of docs/session.md."""
+listed; and each producer's commands are answered once each, in their order. The lines are those of docs/scripts.md."""
 from __future__ import annotations
 
 from typing import Iterator

@@ -1,6 +1,6 @@
 """Printed journals: their lines, what they say of receivers and watermarks, and that as tables.
 
-docs/session.md has the lines. A journal is read whole, and its summary is compared with its lines, before a table is made."""
+docs/scripts.md has the lines. A journal is read whole, and its summary is compared with its lines, before a table is made."""
 from __future__ import annotations
 
 import csv

@@ -365,7 +365,7 @@ def plain(page: str) -> str:
 
 
 def check_commands(docs: str, page: str) -> None:
-    """norm-script(5) has each command of docs/session.md, and says of the same ones that they are not built."""
+    """norm-script(5) has each command of docs/scripts.md, and says of the same ones that they are not built."""
     entries = {' '.join(head.split()): says for head, says in re.findall(r'(?m)^\.TP\n(.+)\n((?:[^.\n].*\n)+)', page)}
     for command, runs_today in re.findall(r'(?m)^\| `(P [a-z][^`]*)` \| [^|]*\|(?: ([^|]*) \|)?$', docs):
         says = entries.get(command)
@@ -374,14 +374,14 @@ def check_commands(docs: str, page: str) -> None:
 
 
 def check_manual() -> str:
-    """The manual says what the table of keys and docs/session.md say, and each tool tells how it is called."""
+    """The manual says what the table of keys, docs/scripts.md and docs/turns.md say, and each tool tells how it is called."""
     wants('the keys of norm-script(5)', (0, b'', ''), run('keys', '--check', tool=os.path.join(ROOT, 'man')))
-    docs, program, script = (plain(text(os.path.join(ROOT, *path))) for path in
-                             (('docs', 'session.md'), ('man', 'normd.1'), ('man', 'norm-script.5')))
+    docs, turns, program, script = (plain(text(os.path.join(ROOT, *path))) for path in
+                                    (('docs', 'scripts.md'), ('docs', 'turns.md'), ('man', 'normd.1'), ('man', 'norm-script.5')))
     check_commands(docs, script)
     for status in sorted(set(re.findall(r'(?m)^\| (\d+) \| ', docs))):
         wants(f'normd(1) has status {status}', True, f'\n.TP\n{status}\n' in program)
-    for line in re.findall(r'`((?:info|data|flush|eot|adv|ackreq|opaque|nack|ack|report) SRC [^`]*)`', docs):
+    for line in re.findall(r'`((?:info|data|flush|eot|adv|ackreq|opaque|nack|ack|report) SRC [^`]*)`', turns):
         wants(f'normd(1) has the line {line}', True, f'\n{line}\n' in program)
     for tool in ('pcap', 'journal', 'profile'):
         wants(f'{tool} --help', 0, run(tool, '--help')[0])
