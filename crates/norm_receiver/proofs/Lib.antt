@@ -1,16 +1,10 @@
 pub mod ReceivingLemmas
 pub mod NeedLemmas
 pub mod EnteringLemmas
-pub mod SpanLemmas
-pub mod CountLemmas
-pub mod OverhearingLemmas
 pub mod ReceiverLemmas
-pub mod OrderLemmas
-pub mod SearchLemmas
 pub mod WalkLemmas
 pub mod AskLemmas
 pub mod TickingLemmas
 pub mod BlockLemmas
 pub mod StreamLemmas
 pub mod SeenLemmas
-pub mod FreshLemmas

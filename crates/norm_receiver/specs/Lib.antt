@@ -7,8 +7,6 @@ pub mod Receiving
 pub mod Quiet
 pub mod Delivering
 pub mod Moves
-pub mod Overhearing
-pub mod Orderly
 pub mod Walking
 pub mod PlanOf
 pub mod Streams

@@ -10,11 +10,11 @@ ghost use Rattle.norm_receiver.specs.Delivering.{adv_heard, adv_wants, nack_hear
 ghost use Rattle.norm_receiver.specs.ReceiverKept.{Stands};
 ghost use Rattle.norm_receiver.specs.Inside.{kept_of};
 
-use crate::overhearing::hear_requests;
 use crate::parts::Parts;
 use norm_base::Memory;
 use norm_ext::{CmdHead, requests_of as requests_in};
 use norm_fbmsg::NackMsg;
+use rx_heard::hear_requests;
 
 impl Parts {
     /// Requests, a list of whole ones, count while a back-off runs.

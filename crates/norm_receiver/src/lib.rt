@@ -2,23 +2,18 @@
 #![tactic(auto)]
 
 mod acknowledging;
-mod asked;
 mod asking;
 mod delivering;
 mod entering;
 mod feedback;
-mod fresh;
-mod heard;
 mod hearing;
 mod nacking;
 mod needs;
 mod numbers;
-mod overhearing;
 mod parts;
 mod receiver;
 mod receiving;
 mod requesting;
-mod searching;
 mod stream_nacking;
 mod stream_needs;
 mod taking;

@@ -1,9 +1,8 @@
 //! What a receiver is made of.
 
-use crate::asked::Asked;
-use crate::heard::Heard;
 use crate::numbers::Numbers;
 use norm_base::Profile;
+use rx_heard::{Asked, Heard};
 use rx_hold::Hold;
 
 /// The parts of a receiver, under one profile: what it holds, what it heard others ask for, and its numbers; and the room in

@@ -8,8 +8,7 @@ ghost use Rattle.norm_receive_rules.specs.Needs.{Need as Meaning};
 ghost use Rattle.norm_receive_rules.specs.Nack.{asked_of};
 ghost use Rattle.norm_receiver.specs.Requesting.{need_of, IsNeed, HasAsked};
 
-use crate::searching::LAST_BLOCK;
-use fec_plan::Position;
+use fec_plan::{LAST_BLOCK, Position};
 use norm_base::{Datagram, Profile};
 use norm_ext::flags::{WANT_BLOCK, WANT_INFO, WANT_OBJECT, WANT_SEGMENT};
 use norm_ext::items::item_of;

@@ -14,8 +14,7 @@ ghost use Rattle.norm_receiver.specs.Streams.{AreBlocks, IsStreamOf, end_run, fl
 
 use crate::needs::{is_covered, is_done_before};
 use crate::numbers::{FlushPlace, Numbers};
-use crate::searching::LAST_BLOCK;
-use fec_plan::{Plan, Point, Position};
+use fec_plan::{LAST_BLOCK, Plan, Point, Position};
 use norm_receive_rules::Missing;
 use rx_hold::Hold;
 

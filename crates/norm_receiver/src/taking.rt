@@ -7,12 +7,11 @@ ghost use Rattle.norm_receive_rules.specs.Taking.{took};
 ghost use Rattle.norm_receiver.specs.ReceiverKept.{Stands};
 ghost use Rattle.norm_receiver.specs.Inside.{kept_of};
 
-use crate::asked::Asked;
-use crate::heard::Heard;
 use crate::numbers::Numbers;
 use crate::parts::Parts;
 use norm_base::{InstanceId, Memory, NodeId, Profile};
 use norm_order::Up;
+use rx_heard::{Asked, Heard};
 use rx_hold::Hold;
 use std::alloc::Global;
 

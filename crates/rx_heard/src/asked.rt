@@ -1,0 +1,55 @@
+//! What requests ask for, as they are read and before it is heard.
+
+ghost use Rattle.std.specs.Prelude.{◌≡◌};
+ghost use Rattle.norm_receive_rules.specs.Heard.{heard_nothing};
+
+use crate::heard::{Count, Span};
+use std::alloc::Global;
+use std::marker::Model;
+
+/// What requests ask for, in their order: source symbols and infos as spans, and counts of blocks.
+#[derive(Debug, Drop)]
+pub struct Asked {
+    alloc: Global,
+    pub(crate) symbols: Vec<Span>,
+    pub(crate) infos: Vec<Span>,
+    pub(crate) counts: Vec<Count>,
+}
+
+impl Model for Asked {
+    ghost use Rattle.norm_receive_rules.specs.Heard.{Heard as Meaning};
+
+    ghost Value = { Meaning };
+
+    ghost view = { λ a. record { symbols = a.symbols.items; infos = a.infos.items; counts = a.counts.items } };
+}
+
+impl Asked {
+    /// Nothing is asked for. It takes no memory.
+    pub fn new(alloc: Global) -> Asked
+        ensures { result ≡ heard_nothing }
+    {
+        Asked {
+            alloc,
+            symbols: Vec::new(alloc),
+            infos: Vec::new(alloc),
+            counts: Vec::new(alloc),
+        }
+    }
+
+    /// Another in which nothing is asked for. It takes no memory.
+    pub fn anew(&self) -> Asked
+        ensures { result ≡ heard_nothing }
+    {
+        Asked::new(self.alloc)
+    }
+
+    /// All is forgotten. The room stays.
+    pub(crate) fn clear(&mut self)
+        ensures { self.new ≡ heard_nothing }
+    {
+        self.symbols.clear();
+        self.infos.clear();
+        self.counts.clear();
+    }
+}

@@ -1,0 +1,80 @@
+//! What of all that requests ask for was not heard before: only that needs room.
+
+ghost use Rattle.std.specs.Prelude.{◌≡◌, fold, true, IsTrue};
+ghost use Rattle.std.specs.List.{AllWithin};
+ghost use Rattle.fec_plan.specs.Points.{position_before};
+ghost use Rattle.norm_ext.specs.Asking.{is_proper};
+ghost use Rattle.norm_receive_rules.specs.Heard.{with_proper, with_count};
+ghost use Rattle.rx_heard.specs.Orderly.{AreApart, Rise};
+
+use crate::heard::{Count, Span};
+use crate::searching::{first_count, first_span};
+
+/// Whether all of a span lies in the one of these at a place, before which all end before it: then it adds nothing.
+pub(crate) fn has_at(spans: &[Span], place: usize, span: &Span) -> bool
+    requires ordered { AreApart spans.now }
+    requires before { AllWithin (λ other. position_before other.last span.now.first ≡ true) spans.now 0 place }
+    requires proper { is_proper span.now ≡ true }
+    ensures { IsTrue result → with_proper spans.now span.now ≡ spans.now }
+{
+    if place >= spans.len() {
+        return false;
+    }
+    let other = spans[place];
+    other.takes_in(span)
+}
+
+/// Whether all of a span lies in one of these, or it ends before it begins: then it adds nothing.
+fn has_span(spans: &[Span], span: &Span) -> bool
+    requires { AreApart spans.now }
+    ensures { IsTrue result → with_proper spans.now span.now ≡ spans.now }
+{
+    if span.last.is_before(&span.first) {
+        return true;
+    }
+    has_at(spans, first_span(spans, span.first), span)
+}
+
+/// Whether as many symbols of a count's block are counted: then it adds nothing.
+fn has_count(counts: &[Count], count: &Count) -> bool
+    requires { Rise counts.now }
+    ensures { IsTrue result → with_count count.now counts.now ≡ counts.now }
+{
+    let place = first_count(counts, count.of);
+    if place >= counts.len() {
+        return false;
+    }
+    counts[place].asks_for(count.of, count.lacking)
+}
+
+/// Of what is asked for, all from the first on that these spans have not.
+pub(crate) fn fresh_spans<'a>(spans: &[Span], asked: &'a [Span]) -> &'a [Span]
+    requires { AreApart spans.now }
+    ensures same { fold with_proper spans.now result.now ≡ fold with_proper spans.now asked.now }
+{
+    let mut rest = asked;
+    // Proof: the label names the loop for its invariant.
+    'known: while let Some((span, behind)) = rest.split_first() {
+        if !has_span(spans, span) {
+            return rest;
+        }
+        rest = behind;
+    }
+    rest
+}
+
+/// Of what is asked for, all from the first on that these counts have not.
+pub(crate) fn fresh_counts<'a>(counts: &[Count], asked: &'a [Count]) -> &'a [Count]
+    requires { Rise counts.now }
+    ensures same { fold (λ counts c. with_count c counts) counts.now result.now ≡ fold (λ counts c. with_count c counts) counts.now asked.now }
+{
+    let mut rest = asked;
+    // Proof: the label names the loop for its invariant.
+    'known: while let Some((count, behind)) = rest.split_first() {
+        if !has_count(counts, count) {
+            return rest;
+        }
+        rest = behind;
+    }
+    rest
+}

@@ -1,0 +1,314 @@
+//! What a receiver hears others ask for while it backs off (RFC 5401 section 3.2.2, RFC 5740 section 5.3): requests are read as
+//! a whole, and then heard.
+
+ghost use Rattle.std.specs.Prelude.{◌≡◌, ◌<◌, ◌||◌, [], ◌∷◌, ◌++◌, IfOk, OnErr, filter, fold, map};
+ghost use Rattle.norm_ext.specs.Asking.{span, is_proper, named, named_spans, asked_spans, asked_counts, where_flag, has_flag, segment_flag, block_flag};
+ghost use Rattle.fec_plan.specs.Points.{point_of};
+ghost use Rattle.norm_ext.specs.RequestView.{request_of};
+ghost use Rattle.norm_ext.specs.Requests.{items_named};
+ghost use Rattle.norm_receive_rules.specs.Heard.{asked_infos};
+ghost use Rattle.norm_receive_rules.specs.Overhearing.{asked_also, asked_all, heard_whole};
+ghost use Rattle.rx_heard.specs.Overhearing.{widened, with_spans, with_counts, items_spans, pairs_spans};
+
+use crate::asked::Asked;
+use crate::heard::{Count, Heard, Span};
+use fec_plan::{LAST_BLOCK, Point, Position};
+use norm_base::{Memory, Profile};
+use norm_ext::flags::{WANT_BLOCK, WANT_INFO, WANT_OBJECT, WANT_SEGMENT};
+use norm_ext::items::{ends_of, has_flag, position_of, split_item, split_pair};
+use norm_ext::{Form, Request, Requests};
+
+/// The greatest number of a symbol that a message names.
+const LAST_SYMBOL: u8 = 255;
+
+/// How much of what a request names counts: the symbols themselves, their blocks, or their objects.
+#[derive(Clone, Copy, Debug)]
+pub(crate) enum Width {
+    Symbols,
+    Blocks,
+    Objects,
+}
+
+/// The span from one position to another, as wide as it counts.
+fn widened(width: Width, first: Position, last: Position) -> Span
+    ensures { result ≡ widened width (span first last) }
+{
+    match width {
+        Width::Symbols => Span { first, last },
+        Width::Blocks => Span {
+            first: Position { symbol: 0, ..first },
+            last: Position {
+                symbol: LAST_SYMBOL,
+                ..last
+            },
+        },
+        Width::Objects => Span {
+            first: Position {
+                index: first.index,
+                block: 0,
+                symbol: 0,
+            },
+            last: Position {
+                index: last.index,
+                block: LAST_BLOCK,
+                symbol: LAST_SYMBOL,
+            },
+        },
+    }
+}
+
+/// What items name, each by itself.
+fn hear_items(
+    spans: &mut Vec<Span>,
+    profile: &Profile,
+    known: u32,
+    width: Width,
+    items: &[u8],
+) -> Result<(), Memory>
+    ensures { IfOk result (λ _. spans.new.items ≡ with_spans width spans.old.items (items_spans profile.now known (items_named items.now))) }
+{
+    let mut rest = items;
+    // Proof: the label names the loop for its invariant.
+    'items: while let Some((item, behind)) = split_item(rest) {
+        if let Some(at) = position_of(profile, known, item) {
+            spans.push(widened(width, at, at))?;
+        }
+        rest = behind;
+    }
+    Ok(())
+}
+
+/// What two positions name as the ends of a range, where it is not empty.
+fn put_pair(
+    spans: &mut Vec<Span>,
+    width: Width,
+    first: Position,
+    last: Position,
+) -> Result<(), Memory>
+    ensures { IfOk result (λ _. spans.new.items ≡ with_spans width spans.old.items (filter is_proper (span first last ∷ []))) }
+{
+    if last.is_before(&first) {
+        return Ok(());
+    }
+    spans.push(widened(width, first, last))?;
+    Ok(())
+}
+
+/// What pairs of items name, where a range is not empty.
+fn hear_ranges(
+    spans: &mut Vec<Span>,
+    profile: &Profile,
+    known: u32,
+    width: Width,
+    items: &[u8],
+) -> Result<(), Memory>
+    ensures { IfOk result (λ _. spans.new.items ≡ with_spans width spans.old.items (filter is_proper (pairs_spans profile.now known (items_named items.now)))) }
+{
+    let mut rest = items;
+    // Proof: the label names the loop for its invariant.
+    'pairs: while let Some((first, last, behind)) = split_pair(rest) {
+        if let Some(ends) = ends_of(profile, known, first, last) {
+            put_pair(spans, width, ends.0, ends.1)?;
+        }
+        rest = behind;
+    }
+    Ok(())
+}
+
+/// What a request names, so wide.
+fn hear_named(
+    spans: &mut Vec<Span>,
+    profile: &Profile,
+    known: u32,
+    width: Width,
+    request: &Request<'_>,
+) -> Result<(), Memory>
+    ensures { IfOk result (λ _. spans.new.items ≡ with_spans width spans.old.items (named_spans (named profile.now known (request_of request.now)))) }
+{
+    match request.form {
+        Form::Items => hear_items(spans, profile, known, width, request.items),
+        Form::Ranges => hear_ranges(spans, profile, known, width, request.items),
+        Form::Erasures => Ok(()),
+    }
+}
+
+/// The count that an item's place says.
+fn count_at(at: Position) -> Count
+    ensures { result ≡ record { of = point_of at; lacking = at.symbol } }
+{
+    Count {
+        of: at.point(),
+        lacking: at.symbol,
+    }
+}
+
+/// The counts that items say.
+fn hear_counts(
+    counts: &mut Vec<Count>,
+    profile: &Profile,
+    known: u32,
+    items: &[u8],
+) -> Result<(), Memory>
+    ensures { IfOk result (λ _. counts.new.items ≡ with_counts counts.old.items (items_spans profile.now known (items_named items.now))) }
+{
+    let mut rest = items;
+    // Proof: the label names the loop for its invariant.
+    'items: while let Some((item, behind)) = split_item(rest) {
+        if let Some(at) = position_of(profile, known, item) {
+            counts.push(count_at(at))?;
+        }
+        rest = behind;
+    }
+    Ok(())
+}
+
+/// What a request names, so wide, where its flags have this one.
+fn hear_where(
+    spans: &mut Vec<Span>,
+    profile: &Profile,
+    known: u32,
+    kind: (u8, Width),
+    request: &Request<'_>,
+) -> Result<(), Memory>
+    requires { 0 < kind.0 }
+    ensures { IfOk result (λ _. spans.new.items ≡ spans.old.items ++ (where_flag request.now.flags kind.0 (map (widened kind.1) (named_spans (named profile.now known (request_of request.now)))))) }
+{
+    if !has_flag(request.flags, kind.0) {
+        return Ok(());
+    }
+    hear_named(spans, profile, known, kind.1, request)
+}
+
+/// The spans of source symbols that a request asks for.
+fn hear_symbols(
+    spans: &mut Vec<Span>,
+    profile: &Profile,
+    known: u32,
+    request: &Request<'_>,
+) -> Result<(), Memory>
+    ensures { IfOk result (λ _. spans.new.items ≡ spans.old.items ++ (asked_spans (named profile.now known (request_of request.now)))) }
+{
+    hear_where(
+        spans,
+        profile,
+        known,
+        (WANT_SEGMENT, Width::Symbols),
+        request,
+    )?;
+    hear_where(spans, profile, known, (WANT_BLOCK, Width::Blocks), request)?;
+    hear_where(
+        spans,
+        profile,
+        known,
+        (WANT_OBJECT, Width::Objects),
+        request,
+    )?;
+    Ok(())
+}
+
+/// The infos that a request asks for.
+fn hear_infos(
+    spans: &mut Vec<Span>,
+    profile: &Profile,
+    known: u32,
+    request: &Request<'_>,
+) -> Result<(), Memory>
+    ensures { IfOk result (λ _. spans.new.items ≡ spans.old.items ++ (asked_infos (named profile.now known (request_of request.now)))) }
+{
+    hear_where(spans, profile, known, (WANT_INFO, Width::Objects), request)
+}
+
+/// Whether the flags of erasures ask for the symbols of blocks.
+fn wants_symbols(flags: u8) -> bool
+    ensures { result ≡ (has_flag flags segment_flag || has_flag flags block_flag) }
+{
+    has_flag(flags, WANT_SEGMENT) || has_flag(flags, WANT_BLOCK)
+}
+
+/// The counts that a request asks for.
+fn hear_lacking(
+    counts: &mut Vec<Count>,
+    profile: &Profile,
+    known: u32,
+    request: &Request<'_>,
+) -> Result<(), Memory>
+    ensures { IfOk result (λ _. counts.new.items ≡ counts.old.items ++ (asked_counts (named profile.now known (request_of request.now)))) }
+{
+    match request.form {
+        Form::Items | Form::Ranges => Ok(()),
+        Form::Erasures => {
+            if !wants_symbols(request.flags) {
+                return Ok(());
+            }
+            hear_counts(counts, profile, known, request.items)
+        }
+    }
+}
+
+impl Asked {
+    /// A request more. Where memory runs out, some of it may have been read.
+    fn read_request(
+        &mut self,
+        profile: &Profile,
+        known: u32,
+        request: &Request<'_>,
+    ) -> Result<(), Memory>
+        ensures { IfOk result (λ _. self.new ≡ asked_also self.old (named profile.now known (request_of request.now))) }
+    {
+        hear_symbols(&mut self.symbols, profile, known, request)?;
+        hear_infos(&mut self.infos, profile, known, request)?;
+        hear_lacking(&mut self.counts, profile, known, request)
+    }
+
+    /// These requests more. Where memory runs out, some of them may have been read.
+    fn read_requests(
+        &mut self,
+        profile: &Profile,
+        known: u32,
+        requests: Requests<'_>,
+    ) -> Result<(), Memory>
+        ensures { IfOk result (λ _. self.new ≡ fold asked_also self.old (map (named profile.now known) requests.entry)) }
+    {
+        // Proof: the label names the loop for its invariant.
+        'requests: for request in requests {
+            self.read_request(profile, known, &request)?;
+        }
+        Ok(())
+    }
+
+    /// All that these requests ask for, in place of what was asked for before.
+    ///
+    /// # Errors
+    ///
+    /// `Memory` if memory runs out.
+    pub(crate) fn read(
+        &mut self,
+        profile: &Profile,
+        known: u32,
+        requests: Requests<'_>,
+    ) -> Result<(), Memory>
+        ensures { IfOk result (λ _. self.new ≡ asked_all (map (named profile.now known) requests.entry)) }
+    {
+        self.clear();
+        self.read_requests(profile, known, requests)
+    }
+}
+
+/// The requests of a message are heard, all or none. The room in which they are read holds them then.
+///
+/// # Errors
+///
+/// `Memory` if memory runs out; what was heard is then as it was.
+pub fn hear_requests(
+    heard: &mut Heard,
+    asked: &mut Asked,
+    profile: &Profile,
+    known: u32,
+    requests: Requests<'_>,
+) -> Result<(), Memory>
+    ensures heard { IfOk result (λ _. heard.new ≡ heard_whole heard.old (asked_all (map (named profile.now known) requests.entry))) }
+    ensures refused { OnErr result (heard.new ≡ heard.old) }
+{
+    asked.read(profile, known, requests)?;
+    heard.note(asked)
+}

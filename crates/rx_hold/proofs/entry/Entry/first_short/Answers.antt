@@ -1,0 +1,15 @@
+use Rattle.std.proofs.Common.{sym, subst}
+use Rattle.rx_hold.specs.EntryState.{alone_in, entry_of}
+use Rattle.rx_hold.specs.declared.entry.Entry.{Entry}
+use Rattle.norm_receive_rules.specs.Short.{IsShortFrom}
+use Rattle.rx_hold.proofs.NeedLemmas.{object_short}
+use Rattle.rx_hold.proofs.entry.Entry.first_short.Goals as goal
+
+pub returns-in-Object : goal.returns-in-Object
+returns-in-Object c =
+    subst (λ (k : Entry). IsShortFrom (alone_in (entry_of k)) (entry_of k).plan (entry_of k).point.block c.first_short.result) (sym c.in-Object.is)
+    (object_short c.in-Object.object c.first_short.result c.first_short.ensures)
+
+pub returns-in-Stream : goal.returns-in-Stream
+returns-in-Stream c =
+    subst (λ (k : Entry). IsShortFrom (alone_in (entry_of k)) (entry_of k).plan (entry_of k).point.block c.first_short-in-Stream.result) (sym c.in-Stream.is) c.first_short-in-Stream.ensures
