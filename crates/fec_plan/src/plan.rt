@@ -7,21 +7,27 @@ use std::marker::Model;
 use thiserror::Error;
 
 /// The most blocks that 24 bits name.
+// RFC 5510 section 5.1: a payload id has 24 bits for the block. An object that needs more blocks is refused with `TooManyBlocks`.
 pub const MOST_BLOCKS: u32 = 16_777_216;
 
 /// The last block that 24 bits name.
+// A span up to it reaches the end of any object.
 pub const LAST_BLOCK: u32 = MOST_BLOCKS - 1;
 
 /// The least octets of a symbol.
+// Our own choice: with less, most of a datagram would be headers (32 octets of NORM, 28 of UDP and IP). A plan with less is refused.
 pub const LEAST_SYMBOL: u16 = 64;
 
 /// The most octets of a symbol.
+// Our own choice: with its headers and a segment's place a datagram then has 1,468 octets on the wire, and fits an Ethernet frame of 1,500.
 pub const MOST_SYMBOL: u16 = 1400;
 
 /// The most source symbols of a block.
+// Our own choice: a block has at most 255 encoded symbols (RFC 5510 section 8), so 55 are left for parity. A greater `b` is refused.
 pub const MOST_SOURCES: u8 = 200;
 
 /// The octets of a segment's place, which stand before its own.
+// RFC 5740 section 4.2.1: 16 bits of length, 16 of where a message starts, 32 of offset.
 pub const PLACE_OCTETS: u16 = 8;
 
 /// The same, as an index.
@@ -202,6 +208,7 @@ impl Plan {
         ensures sound { IsSound self.now }
     {
         match self.l {
+            // It fits: a plan with more blocks than 24 bits name is not made.
             Some(l) => blocks_of(l, self.e, self.b) as u32,
             None => MOST_BLOCKS,
         }
@@ -227,6 +234,7 @@ impl Plan {
         ensures { result ≡ encoding_symbols self.now block }
     {
         let sources = self.source_len(block);
+        // A short block has parity in proportion (RFC 5510 section 6.2). In 16 bits, since 200 * 255 does not fit 8.
         (u16::from(sources) * u16::from(self.max_n) / u16::from(self.b)) as u8
     }
 

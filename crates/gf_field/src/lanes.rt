@@ -7,6 +7,7 @@ ghost use Rattle.gf_field.specs.Lanes.{HasSums, HasProducts, IsAdded};
 use std::simd::prelude::*;
 
 /// All ones in each lane whose number has bit 0.
+// Sixteen lanes, because one look-up takes a table of sixteen octets: the products of one half of an octet.
 const LANES_WITH_1: [u8; 16] = [
     0, 255, 0, 255, 0, 255, 0, 255, 0, 255, 0, 255, 0, 255, 0, 255,
 ];
@@ -27,6 +28,7 @@ const LANES_WITH_8: [u8; 16] = [
 ];
 
 /// The numbers of sixteen lanes, four times over.
+// The look-up in 64 lanes goes by each sixteen lanes alone, so each of the four needs the table.
 const FOUR_TIMES: [usize; 64] = [
     0, 1, 2, 3, 4, 5, 6, 7, 8, 9, 10, 11, 12, 13, 14, 15, 0, 1, 2, 3, 4, 5, 6, 7, 8, 9, 10, 11, 12,
     13, 14, 15, 0, 1, 2, 3, 4, 5, 6, 7, 8, 9, 10, 11, 12, 13, 14, 15, 0, 1, 2, 3, 4, 5, 6, 7, 8, 9,
@@ -34,6 +36,7 @@ const FOUR_TIMES: [usize; 64] = [
 ];
 
 /// Sixteen zeros and sixteen times all ones.
+// Read from octet `count` on it is the mask of the last `count` lanes, so no mask is computed.
 const EDGE: [u8; 32] = [
     0, 0, 0, 0, 0, 0, 0, 0, 0, 0, 0, 0, 0, 0, 0, 0, 255, 255, 255, 255, 255, 255, 255, 255, 255,
     255, 255, 255, 255, 255, 255, 255,
@@ -54,6 +57,7 @@ struct WideMultiples {
 }
 
 /// The octet times x: shifted by one place and reduced.
+// x^8 is x^4 + x^3 + x^2 + 1 here, which is 29 (RFC 5510 section 8.1).
 #[inline(always)]
 #[tactic(auto, using(crate::proofs::Octets::shift_parts))]
 pub fn double(a: u8) -> u8
@@ -75,6 +79,7 @@ fn sums_at_bits(a: u8, b: u8, c: u8, d: u8) -> u8x16
 }
 
 /// The tables of the products of `c`: its doublings, under the masks of the lanes' bits.
+// Made anew for each factor, in registers. Tables of all 256 factors would take 8 KiB of the cache.
 #[inline(always)]
 #[tactic(auto, using(crate::proofs::LaneLemmas::tables_from))]
 pub fn multiples_of(c: u8) -> Multiples
@@ -223,14 +228,18 @@ impl Multiples {
     }
 
     /// Adds the products of all octets.
+    // Proof: each lane speaks of every c whose products these are; IsAdded joins lanes by one lemma.
     pub fn add_all(&self, dst: &mut [u8], src: &[u8])
         requires { length dst.old ≡ length src.now }
         ensures { (c : ℕ) → HasProducts 16 c self.now.low self.now.high → IsAdded c 0 (length dst.old) dst.old src.now dst.new }
     {
+        // Only here no lane of sixteen lies within the octets, so they are copied.
         if dst.len() < 16 {
             self.add_few(dst, src);
             return;
         }
+        // What the lanes of 64 and 16 leave goes in a lane that overlaps the last one, with what was done masked. A copy of a variable length
+        // costs more than the mask.
         let at = self.widened().add_lanes(dst, src);
         let at = self.add_lanes(dst, src, at);
         self.add_last_lane(dst, src, at);

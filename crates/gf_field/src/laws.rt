@@ -9,6 +9,7 @@ pub fn sums()
 {}
 
 /// The product is commutative and associative, has the neutral 1, and distributes over sums.
+// Proof: a linear function is known by its values at 1, 2, 4, .. 128, so each law is one computed test over these units.
 #[tactic(auto, using(crate::proofs::LawsHold::product_laws))]
 pub fn products()
     ensures { ProductLaws }
@@ -27,12 +28,14 @@ pub fn powers()
 {}
 
 /// A polynomial of degree below k with k different zeros is zero.
+// Proof: the polynomial is divided by x - p. The quotient is shorter by one, and the division is one equation by induction.
 #[tactic(auto, using(crate::proofs::LawsHold::zeros_law))]
 pub fn zeros()
     ensures { ZerosLaw }
 {}
 
 /// Through k points with different places goes exactly one polynomial of degree below k.
+// Proof: functions with a polynomial are closed under sums, factors x - p and constants, so Lagrange's formula is one.
 #[tactic(auto, using(crate::proofs::LawsHold::points_law))]
 pub fn points()
     ensures { PointsLaw }

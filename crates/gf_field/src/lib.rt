@@ -22,6 +22,7 @@ use tables::{logarithm_of, power_of};
 pub fn mul(a: u8, b: u8) -> u8
     ensures { result ≡ product a b }
 {
+    // 0 has no logarithm.
     if a == 0 {
         return 0;
     }
@@ -37,6 +38,7 @@ pub fn mul(a: u8, b: u8) -> u8
 pub fn alpha_pow(j: u32) -> u8
     ensures { result ≡ power j }
 {
+    // Callers add logarithms up before they ask, so the exponent may be any number.
     power_of(j % 255)
 }
 

@@ -5,6 +5,7 @@ ghost use Rattle.gf_field.specs.Power.{power};
 
 /// The powers of alpha with exponents from 0 on, two rounds of them, so that a sum of two logarithms is an
 /// exponent.
+// The order of alpha is 255 (RFC 5510 section 8.1). With one round a product would have to reduce the sum of two logarithms.
 const POWERS: [u8; 510] = [
     1, 2, 4, 8, 16, 32, 64, 128, 29, 58, 116, 232, 205, 135, 19, 38, 76, 152, 45, 90, 180, 117,
     234, 201, 143, 3, 6, 12, 24, 48, 96, 192, 157, 39, 78, 156, 37, 74, 148, 53, 106, 212, 181,
@@ -34,6 +35,7 @@ const POWERS: [u8; 510] = [
 ];
 
 /// The exponent below 255 with which alpha gives each octet but 0, whose place holds nothing.
+// The proof tests each entry against `POWERS`. 0 has no logarithm, and nobody asks for it: what stands at its place says nothing.
 const LOGARITHMS: [u8; 256] = [
     0, 0, 1, 25, 2, 50, 26, 198, 3, 223, 51, 238, 27, 104, 199, 75, 4, 100, 224, 14, 52, 141, 239,
     129, 28, 193, 105, 248, 200, 8, 76, 113, 5, 138, 101, 47, 225, 36, 15, 33, 53, 147, 142, 218,
@@ -51,6 +53,7 @@ const LOGARITHMS: [u8; 256] = [
 ];
 
 /// The power of alpha with an exponent below 510.
+// Proof: each entry is the shift of the one before it, so one recursion carries the power along the table and no pair of entries is tested.
 #[inline(always)]
 #[tactic(auto, using(crate::proofs::TableLemmas::power_in_table))]
 pub fn power_of(exponent: u32) -> u8

@@ -31,9 +31,12 @@ use std::alloc::Global;
 use std::marker::Model;
 
 /// The most watermarks that are open at once.
+// Our own choice. A mark beyond it is refused with `TooMany`, and may be given again after one of the open ones ended.
 const MOST_OPEN: u32 = 16;
 
 /// The book. It begins over the receivers of a session; its calls may come in any order.
+// `receivers` counts the struck ones too: a quorum is compared with those of the profile, and met by the lesser of it and the members that are
+// left.
 #[derive(Debug, Drop)]
 pub struct Book {
     receivers: u32,
@@ -42,6 +45,7 @@ pub struct Book {
     untold: Vec<NodeId>,
 }
 
+// Proof: the rules' watermark has a command that is not kept here. Both sides are mapped to a record without it (through, found_in_both).
 impl Model for Book {
     ghost use Rattle.mark_book.specs.BookState.{BookState};
 
@@ -62,6 +66,7 @@ impl Book {
         ensures begun { IfOk result (λ book. book ≡ begun_book (once_each nodes.now)) }
         ensures stands { IfOk result (λ book. (p : Settings) (instance : ℕ) → nodes.now ≡ receivers_of p p.receivers → Stands p book (sender_opening p instance)) }
     {
+        // Room for each receiver from the start: an acknowledgement has no answer for want of memory.
         let untold = Vec::with_capacity(alloc, nodes.len())?;
         let listings = Listings::begun(alloc, nodes)?;
         Ok(Book {
@@ -99,6 +104,7 @@ impl Book {
     pub fn ack(&mut self, node: NodeId, at: Position)
         ensures { (p : Settings) (s : SenderState) → Stands p self.old s → Stands p self.new (credited node at s) }
     {
+        // What is no news is passed over before anything else, since receivers confirm a position again in each round of flushes.
         if !self.listings.rises(node, at) {
             return;
         }
@@ -205,6 +211,7 @@ impl Book {
         ensures { (p : Settings) (s : SenderState) → Stands p self.old s → Stands p self.new (struck_off node s) }
     {
         self.listings.strike(node);
+        // A rise of one that is no member would otherwise be told after its strike.
         take_node(&mut self.untold, node);
         self.watermarks.settle(&self.listings);
     }
@@ -276,6 +283,7 @@ impl Book {
         if self.untold.is_empty() {
             return self.tell_outcome();
         }
+        // Never `None`: only a member that is listed past something waits here. A strike takes its node out, and a restart all of them.
         let at = self.listings.past(self.untold[0])?;
         let node = self.untold.remove(0);
         Some(News::Past { node, at })

@@ -23,6 +23,7 @@ use std::marker::Model;
 /// The members, and what each is listed past.
 #[derive(Debug, Drop)]
 pub struct Listings {
+    // A map that keeps its order: `shift_remove` takes a struck member out, and those that stay keep the order in which flushes name them.
     past: IndexMap<NodeId, Option<Position>>,
 }
 
@@ -41,6 +42,7 @@ impl Model for Listings {
 
 impl Listings {
     /// These nodes, each once, where it first stands, and listed past nothing.
+    // Proof: members differ and are all listed, so length-le_from_is_member counts them.
     pub fn begun(alloc: Global, nodes: &[NodeId]) -> Result<Listings, AllocError>
         ensures { IfOk result (λ listings. listings ≡ unlisted (once_each nodes.now)) }
     {
@@ -86,6 +88,7 @@ impl Listings {
         requires { list_any (λ l. l.node == node && not (is_past at l)) self.old ≡ true }
         ensures { self.new ≡ map (listed_past node at) self.old }
     {
+        // Not taken: `rises` found the member.
         let Some(past) = self.past.get_mut(&node) else {
             return;
         };

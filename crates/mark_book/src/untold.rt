@@ -16,10 +16,12 @@ pub fn put_node(nodes: &mut Vec<NodeId>, node: NodeId)
             return;
         }
         if node < *other {
+            // It does not fail: the book took room for each receiver, and a node stands here once.
             nodes.insert(place, node).unwrap();
             return;
         }
     }
+    // As above.
     nodes.push(node).unwrap();
 }
 

@@ -12,6 +12,7 @@ use norm_send_rules::Outcome;
 use std::marker::Model;
 
 /// An open watermark: its number and its position.
+// The number comes with its position. Asked for by the number, a position would have an answer for numbers that no watermark has.
 #[derive(Clone, Copy, Debug, PartialEq, Eq)]
 pub struct OpenWatermark {
     pub mark: u32,
@@ -23,6 +24,7 @@ pub fn keeps_oldest(before: Option<OpenWatermark>, after: Option<OpenWatermark>)
     ensures { (s t : SenderState) → before ≡ option_map open_watermark (rules.oldest s) → after ≡ option_map open_watermark (rules.oldest t)
         → result ≡ rules.keeps_oldest s t }
 {
+    // Without an open watermark nothing is flushed, so the count is of no use until the next one becomes the oldest.
     let Some(after) = after else {
         return true;
     };

@@ -13,10 +13,13 @@ use std::alloc::Global;
 use std::marker::Model;
 
 /// The most watermarks that 32 bits number.
+// A number has 32 bits. One more is answered by want of memory: so many watermarks take more than 80 GB.
 const MOST_WATERMARKS: usize = 4_294_967_295;
 
 /// All watermarks that were ever made. Those of the front, which ended and were told, are kept and not looked at again. How
 /// many are open is kept beside them, since one that stays open keeps all behind it out of the front.
+// `done` only rises. What ended and was told is never changed again, so a sender that runs for long does not look at all its old watermarks in
+// each turn. `still_open` is exact: a greater number would refuse marks for good.
 #[derive(Debug, Drop)]
 pub struct Watermarks {
     all: Vec<Watermark>,
@@ -102,6 +105,8 @@ impl Watermarks {
     }
 
     /// Satisfies each open watermark that enough members are past.
+    // Proof: only those from done on are written. The rule leaves those before as they are (rest_written), and the open ones are counted as they
+    // are written.
     pub fn settle(&mut self, listings: &Listings)
         requires { length listings.now < 2 ^ 32 }
         ensures settled { self.new ≡ map (settled_by listings.now) self.old }

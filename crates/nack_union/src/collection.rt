@@ -53,10 +53,12 @@ pub struct Collection {
     alloc: Global,
     first: u32,
     objects: Vec<Marks>,
+    // Proof: outside of low .. high the round asks for nothing (AreIdle), so most methods keep this without an answer.
     low: usize,
     high: usize,
     earliest: Option<Point>,
     quiet: usize,
+    // Exact, so what is idle needs no flag beside the sets, and an idle `next` costs one comparison.
     wanting: usize,
 }
 
@@ -121,6 +123,7 @@ fn close_all(objects: &mut [Marks]) -> u32
     'objects: for object in objects.iter_mut() {
         queued = queued.saturating_add(object.close() as u64);
     }
+    // The sender asks only whether there are any, so the number may stop at the greatest of 32 bits. The wants themselves are exact.
     queued.min(u32::MAX as u64) as u32
 }
 
@@ -264,6 +267,7 @@ impl Collection {
         self.low = self.low.saturating_sub(count);
         self.high = self.high.saturating_sub(count);
         self.quiet = self.quiet.saturating_sub(count);
+        // What goes with a drop is wanted no more. If it still counted, the sender would never be idle again.
         self.wanting -= gone;
         gone > 0
     }
@@ -487,6 +491,7 @@ impl Collection {
     }
 
     /// The greatest index that the window's sender knows: that of the window's last object.
+    // Computed from the union's own objects, so that nobody has to tell it how far the order goes.
     pub fn known(&self) -> u32
         ensures { result ≡ known_of self.now }
     {
@@ -495,6 +500,8 @@ impl Collection {
 
     /// Takes the requests of a NACK, as far as the window has what they ask for, into what the open round asks for. What
     /// names no index to the window's sender asks for nothing.
+    // Proof: a request counts the window's objects as whole, as the last source symbol is the last object's. Marks then decide every test of the
+    // rules.
     pub fn add(&mut self, profile: &Profile, requests: Requests<'_>)
         ensures added { HasAdded (map (named profile.now (known_of self.old)) requests.entry) self.old self.new }
         ensures planned { AllByRecursion IsPlanned self.old.objects }
@@ -538,6 +545,7 @@ impl Collection {
     /// Closes the open round: what it asked for is wanted, of a counted block the lowest parity symbols that were never
     /// sent, or all its source symbols where fewer are left. Says how many wants are new, and whether the round asked for what
     /// lies before the window (RFC 5740 section 5.4). The next round begins empty.
+    // Proof: each object's slots come first. all_closed lifts that to the listed wants, and closed_range leads from low .. high to all.
     pub fn close_round(&mut self) -> Closed
         ensures exact { self.new ≡ closed_union self.old }
         ensures closed { (p : Settings) (s : SenderState) → Holds p self.old s → Holds p self.new (record s { wants = wants_closed self.old s }) }
@@ -557,6 +565,7 @@ impl Collection {
         self.wanting = self.wanting - before + after;
         self.low = high;
         self.high = high;
+        // Objects of the round may be wanted now, so the search has to begin with them again.
         self.quiet = self.quiet.min(low);
         let block = first_block(&self.objects);
         let first = Point {

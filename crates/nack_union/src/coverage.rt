@@ -28,6 +28,7 @@ pub struct Coverage {
     plan: Plan,
     closed: u64,
     whole: u32,
+    // Proof: a flag is no part of the value. The invariant says what it means, so no contract above changes.
     complete: bool,
     alone: Mask,
     ends: Vec<u32>,
@@ -137,6 +138,7 @@ impl Coverage {
         let whole = whole_blocks(&self.plan, closed).min(self.ends.len() as u32);
         self.whole = whole;
         self.closed = closed;
+        // What was closed just now is not yet asked for.
         self.complete = false;
     }
 
@@ -167,6 +169,8 @@ impl Coverage {
     }
 
     /// Puts the source symbols of the blocks from one up to another, which are whole, into them, as a run.
+    // One number for a run of any length. A NACK that asks for a whole object would else set a bit for each of its symbols, and a thousand such
+    // requests would do so each time.
     fn insert_blocks(&mut self, first: usize, behind: usize)
         requires some { first < behind }
         requires within { behind ≤ self.old.room }
@@ -262,6 +266,7 @@ impl Coverage {
         ensures shape { self.new.shape ≡ shape_closed self.old.shape.cut (self.old.shape.closed - symbol_number self.old.shape.cut count 0) }
         ensures room { self.new.room ≡ self.old.room }
     {
+        // The ends are numbers of blocks, which change now. As bits they move with the set.
         insert_runs(&mut self.alone, &self.plan, self.closed, &self.ends);
         self.ends.fill(0);
         self.alone.rises();

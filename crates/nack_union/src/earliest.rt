@@ -68,6 +68,7 @@ fn gives_something(request: &Request<'_>) -> bool
 }
 
 /// The first point that some items name, by flags.
+// Proof: the least index is a fold, so the loop needs one line of an invariant.
 fn least_of_items(profile: &Profile, known: u32, flags: u8, items: &[u8]) -> Option<Point>
     ensures { result ≡ least_with None (firsts flags (items_spans profile.now known (items_named items.now))) }
 {
@@ -108,6 +109,7 @@ fn begin_of(profile: &Profile, known: u32, first: Item, last: Item) -> Option<Po
 }
 
 /// The first point that a range begins with, by flags, of some pairs of items. Empty ranges do not count.
+// Proof: as at `least_of_items`.
 fn least_of_ranges(profile: &Profile, known: u32, flags: u8, items: &[u8]) -> Option<Point>
     ensures { result ≡ least_with None (firsts flags (filter is_proper (pairs_spans profile.now known (items_named items.now)))) }
 {

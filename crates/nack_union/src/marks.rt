@@ -225,7 +225,9 @@ impl Marks {
         self.sent.rises();
         self.asked.rises();
         let count = block - self.first;
+        // 256 slots a block are four words of 64 bits, so the sets move by whole words.
         let words = 4 * count as usize;
+        // Counted before the sets move: `wanted` is exactly the number of wants, or a union would be idle with one left, or busy with none.
         let gone = self.wants.take_below(BLOCK * count as usize + 1);
         self.wants.move_on(words);
         self.sent.move_on(words);
@@ -254,6 +256,7 @@ impl Marks {
     }
 
     /// Nothing is done: it says what holds of each object, for the invariant of a collection.
+    // Held of an object as it changes, and not of all of them as a NACK comes: NACKs come more often.
     pub fn hold(&self)
         ensures { IsPlanned self.now }
     {
@@ -412,6 +415,7 @@ impl Marks {
         ensures more { MoreOf (named_part named.now.flags (span named.now.first named.now.last)) index self.old self.new }
         ensures planned { IsPlanned self.old → IsPlanned self.new }
     {
+        // A NACK may name one object hundreds of times. Each time after the first then costs a test, and not a pass over the object.
         if self.is_settled(named.flags) {
             return;
         }
@@ -454,6 +458,7 @@ impl Marks {
         ensures { self.new ≡ record self.old { counts = set self.old.counts block (max (slice_index self.old.counts block) lacking) } }
     {
         let place = (block - self.first) as usize;
+        // Parity repairs whatever was lost, so what the receiver needs that lacks most is enough for all (RFC 5740 section 5.4).
         let most = greater(self.counts[place], lacking);
         self.counts[place] = most;
         self.is_asked = true;
@@ -465,6 +470,7 @@ impl Marks {
         ensures new { length self.new.wants ≡ length self.old.wants + result }
         ensures counted { IsCounted self.old }
     {
+        // Most objects of a window are in no round, and their sets need no look.
         if !self.is_asked {
             return 0;
         }

@@ -29,6 +29,7 @@ fn count_fresh(sent: &Mask, block: u32, from: u8, to: u8) -> u8
 }
 
 /// Asks for so many of a block's symbols from one up to another that were never sent, the lowest first.
+// Proof: the invariant is that what is left, put into what is here, is all put into what was there.
 fn ask_fresh(asked: &mut Mask, sent: &Mask, block: u32, from: u8, to: u8, count: u8)
     requires asked { symbol_slot block to ≤ asked.old.size }
     requires sent { symbol_slot block to ≤ sent.now.size }
@@ -73,7 +74,9 @@ fn ask_repairs(asked: &mut Mask, sent: &Mask, plan: &Plan, closed: u64, block: u
 {
     let sources = plan.source_len(block);
     let encoded = encoded_len(plan, closed, block);
+    // As many symbols as it has sources decode a block, whatever a NACK claims.
     let count = lacking.min(sources);
+    // Parity that was never sent helps every receiver. Anything else may be what a receiver has, so if too little is left all sources come again.
     if count <= count_fresh(sent, block, sources, encoded) {
         ask_fresh(asked, sent, block, sources, encoded, count);
     } else {

@@ -8,6 +8,7 @@ use fec_plan::Position;
 use norm_send_rules::Want;
 
 /// The slots of a block: one for each id that a symbol can have.
+// RFC 5510 section 5.1: an id has 8 bits. All ids get a slot, also those past max_n, so that a slot is computed without a plan.
 pub const BLOCK: usize = 256;
 
 /// The slot of a symbol.

@@ -31,12 +31,15 @@ use std::marker::Model;
 
 /// The wants and the sent symbols of the objects of a window, and what the open round asks for. Objects are admitted at its
 /// end and retired from its front.
+// The profile stands beside the collection and not in it: the laws of a collection then hold of any profile.
 #[derive(Debug, Drop)]
 pub struct Union {
     profile: Profile,
     collection: Collection,
 }
 
+// Proof: it stands for what it reads of a state (UnionReads), with what the open round was asked for. So a step of the sender needs no second
+// relation beside it.
 impl Model for Union {
     ghost use Rattle.nack_union.specs.UnionState.{UnionState};
 
@@ -47,6 +50,7 @@ impl Model for Union {
 
 impl Union {
     /// A union as an instance begins: nothing is in the window.
+    // It takes no memory and so cannot fail: all room is taken as objects and streams are admitted.
     pub fn new(alloc: Global, profile: &Profile) -> Union
         ensures empty { result ≡ empty_union profile.now }
         ensures begun { (instance : ℕ) → Stands result (sender_opening profile.now instance) }
@@ -60,6 +64,8 @@ impl Union {
 
     /// Takes one more object into the window, of which nothing is wanted and nothing was sent, and makes all the room
     /// that it needs. Its index is the one behind the last object's. Want of memory leaves the union as it was.
+    // Two calls, `admit` and `admit_stream`, because an object comes whole, with a number of blocks, all of it closed, and perhaps an info. Of a
+    // stream none of that is known.
     pub fn admit(&mut self, index: u32, plan: &Plan, info: bool) -> Result<(), Memory>
         requires { index ≡ self.old.kept.first + length self.old.kept.objects }
         ensures exact { IfOk result (λ _. self.new ≡ record self.old { kept = with_object (admitted plan.now info) self.old.kept }) }

@@ -4,6 +4,8 @@ use std::{fmt, io};
 
 /// What a call of the outside was done to as it failed, and why it failed, in the system's words. It is for people: no
 /// clause speaks of it.
+// Kept by the objects of the process, beside the count of faults that clauses speak of. So a cause can be said without a change of any trait or
+// contract.
 #[derive(Debug, Drop)]
 pub enum Cause {
     /// The input was read.

@@ -8,12 +8,15 @@ use std::alloc::Global;
 use std::marker::Model;
 
 /// The most octets of a datagram.
+// Our own choice: what an Ethernet frame carries. A longer datagram that comes is passed over, and none is written.
 pub const DATAGRAM_ROOM: usize = 1500;
 
 /// The most octets of a symbol as it is coded: a symbol of 1,400, and the eight octets of a segment's place before it.
+// It follows from `e` up to 1,400 (own) and the place of RFC 5740 section 4.2.1. It is the length of arrays in which symbols are made.
 pub const SYMBOL_ROOM: usize = 1408;
 
 /// A datagram with room for 1,500 octets, all of it reserved at the start.
+// All memory is taken by `new`: a tick writes a datagram, and has no answer for want of memory.
 #[derive(Debug, Drop)]
 pub struct Datagram {
     bytes: Vec<u8>,
@@ -64,6 +67,7 @@ impl Datagram {
         requires { length part.now ≤ datagram_room - length self.old }
         ensures { self.new ≡ self.old ++ part.now }
     {
+        // It does not fail: the clause asks for room, and the room was reserved.
         self.bytes.extend_from_slice(part).unwrap();
     }
     /// Writes the octets over those that stand from octet `at` on, as a length that is known only later.

@@ -61,6 +61,7 @@ impl Given {
     fn default_of(&self, key: Key) -> u32
         ensures { result ≡ default_beside (unwrap_or (given_at self.now Key.B) (row_of Key.B).default) key }
     {
+        // Half as much parity as data, as far as 255 encoded symbols go: a default that fits any `b` that is set.
         if key == Key::MaxN {
             let b = self.values[Key::B.place()].unwrap_or(Key::B.row().default);
             return 255.min(b.saturating_add(b / 2));
@@ -83,6 +84,7 @@ impl Given {
     {
         let b = self.value(Key::B);
         let buffer = self.value(Key::Blocks) * b * self.value(Key::E);
+        // The buffer's bound is that of `octets`, 2^24: a stream that no window can hold is refused with the profile.
         b <= self.value(Key::MaxN) && buffer <= 16_777_216
     }
 

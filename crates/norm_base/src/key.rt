@@ -35,6 +35,7 @@ pub enum Key {
 }
 
 /// All keys, in their order.
+// Written out in the order of the variants: a key's place is its number, and a list of all has to agree with that.
 pub const KEYS: [Key; 26] = [
     Key::Instance,
     Key::First,
@@ -126,6 +127,7 @@ impl Key {
     }
 
     /// What the table says of the key.
+    // A function and not a constant table: a constant cannot call `numbers` here, and 26 rows written in full would stand beside the 26 names.
     pub fn row(self) -> KeyRow
         ensures name { result.name.now ≡ (row_of self).name }
         ensures least { result.least ≡ (row_of self).least }
@@ -135,21 +137,30 @@ impl Key {
         ensures few { length result.words.now ≤ 3 }
     {
         match self {
+            // RFC 5740 section 4.1 and 4.2.1: instances and object transport ids have 16 bits.
             Key::Instance => numbers("instance", 0, 65_535, 1),
             Key::First => numbers("first", 0, 65_535, 0),
+            // RFC 5740 section 4.1: 0 and 2^32 - 1 name no member. Below them is room for 16 receivers behind the sender.
             Key::Sender => numbers("sender", 1, 4_294_967_278, 1),
+            // Our own choice, as most that follows. A flush names all that have to confirm, and each watermark is settled by a look at all
+            // members.
             Key::Receivers => numbers("receivers", 1, 16, 1),
             Key::Producers => numbers("producers", 1, 4, 1),
+            // fec_plan says where the limits of these two come from. 255 encoded symbols is the limit of RFC 5510 section 8.
             Key::E => numbers("e", 64, 1400, 1024),
             Key::B => numbers("b", 1, 200, 64),
             Key::MaxN => numbers("max_n", 1, 255, 96),
             Key::Auto => numbers("auto", 0, 255, 0),
+            // A receiver has as many places for objects from the hand-up point on.
             Key::Window => numbers("window", 1, 256, 256),
+            // 2^24: a window lies in one ring, and a receiver takes an object's memory with its plan.
             Key::Octets => numbers("octets", 1, 16_777_216, 16_777_216),
+            // At least two, since a write may begin in the middle of a block and has to fit behind it.
             Key::Blocks => numbers("blocks", 2, 256, 16),
             Key::Mode => words("mode", &["hold", "drop"]),
             Key::Gap => numbers("gap", 1, 1_000_000, 1000),
             Key::Grtt => numbers("grtt", 1, 10_000_000, 10_000),
+            // RFC 5740 section 4.2: 8 bits of GRTT, 4 of the group's size and 4 of the back-off factor.
             Key::GrttCode => numbers("grtt_code", 0, 255, 64),
             Key::GsizeCode => numbers("gsize_code", 0, 15, 1),
             Key::K => numbers("k", 0, 15, 4),
@@ -160,6 +171,7 @@ impl Key {
             Key::Loss => numbers("loss", 0, 900, 0),
             Key::Repeat => numbers("repeat", 0, 900, 0),
             Key::Late => numbers("late", 0, 64, 0),
+            // From the first port that needs no privilege, and up to one behind which all members still have a port.
             Key::Port => numbers("port", 1024, 65_000, 40_000),
         }
     }

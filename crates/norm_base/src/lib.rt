@@ -1,6 +1,8 @@
 //! The names, numbers and traits that every crate of normd stands on (RFC 5740 section 4.1).
 #![tactic(auto)]
 
+// Of the outside only the traits stand here. A change of its objects in memory (norm_memory) or over the process (norm_host) then proves nothing
+// above the traits again.
 mod cause;
 mod clock;
 mod datagram;

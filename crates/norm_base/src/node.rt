@@ -25,6 +25,7 @@ impl NodeId {
         ensures found { IsSome result ↔ IsMember n }
         ensures value { IfSome result (λ id. id ≡ n) }
     {
+        // RFC 5740 section 4.1: NORM_NODE_NONE and NORM_NODE_ANY.
         if n == 0 || n == u32::MAX {
             return None;
         }
@@ -41,6 +42,7 @@ impl NodeId {
 }
 
 /// How many numbers have 16 bits: object transport ids, instances and sequence numbers count in these.
+// 2^16, by the fields of RFC 5740 sections 4.1 and 4.2.1. Whatever counts in ids goes round there.
 pub const ID_COUNT: u32 = 65_536;
 
 /// Which life of a sender a message belongs to.

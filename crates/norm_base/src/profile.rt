@@ -80,6 +80,7 @@ impl Model for Profile {
 }
 
 /// What the value of `mode` stands for.
+// The value is the place of the key's word, so it is in range here, and the last word needs no number of its own.
 fn mode_at(value: u32) -> Mode
     ensures { result ≡ mode_at value }
 {
@@ -144,6 +145,7 @@ impl Profile {
         requires { i < self.now.receivers }
         ensures { result ≡ self.now.sender + 1 + i }
     {
+        // It does not fail: the greatest sender leaves numbers for 16 receivers.
         NodeId::of(self.sender + 1 + i).unwrap()
     }
 
@@ -164,6 +166,7 @@ impl Default for Profile {
 
     /// Each key at its default.
     fn default() -> Profile {
+        // It does not fail: the defaults are in their ranges, and meet both rules.
         Profile::of(&Given::new()).unwrap()
     }
 }

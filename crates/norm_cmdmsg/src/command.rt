@@ -12,6 +12,7 @@ use norm_ext::places::{COMMAND, COMMAND_WORDS, NAMING, NODE, OBJECT, SUB_TYPE_AT
 use norm_ext::{CmdHead, SubType};
 
 /// The octets before the rest of a command that is not read.
+// The common header and the fields of each command up to its sub-type (RFC 5740 section 4.2.3).
 pub(crate) const BEFORE_REST: usize = SUB_TYPE_AT + 1;
 
 /// A command. Its parts are lent from the datagram.

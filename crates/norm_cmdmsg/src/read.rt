@@ -171,6 +171,7 @@ fn read_by(sub_type: SubType, bytes: &[u8], end: usize) -> Result<CommandMsg<'_>
         SubType::Squelch => read_squelch(bytes, end),
         SubType::RepairAdvertisement => read_repair_adv(bytes, end),
         SubType::AckRequest => read_ack_req(bytes, end),
+        // Neither is used here. They are kept as octets, so that `show` can print every datagram.
         SubType::CongestionControl | SubType::Application => read_opaque(bytes),
     }
 }

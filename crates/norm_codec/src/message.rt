@@ -18,6 +18,7 @@ pub enum Message<'a> {
     Nack(NackMsg<'a>),
     Ack(AckMsg<'a>),
     /// A report, which is not read.
+    // RFC 5740 section 4.4.1 leaves the content to the implementation.
     Report {
         source: NodeId,
         sequence: u16,

@@ -8,8 +8,10 @@ use crate::refusal::ExtFault;
 use std::marker::Model;
 
 /// The first type of the extensions that are one word and say no length.
+// RFC 5740 section 4.1: types from 128 on have one word and no length.
 const FIRST_SHORT_TYPE: u8 = 128;
 /// The place of an extension's length in words.
+// RFC 5740 section 4.1.
 const LENGTH_AT: usize = 1;
 
 /// The extensions of a list that are left, in their order.
@@ -54,10 +56,12 @@ fn check_first(words: &[u8], at: usize) -> Result<usize, ExtFault>
         (λ len. (extension_checked at words.now ≡ Ok tt) × (len ≡ extension_length words.now) × (len ≤ length words.now) × (0 < len))
         (λ fault. extension_checked at words.now ≡ Err fault) }
 {
+    // Fewer than four octets are an overrun, also if the length among them is 0. No message shows this, because its header has whole words.
     if words.len() < WORD {
         return Err(ExtFault::Overrun { at });
     }
     let len = length_of(words);
+    // A walk that goes on by 0 octets would never end.
     if len == 0 {
         return Err(ExtFault::ZeroLength { at });
     }

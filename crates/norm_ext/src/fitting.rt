@@ -12,6 +12,7 @@ use crate::requests::check_requests;
 use norm_base::DATAGRAM_ROOM;
 
 /// The most octets of a header: 255 words.
+// RFC 5740 section 4.1: hdr_len has 8 bits and counts words of four octets. What has a longer header cannot be written.
 const MOST_HEADER: usize = 255 * WORD;
 
 /// Whether the octets are a list of whole extensions.
@@ -35,6 +36,7 @@ pub fn has_room(fixed: usize, exts: &[u8], content: usize) -> bool
     ensures { IsTrue result ↔ HasRoom fixed exts.now content }
 {
     let header = fixed + exts.len();
+    // In this order: the header's length is bounded before it is taken from the datagram's room.
     header <= MOST_HEADER && content <= DATAGRAM_ROOM - header && are_extensions(exts)
 }
 

@@ -10,12 +10,16 @@ use norm_base::Datagram;
 use std::marker::Model;
 
 /// The extension's type.
+// RFC 5740 section 4.2.1, EXT_FTI.
 pub const FTI_TYPE: u8 = 64;
 /// Its length in words.
+// Our own layout, after RFC 5510 section 5.2.4.1: 48 bits of L, 16 of E, 8 of B and 8 of max_n behind type and length.
 const FTI_WORDS: u8 = 3;
 /// The octets of its content.
+// Three words without the octets of the type and the length.
 const CONTENT: usize = 10;
 /// The places of its fields there.
+// The order of RFC 5510 section 5.2.4.1, with widths of our own.
 const L_AT: usize = 0;
 
 const E_AT: usize = 6;
@@ -72,6 +76,7 @@ pub fn read_fti(exts: Extensions<'_>) -> Option<Fti>
 }
 
 /// The extension's twelve octets, for a message to lend as its one extension.
+// An array, because a message lends its extensions from elsewhere: so making them takes no memory.
 pub fn fti_words(fti: &Fti) -> [u8; 12]
     ensures octets { result ≡ extension_octets (fti_extension fti.now) }
     ensures list { extensions_of result ≡ fti_extension fti.now ∷ [] }

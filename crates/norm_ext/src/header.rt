@@ -21,8 +21,10 @@ use crate::refusal::{ExtFault, Refusal};
 use norm_base::{InstanceId, NodeId};
 
 /// The version of NORM.
+// RFC 5740 section 4.1. A datagram of another version is refused.
 pub const VERSION: u8 = 1;
 /// The FEC Encoding ID of Reed-Solomon over GF(2^8) (RFC 5510).
+// RFC 5510 section 5. Any other code is refused by name.
 pub const ENCODING_ID: u8 = 5;
 
 /// The version, in octets that have a common header.
@@ -46,6 +48,7 @@ fn octet_or_zero(bytes: &[u8], at: usize) -> u8
 {
     match bytes.get(at) {
         Some(octet) => *octet,
+        // A command that is too short for a sub-type is refused all the same, by one of the two tests that come next.
         None => 0,
     }
 }

@@ -5,13 +5,15 @@ ghost use Rattle.norm_ext.specs.InstanceIds.{is_above, rise};
 
 use norm_base::{ID_COUNT, InstanceId};
 
-/// How far an id lies above another at most: less than half of all ids. Of ids that are further apart nobody can say which came first.
+/// How far an id lies above another at most: less than half of all ids.
+// Our own choice: half of all ids lie above each one, going round, as with sequence numbers. A restart beyond it is refused with `IdUsed`.
 pub const MOST_RISE: u32 = 32_767;
 
 /// Returns how far an id lies above another, going round.
 pub fn rise(from: InstanceId, id: InstanceId) -> u32
     ensures { result ≡ rise from id }
 {
+    // One round is added so that the difference has no sign.
     (ID_COUNT + u32::from(id.0) - u32::from(from.0)) % ID_COUNT
 }
 

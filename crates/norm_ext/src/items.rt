@@ -43,6 +43,7 @@ pub fn split_pair(items: &[u8]) -> Option<(Item, Item, &[u8])>
 }
 
 /// The symbol that an item names to a node that knows indices up to this one. `None` where the item names no index.
+// An id is read once, when it is heard: what it names depends on what its hearer knows at that moment.
 pub fn position_of(profile: &Profile, known: u32, item: Item) -> Option<Position>
     ensures { result ≡ item_named profile.now known item }
 {

@@ -108,6 +108,7 @@ impl Form {
 /// Flags, as they stand in their octets.
 pub mod flags {
     /// INFO and DATA: sent again.
+    // These six: NORM_FLAG_ of RFC 5740 section 4.2.1.
     pub const REPAIR: u8 = 0x01;
     /// INFO and DATA: asked for by its own name.
     pub const EXPLICIT: u8 = 0x02;
@@ -120,6 +121,7 @@ pub mod flags {
     /// INFO and DATA: the object is a stream.
     pub const STREAM: u8 = 0x20;
     /// A request: symbols.
+    // These four: NORM_NACK_ of RFC 5740 section 4.3.1.
     pub const WANT_SEGMENT: u8 = 0x01;
     /// A request: blocks.
     pub const WANT_BLOCK: u8 = 0x02;

@@ -7,10 +7,13 @@ ghost use Rattle.norm_ext.specs.ObjectIds.{object_id as id_of_index, index_named
 use norm_base::{ID_COUNT, Profile};
 
 /// So many ids there are.
+// RFC 5740 section 4.2.1: an object transport id has 16 bits.
 const ALL_IDS: u64 = ID_COUNT as u64;
 /// How far below what is known an id still names an index.
+// Our own choice: half of all ids name indices below what is known, half above. What lies further away would be taken for another object.
 const BELOW: u64 = 32_768;
 /// The greatest index of an object.
+// Our own choice: the index behind it still has 32 bits. An object more is refused with `IdsSpent`.
 pub const LAST_INDEX: u32 = 4_294_967_294;
 
 /// The id of an index, or of what would be one behind the last.

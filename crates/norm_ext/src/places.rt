@@ -1,13 +1,17 @@
 //! Where the fields of messages stand, and the least lengths of their headers (RFC 5740 section 4).
 
 /// The octets of a word, by which a header's length is counted.
+// RFC 5740 section 4.1: hdr_len counts words of 32 bits.
 pub const WORD: usize = 4;
 /// The octets of a node's id.
+// RFC 5740 section 4.1: a node id has 32 bits.
 pub const NODE: usize = 4;
 /// The octets of an object's transport id.
+// RFC 5740 section 4.2.1: an object transport id has 16 bits.
 pub const OBJECT: usize = 2;
 
 /// The place of the header's length.
+// From here to `COMMON_WORDS`: the common header of RFC 5740 section 4.1.
 pub const WORDS_AT: usize = 1;
 /// The place of the sequence number.
 pub const SEQUENCE_AT: usize = 2;
@@ -19,6 +23,7 @@ pub const COMMON: usize = 8;
 pub const COMMON_WORDS: u8 = 2;
 
 /// The place of the instance, but in feedback.
+// From here to `NAME_AT`: the sender's messages, RFC 5740 sections 4.2.1 to 4.2.3. An acknowledgement's type and id stand among them.
 pub const INSTANCE_AT: usize = 8;
 /// The place of the round trip time.
 pub const GRTT_AT: usize = 10;
@@ -41,11 +46,14 @@ pub const ACK_ID_AT: usize = 15;
 /// The place of a symbol's name.
 pub const NAME_AT: usize = 16;
 /// The place of the sender in feedback.
+// From here on feedback, in a layout of our own after RFC 5740 sections 4.3.1 and 4.3.2: it names the sender that it is for, and then that
+// sender's instance.
 pub const SENDER_AT: usize = 8;
 /// The place of the instance in feedback.
 pub const FEEDBACK_INSTANCE_AT: usize = 12;
 
 /// The words of an INFO's header without extensions, and its octets.
+// A header that says fewer words is refused, so each field of a message can be read without a further look at its length.
 pub const INFO_WORDS: u8 = 4;
 
 pub const INFO: usize = 16;
@@ -62,15 +70,18 @@ pub const NAMING_WORDS: u8 = 5;
 
 pub const NAMING: usize = 20;
 /// The words of the header of feedback without extensions, and its octets.
+// Both kinds of feedback end with the RFC's time stamp of two words. Without congestion control it stays 0.
 pub const FEEDBACK_WORDS: u8 = 6;
 
 pub const FEEDBACK: usize = 24;
 
 /// The octets of a request before its items, and the place of their length there.
+// After RFC 5740 section 4.3.1: form, flags and 16 bits of length.
 pub const REQUEST: usize = 4;
 
 pub const ITEMS_LENGTH_AT: usize = 2;
 /// The octets of an item, and the places of its object's transport id and of its symbol's name there.
+// After RFC 5740 section 4.3.1: the encoding id, a reserved octet, the object and the payload id of RFC 5510 section 5.1.
 pub const ITEM: usize = 8;
 
 pub const ITEM_OBJECT_AT: usize = 2;

@@ -14,6 +14,7 @@ use crate::refusal::Refusal;
 use std::marker::Model;
 
 /// A request: its form, its flags, and the octets of its items.
+// The items stay octets, with their reserved ones, since a list of requests is written as it is lent.
 #[derive(Clone, Copy, Debug)]
 pub struct Request<'a> {
     pub form: Form,
@@ -153,6 +154,7 @@ fn cut_first(list: &[u8]) -> Option<(Request<'_>, &[u8])>
     if list.is_empty() {
         return None;
     }
+    // Never `None`: the list was checked, and a form that does not exist is refused there.
     let form = Form::of(list[0])?;
     let flags = list[1];
     let (first, rest) = list.split_at(REQUEST + usize::from(read_16(list, ITEMS_LENGTH_AT)));

@@ -21,8 +21,10 @@ use norm_base::Datagram;
 use std::marker::Model;
 
 /// The octets of a request before its items.
+// `places::REQUEST` in 16 bits, as a request's length has.
 const FRONT: u16 = places::REQUEST as u16;
 /// The octets of an item.
+// `places::ITEM` in 16 bits.
 const ITEM: u16 = places::ITEM as u16;
 
 /// A writer of requests behind what a datagram has. `new`, then `push_item` for each item or range, on one datagram that
@@ -115,6 +117,7 @@ impl RequestWriter {
             out.new ≡ take at out.old ++ big_bytes 2 (self.old.len + items) ++ drop (at + 2) out.old }
         ensures writer { self.new ≡ record self.old { used = self.old.used + items; len = self.old.len + items } }
     {
+        // The length stands right before the items, and the last request ends the datagram.
         let at = out.bytes().len() - (2 + usize::from(self.len));
         self.len += items;
         self.used += items;
@@ -139,6 +142,7 @@ impl RequestWriter {
 
     /// Adds an item, or a range by its two ends; the limit's octets, less those of the requests so far, must have room.
     /// `false` exactly where the requests would pass the limit, and nothing is changed then.
+    // Proof: it asks for numbers alone: if the datagram stands for a list of requests, it stands for one more. No list is kept.
     pub fn push_item(
         &mut self,
         out: &mut Datagram,
@@ -164,6 +168,7 @@ impl RequestWriter {
         let items = ends_len(&last);
         let joins = self.joins(form, flags);
         let more = if joins { items } else { FRONT + items };
+        // Tested before anything is written: a need that does not fit must leave the NACK as it is.
         if self.limit - self.used < more {
             return false;
         }

@@ -87,6 +87,7 @@ pub fn read_ack(bytes: &[u8]) -> Result<AckMsg<'_>, Refusal>
     let end = check_header(MessageType::Ack, bytes)?;
     let exts = check_extensions(bytes, FEEDBACK, end)?;
     let content = bytes.split_at(end).1;
+    // Two looks at the content, because the order of refusals is that of `Refusal`: the encoding before the members, the length after them.
     check_ack_encoding(bytes[ACK_TYPE_AT], end, content)?;
     let source = check_source(bytes)?;
     let sender = check_member(read_32(bytes, SENDER_AT))?;

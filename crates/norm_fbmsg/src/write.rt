@@ -33,6 +33,7 @@ fn write_nack_parts(msg: &NackMsg<'_>, exts: &[u8], requests: &[u8], out: &mut D
     );
     push_node(msg.sender, out);
     push_instance(msg.instance, out);
+    // Two reserved octets and the time stamp of RFC 5740 section 4.3.1. Without congestion control nobody reads it.
     out.push(&[0; 10]);
     out.push(exts);
     out.push(requests);
@@ -80,6 +81,7 @@ fn write_ack_parts(msg: &AckMsg<'_>, exts: &[u8], out: &mut Datagram)
     push_node(msg.sender, out);
     push_instance(msg.instance, out);
     out.push(&[msg.ack_type, msg.ack_id]);
+    // The time stamp, as in a NACK.
     out.push(&[0; 8]);
     out.push(exts);
     push_body(&msg.body, out);

@@ -36,6 +36,8 @@ fn has_name_octets(name: &[u8]) -> bool
 fn is_file_name(name: &[u8]) -> bool
     ensures { result ≡ is_file_name name.now }
 {
+    // The names of scripts, and nothing else: a name with a slash or a leading dot could lead out of the folder. A symbolic link in it is the
+    // user's own, and is followed.
     if name.is_empty() || name.len() > 64 || name[0] == b'.' {
         return false;
     }
@@ -57,6 +59,7 @@ fn path_beside(alloc: Global, folder: &str, name: &str) -> Result<String, AllocE
     ensures { IfOk result (λ path. string_bytes path ≡ path_beside folder.now name.now) }
 {
     let mut path = String::from_str(alloc, folder)?;
+    // Beside the file and not elsewhere, so that the rename stays within one file system and happens at once.
     path.push_str("/.")?;
     path.push_str(name)?;
     path.push_str(".part")?;
@@ -72,6 +75,7 @@ pub(crate) fn length_in(metadata: &Metadata) -> io::Result<u64>
     if metadata.is_file() {
         return Ok(metadata.len());
     }
+    // A device or a pipe has no length, and a read of it may never end.
     Err(io::Error::from(ErrorKind::IsADirectory))
 }
 
@@ -94,6 +98,7 @@ fn fault_of(error: &io::Error) -> FileFault
 }
 
 /// The most octets of a file that are read ahead: a file that is sent is asked for a symbol at a time.
+// Our own choice, 256 KiB: a file is asked for a symbol at a time, and opened, measured and read anew each time without this.
 const AHEAD: usize = 262_144;
 
 /// Octets of a file that were read ahead, from an offset on.
@@ -127,6 +132,8 @@ impl Ahead {
 }
 
 /// How often in a row a file's length is answered as the system said it: while a file's command waits, its length is asked for in each turn.
+// Our own choice. A file that changes while its command waits is offered with its old length 64 times at most: one that grew is then cut there,
+// and one that shrank is a fault.
 const AS_SAID: u32 = 64;
 
 /// A file's length as the system said it, and how often it may be answered once more.
@@ -195,6 +202,8 @@ impl<F: fs::Files + Drop> FolderFiles<F> {
     /// # Errors
     ///
     /// `Memory` where memory runs out.
+    // The program's one function is over files by name, and a path as the shell gives it is no such name. So it is told here before the program
+    // runs.
     pub fn tell(&mut self, path: &str) -> Result<(), Memory>
         ensures told { OnOk result (told_to self.new ≡ Some path.now) }
         ensures kept { OnErr result (told_to self.new ≡ told_to self.old) }
@@ -213,6 +222,8 @@ impl<F: fs::Files + Drop> FolderFiles<F> {
         ensures folder { folder_of self.new ≡ folder_of self.old }
         ensures uncounted { ⟦<FolderFiles<F> as Files>⟧.fault_count self.new ≡ ⟦<FolderFiles<F> as Files>⟧.fault_count self.old }
     {
+        // If the number cannot be kept, nothing is sent: the next send could draw it again, and its receivers would confirm what they do not have.
+        // As a fault of files it ends the program by a way that is proved already.
         self.stopped = Some(fault);
     }
 
@@ -372,6 +383,7 @@ impl<F: fs::Files + Drop> FolderFiles<F> {
             done = fs::rename(&self.files, beside.as_str(), path);
         }
         if done.is_err() {
+            // It may not be there. What counts is why the write failed.
             let _ = fs::remove_file(&self.files, beside.as_str());
         }
         done
@@ -381,6 +393,7 @@ impl<F: fs::Files + Drop> FolderFiles<F> {
     fn write_of(&self, name: &str, bytes: &[u8]) -> io::Result<()> {
         let path = self.path(name)?;
         if let Err(error) = self.plain_length(path.as_str()) {
+            // A folder or a device of this name is not replaced.
             if fault_of(&error) == FileFault::Failed {
                 return Err(error);
             }
@@ -437,6 +450,7 @@ impl<F: fs::Files + Drop> Files for FolderFiles<F> {
         if self.fails() {
             return Err(FileFault::Failed);
         }
+        // A length is asked before a file is read, so what comes next may be another file, or this one after it changed.
         self.ahead = None;
         if let Some(length) = self.said_again(name) {
             return Ok(length);

@@ -34,6 +34,7 @@ fn begin<R: Net + Wait + Clock + Drop>(
     ensures passed { passed_by udp.new ≡ 0 }
     ensures misfit { misfit_by udp.new ≡ None }
 {
+    // Whatever network comes next: the sockets of a run before would keep their ports.
     udp.close();
     match profile.fabric {
         FabricKind::Direct => direct.start(profile, *local),
@@ -178,9 +179,11 @@ impl<R: Net + Wait + Clock + Drop> Fabric for HostFabric<R> {
         ensures err { OnErr result (host_told self.new ≡ host_told self.old) }
         ensures cause { Counts self.old.faults self.new.faults (network_failed result) }
     {
+        // No other process can join a network in memory. The node would run alone and end with status 0.
         if is_within(profile, &local) {
             return self.refuse(profile.fabric);
         }
+        // Before the network starts: what is started has to be kept, and that may then not fail.
         if self.starts.reserve(1).is_err() {
             return Err(FabricFault::Memory);
         }
@@ -195,6 +198,7 @@ impl<R: Net + Wait + Clock + Drop> Fabric for HostFabric<R> {
             return self.answer(Err(fault));
         }
         self.kind = profile.fabric;
+        // It does not fail: the room was taken before.
         self.starts.push((*profile, local)).unwrap();
         Ok(())
     }

@@ -18,9 +18,11 @@ use std::os::unix::fs::{DirBuilderExt, OpenOptionsExt};
 use std::rt::Env;
 
 /// One octet more than the longest line of a number has: so a longer file is seen to be longer.
+// A number of 16 bits has five digits and a line feed. A file that fills this is no line of one.
 const ROOM: usize = 7;
 
 /// Who may use the folder, and a file in it: its user alone.
+// Our own choice: nobody else should be able to set a user's next instance.
 const FOLDER_MODE: u32 = 0o700;
 
 const FILE_MODE: u32 = 0o600;
@@ -42,6 +44,7 @@ fn below(path: Option<String>, name: &str) -> Result<Option<String>, AllocError>
     let Some(mut path) = path else {
         return Ok(None);
     };
+    // The XDG specification says that a relative path is to be ignored.
     if !is_absolute(path.as_bytes()) {
         return Ok(None);
     }
@@ -92,6 +95,7 @@ fn to_write() -> OpenOptions {
 /// Waits until what was done in a folder outlives a power cut. A file system that has no such call is left as it is.
 fn sync_folder(folder: &File) -> io::Result<()> {
     match folder.sync_all() {
+        // There is nothing to wait for then, and refusing to send would help nobody.
         Err(error) if error.kind() == ErrorKind::InvalidInput => Ok(()),
         done => done,
     }
@@ -200,6 +204,7 @@ impl<R: fs::Files<File = File> + Drop> InstanceFile<R> {
         how.truncate(true);
         let mut file = how.open(&self.rt, self.beside.as_str())?;
         file.write_all(line.as_bytes())?;
+        // Before the rename: after a power cut the name must not lead to a file without its number.
         file.sync_all()?;
         fs::rename(&self.rt, self.beside.as_str(), self.path.as_str())?;
         sync_folder(&fs::open(&self.rt, self.folder.as_str())?)
@@ -213,6 +218,7 @@ impl<R: fs::Files<File = File> + Drop> InstanceFile<R> {
     pub fn draw(&self, minute: InstanceId) -> io::Result<InstanceId>
         ensures { IfOk result (λ instance. (last : Option ℕ) × (IfSome last (λ n. n < id_count)) × (instance ≡ next_instance last minute)) }
     {
+        // Held until the number is written: two sends at once would otherwise read the same last one.
         let _lock = self.locked()?;
         let last = self.last()?;
         let instance = next_instance(last, minute);
@@ -229,6 +235,8 @@ impl<R: fs::Files<File = File> + Drop> InstanceFile<R> {
         ensures { IfOk result (λ passed. (last : Option ℕ) × (IfSome last (λ n. n < id_count)) × (passed ≡ passed_by last instance)) }
     {
         let _lock = self.locked()?;
+        // One that is not above is used all the same, with a warning: whoever gives it may have started all receivers anew. The last one stays, so
+        // that later numbers are above those that were used.
         match passed_by(self.last()?, instance) {
             Some(last) => Ok(Some(last)),
             None => {

@@ -13,6 +13,7 @@ use std::str;
 use std::time::Duration;
 
 /// The minute since 1970, going round as instance ids do.
+// Minutes go round in 45 days, so a receiver may miss every send of 22 days. Seconds would go round in 18 hours.
 pub fn minute_at(since_1970: Duration) -> InstanceId
     ensures { result ≡ minute_at (as_nanos since_1970) }
 {
@@ -44,6 +45,8 @@ fn id_after(id: InstanceId) -> InstanceId
 
 /// The instance that a send takes in this minute, after the last one that was taken, if one was. It lies above that
 /// ([`next_is_above`](crate::laws::next_is_above)).
+// By the minute and a kept number. The minute alone would be shared by two sends within it, and falls with the clock. A number alone begins anew
+// if its folder is lost, and may then be one that receivers had.
 pub fn next_instance(last: Option<InstanceId>, minute: InstanceId) -> InstanceId
     ensures { result ≡ next_instance last minute }
 {
@@ -76,6 +79,7 @@ fn number_of(digits: &str) -> Option<InstanceId>
         return None;
     };
     let mut buffer = Buffer::new();
+    // The standard parse takes a sign and leading zeros. What is not the line that `number_line` makes was written by something else.
     if buffer.format(number) == digits {
         return Some(InstanceId(number));
     }

@@ -4,6 +4,8 @@
 mod folder;
 mod folder_cause;
 mod host_clock;
+// Sockets are in norm_udp and are not published again here: the program meets them through `HostFabric`, and a change of a file's or a stream's
+// adapter proves nothing of them again.
 mod host_fabric;
 mod instance_fault;
 mod instance_file;

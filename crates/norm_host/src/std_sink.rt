@@ -58,6 +58,7 @@ impl<W: Write> Sink for StdSink<W> {
             self.keep(error);
             return Err(Failed);
         }
+        // At each line, so that whoever reads the output along sees it, and a fault is told at the line that it is of.
         if let Err(error) = self.writer.flush() {
             self.keep(error);
             return Err(Failed);

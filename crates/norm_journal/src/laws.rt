@@ -47,6 +47,7 @@ pub fn moves_the_world()
 
 /// Where the takes of a journal are honest, its events are an honest run of the nodes' world, of no more accepted commands than the
 /// script has.
+// Proof: a predicate on whatever the judge answers, with lemmas for None, a value, a test and a step.
 #[tactic(auto, using(crate::proofs::LawfulLemmas::begins_honestly))]
 pub fn begins_honestly()
     ensures { BeginsHonestly }
@@ -59,6 +60,7 @@ pub fn begins_lawfully()
 {}
 
 /// A sender goes by a file's name and its length alone.
+// Proof: files are told with zeros of their length, so the rules need no second function by lengths.
 #[tactic(auto, using(crate::proofs::LengthLemmas::files_by_length))]
 pub fn files_go_by_length()
     ensures { FilesGoByLength }
@@ -112,6 +114,7 @@ pub fn goes_on()
 {}
 
 /// In a script each command has a name of its own.
+// Proof: that a name stands once is a count, so a line from the middle of a list is arithmetic.
 pub fn scripts_name_once()
     ensures { ScriptsNameOnce }
 {}
@@ -122,12 +125,14 @@ pub fn ends_last()
 {}
 
 /// The judge accepts an event with a state exactly where the event may come, and leads there.
+// Proof: relation and judge are one record of both directions (Exactly); as an abbrev it left P undetermined.
 #[tactic(auto, using(crate::proofs::FollowLemmas::judges_what_follows))]
 pub fn judges_what_follows()
     ensures { JudgesWhatFollows }
 {}
 
 /// Two events that print one line say the same.
+// Proof: a reader of words that only the proof has needs a case for each line, not for each pair.
 pub fn lines_read_back()
     ensures { LinesReadBack }
 {}

@@ -164,6 +164,7 @@ fn quorum_of(verb: &Verb) -> Option<u32>
 }
 
 /// The line of what a command did.
+// It goes by the script's line and not by the job: what an object is, and a quorum, stand there, so a command that waits keeps its line alone.
 fn receipt_line(
     text: &mut Line,
     by: Origin,

@@ -12,6 +12,7 @@ use norm_text::Line;
 use std::alloc::AllocError;
 
 /// Whether so many more make a count of 64 bits.
+// Asked before each sum, because the counts are exact: one that went round would be a false summary.
 fn fits(count: u64, more: u64) -> bool
     ensures { Decides result (count + more < 2 ^ 64) }
 {

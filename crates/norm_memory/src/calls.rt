@@ -38,6 +38,7 @@ impl CallCount {
     pub(crate) fn next_fails(&self) -> bool
         ensures { result ≡ next_fails self.now }
     {
+        // Numbers from 1, so that a test names a call as it counts them.
         self.failing.contains(&self.made.saturating_add(1))
     }
 

@@ -36,6 +36,7 @@ fn draw(draws: &mut Lcg64Xsh32) -> u32
 fn fate_by_word(profile: &Profile, word: u32) -> Fate
     ensures { result ≡ fate_by_word profile.now word }
 {
+    // One word for three choices, by digits of it that do not overlap: so each copy takes one draw, whatever becomes of it.
     if word % 1000 < u32::from(profile.loss) {
         return Fate {
             copies: 0,
@@ -131,6 +132,7 @@ impl Fabric for ChanceFabric {
         ensures kept { OnErr result (self.new ≡ self.old) }
         ensures fault { IfErr result (λ e. e ≡ FabricFault.Memory) }
     {
+        // A copy, put back once the offer is kept: want of memory must not leave the draws ahead of the offers.
         let mut draws = self.draws.clone()?;
         let network = &mut self.network;
         let plan = plan_by_chance(

@@ -20,6 +20,7 @@ pub struct WaitingCopy {
     pub to: NodeId,
 }
 
+// The other way round than the order of takes, since a heap gives its greatest first.
 impl Ord for WaitingCopy {
     ghost cmp = { flip_args (then_cmp (on (λ c. c.ready) nat_cmp) (then_cmp (on (λ c. c.offer) nat_cmp) (on (λ c. c.to) nat_cmp))) };
 

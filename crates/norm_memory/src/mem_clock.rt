@@ -9,6 +9,7 @@ use norm_base::{Clock, Moment};
 use std::marker::Model;
 
 /// Gives the moments of a list, after them its last one again, and 0 where the list is empty.
+// It counts the questions and keeps no list of what it answered: a list needs memory, and `now` has no answer for want of it.
 #[derive(Debug, Drop)]
 pub struct MemClock {
     moments: Vec<Moment>,
@@ -55,6 +56,7 @@ impl Clock for MemClock {
         ensures told { GainsWhereTold (told_moments self.old) (told_moments self.new) result }
     {
         let moment = self.next_moment();
+        // After 2^64 questions the clock gives its last moment, as it did long before.
         self.asked = self.asked.saturating_add(1);
         moment
     }

@@ -47,6 +47,7 @@ fn put_in(
     ensures ok { OnOk result (named files.new.items ≡ put_in (named files.old.items) name.now bytes.now) }
     ensures err { OnErr result (files.new.items ≡ files.old.items) }
 {
+    // Before anything changes: without memory the file stays as it was.
     let octets = Vec::from_slice(alloc, bytes)?;
     let place = place_of(files, name);
     if place < files.len() {
@@ -166,6 +167,7 @@ impl Files for MemFiles {
                 self.calls.pass();
                 Ok(())
             }
+            // `put` has no answer for want of memory, so it counts as a failed call. Else a call fails only if its number is listed.
             Err(_) => {
                 self.calls.fail();
                 Err(Failed)

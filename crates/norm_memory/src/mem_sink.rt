@@ -63,6 +63,7 @@ impl MemSink {
     {
         self.octets.reserve(bytes.len())?;
         self.stops.push(self.octets.len() + bytes.len())?;
+        // It does not fail: room was taken before. In this order a call without memory leaves the octets and the pieces as they were.
         self.octets.extend_from_slice(bytes).unwrap();
         Ok(())
     }
@@ -85,6 +86,8 @@ impl Sink for MemSink {
             self.calls.fail();
             return Err(Failed);
         }
+        // `write` has no answer for want of memory, so it counts as a failed call. Nothing was written then, and an empty front is no piece: a
+        // list of pieces that grows without end would need memory too.
         if self.add(bytes).is_err() {
             self.calls.fail();
             return Err(Failed);

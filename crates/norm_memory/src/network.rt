@@ -20,6 +20,7 @@ fn session_members(alloc: Global, profile: &Profile) -> Result<Vec<NodeId>, Allo
     ensures { IfOk result (λ members. members.items ≡ members_of profile.now) }
 {
     let mut members = Vec::new(alloc);
+    // A profile's sender is a node, so this does not fail.
     members.push(NodeId::of(profile.sender).unwrap())?;
     for i in 0..u32::from(profile.receivers) {
         members.push(profile.receiver(i))?;
@@ -64,6 +65,7 @@ fn planned_copies(
 
 /// The members of a session, their datagrams, the answers that were given, each as its member and the
 /// place of its offer, and the copies that wait.
+// An answer is a member and the place of its offer, so the octets of all offers stand once.
 #[derive(Debug, Drop)]
 pub(crate) struct MemNetwork {
     alloc: Global,
@@ -123,6 +125,7 @@ impl MemNetwork {
         ensures ok { OnOk result (self.new ≡ started self.old profile.now local) }
         ensures err { OnErr result (self.new ≡ self.old) }
     {
+        // Both takes of memory before the first change, so that a failed start leaves the session before as it was.
         let members = session_members(self.alloc, profile)?;
         self.starts.push((*profile, local))?;
         self.members = members;
@@ -145,6 +148,7 @@ impl MemNetwork {
         ensures err { OnErr result (self.new ≡ self.old) }
     {
         let copies = planned_copies(self.alloc, self.offers.len(), plan)?;
+        // All memory before the offer is kept: an offer without its copies would be one that the network lost for want of memory.
         self.waiting.reserve(copies.len())?;
         self.offers.push(from, bytes)?;
         self.waiting.put(copies);
@@ -175,6 +179,7 @@ impl MemNetwork {
             self.answers.push(None)?;
             return Ok(None);
         };
+        // Before the copy leaves the heap: without memory the take did nothing, and the copy is still there.
         self.answers.push(Some((copy.to, copy.offer)))?;
         into.push(self.offers.bytes(copy.offer));
         self.waiting.take_first();

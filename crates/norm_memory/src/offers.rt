@@ -16,6 +16,7 @@ struct Offer {
 }
 
 /// Datagrams of at most 1,500 octets with the members that offered them. The octets stand in one row.
+// One row in place of a vector for each, so that an offer takes memory only as the row grows.
 #[derive(Debug, Drop)]
 pub(crate) struct Offers {
     octets: Vec<u8>,
@@ -81,6 +82,7 @@ impl Offers {
         let start = self.octets.len();
         let stop = start + bytes.len();
         self.offers.push(Offer { from, start, stop })?;
+        // It does not fail: the room was reserved before the offer was noted.
         self.octets.extend_from_slice(bytes).unwrap();
         Ok(())
     }

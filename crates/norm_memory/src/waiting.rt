@@ -14,6 +14,7 @@ pub(crate) struct Waiting {
     heap: BinaryHeap<WaitingCopy>,
 }
 
+// Proof: clauses see the copies in the order of takes. The heap stands for that list because std gives equal sums of every function over both.
 impl Model for Waiting {
     ghost use Rattle.std.specs.Prelude.{◌-◌};
     ghost use Rattle.std.specs.BinaryHeap.{heap_items, heap_len, heap_capacity, IsHeap};
@@ -66,6 +67,7 @@ impl Waiting {
         ensures { self.new.copies ≡ put_copies copies.items self.old.copies }
     {
         let mut fresh = BinaryHeap::from(copies);
+        // It does not fail: `reserve` was called for as many copies.
         self.heap.append(&mut fresh).unwrap();
     }
 

@@ -66,6 +66,7 @@ impl<'a> DataMsg<'a> {
 }
 
 /// The payload of a stream's symbol: a segment and where it stands.
+// The order (norm_order) has a definition of its own for a segment's octets, because it does not stand on the messages.
 #[derive(Clone, Copy, Debug, PartialEq, Eq)]
 pub struct StreamPart<'a> {
     /// The length that the payload says.

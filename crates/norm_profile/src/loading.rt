@@ -11,6 +11,7 @@ use norm_base::{FileFault, Files, Memory, Profile};
 use std::alloc::{AllocError, Global};
 
 /// The octets of a piece.
+// Our own choice: a profile has a few hundred octets, so one read mostly gives all of it.
 const PIECE: usize = 4_096;
 
 /// Why a file gives no profile.
@@ -134,6 +135,7 @@ pub fn load_document<D: Files>(
     ensures cause { FileCause result (D.fault_count files.old) (D.fault_count files.new) }
 {
     let len = length_of(files, name)?;
+    // Before the first read, so that a wrong path costs no memory.
     if len > MOST_OCTETS as u64 {
         return Err(LoadFault::Refused {
             why: ProfileRefusal::TooLong,

@@ -14,6 +14,7 @@ use std::str;
 use toml::{Table, Value};
 
 /// The most octets of a profile.
+// Our own choice, far more than 26 keys need. A longer file is refused with `TooLong`, unread.
 pub(crate) const MOST_OCTETS: usize = 65_536;
 
 /// A whole number as a key's value.
@@ -75,6 +76,7 @@ fn given_in(alloc: Global, table: &Table) -> Result<Result<Given, ProfileRefusal
 {
     let mut given = Given::new();
     for (name, value) in table.iter() {
+        // A key that is misspelt would otherwise leave its default in force, and nobody would be told.
         let Some(key) = Key::named(name.as_bytes()) else {
             return Ok(Err(no_key(alloc, name)?));
         };
@@ -149,6 +151,7 @@ pub fn read_text(alloc: Global, text: &str) -> Result<Result<Document, ProfileRe
     }
     match toml::table_from_str(alloc, text) {
         Ok(table) => document_of(alloc, &table),
+        // Want of memory says nothing about the document, so it is no refusal.
         Err(error) if error.is_memory() => Err(Memory),
         Err(_) => Ok(Err(ProfileRefusal::NoDocument)),
     }

@@ -115,6 +115,7 @@ pub(crate) struct Reason<'a> {
     pub words: &'a [String],
 }
 
+// Proof: a value that prints itself takes no memory, so want of memory can be said too.
 impl fmt::Display for Reason<'_> {
     ghost output = { λ r. reason_of r.ending.now (map string_bytes r.words.now) };
 

@@ -16,6 +16,7 @@ pub fn hand_ups()
 {}
 
 /// Nothing is needed exactly where nothing is missing of what the sender is past.
+// Proof: a lazy list is empty by is_nil, with one combinator for each way to build it.
 #[tactic(auto, using(crate::proofs::NeedLemmas::needs_laws))]
 pub fn needs()
     ensures { NeedsLaws }
@@ -40,6 +41,7 @@ pub fn beside()
 {}
 
 /// Of a stream each block before the hand-up point's is done, and nothing before it in its block is an end.
+// Proof: a test that refuses what is joined finds what it found before.
 #[tactic(auto, using(crate::proofs::PassedLemmas::passed_laws))]
 pub fn passed()
     ensures { PassedLaws }
@@ -83,6 +85,7 @@ pub fn nacks()
 {}
 
 /// Handing up goes as far as it can: after each step nothing more can be handed up.
+// Proof: what is left is counted, and each round takes one at least, so the end of the bound is the end of the rounds.
 #[tactic(auto, using(crate::proofs::FarLemmas::far_laws))]
 pub fn far()
     ensures { FarLaws }

@@ -126,6 +126,7 @@ impl Parts {
                 };
                 self.deliver_said(&command_naming(head, *object), &said, now, draw)
             }
+            // This sender never says so, because members hear each other. It is heeded, since others may.
             CommandMsg::RepairAdv { head, requests, .. } => self.hear_adv(head, requests),
             _ => Ok(()),
         }
@@ -160,6 +161,7 @@ impl Parts {
     {
         match decode(bytes) {
             Ok(msg) => self.deliver_message(&msg, now, draw),
+            // A member may send any octets, so this is no fault of the run.
             Err(_) => Ok(()),
         }
     }

@@ -28,6 +28,7 @@ pub(crate) struct Naming {
 
 impl Parts {
     /// What a receiver is as an instance begins, beside what it is now.
+    // A whole new state beside the old one, because the message that begins an instance may want memory. If it does, this one stays as it was.
     fn entering(&self, instance: InstanceId) -> Result<Parts, Memory>
         ensures profile { IfOk result (λ next. next.profile ≡ self.now.profile) }
         ensures state { IfOk result (λ next. (s : ReceiverState) → Stands (kept_of self.now) s → Stands (kept_of next) (enters instance s)) }
@@ -60,6 +61,7 @@ impl Parts {
         if self.needs_nothing() {
             return;
         }
+        // What was heard before says nothing of what others ask for during this back-off.
         self.heard.clear();
         self.numbers = self.numbers.backing_off(&self.profile, now, draw);
     }
@@ -118,11 +120,13 @@ impl Parts {
             → Stands (kept_of self.new) (unwrap_or (takes_in self.old.profile now draw naming.now.object (said_received self.old.profile said.now) (enters naming.now.instance s)) s)) }
         ensures refused { OnErr result ((s : ReceiverState) → Stands (kept_of self.old) s → Stands (kept_of self.new) s) }
     {
+        // Of a new instance no index is known yet, so its ids are read from 0 on.
         let Some(index) = index_named(&self.profile, 0, naming.object) else {
             return Ok(());
         };
         let mut next = self.entering(naming.instance)?;
         next.take_in_at(index, said, now, draw)?;
+        // The only change, once nothing can fail any more.
         *self = next;
         Ok(())
     }
@@ -143,6 +147,7 @@ impl Parts {
         ensures refused { OnErr result ((s : ReceiverState) → Stands (kept_of self.old) s → Stands (kept_of self.new) s) }
         ensures wanted { OnErr result ((s : ReceiverState) → Stands (kept_of self.old) s → comes_in self.old.profile s naming.now.source naming.now.instance ≡ true) }
     {
+        // Only the profile's sender makes objects. From anybody else the same octets could squelch what it sends.
         if naming.source.number() != self.profile.sender {
             return Ok(());
         }

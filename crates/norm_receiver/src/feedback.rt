@@ -19,6 +19,7 @@ impl Numbers {
     {
         match self.instance {
             Some(instance) => instance,
+            // Not written: without an instance nothing is due and nothing is needed.
             None => InstanceId(0),
         }
     }
@@ -33,9 +34,11 @@ pub(crate) fn write_mark(profile: &Profile, numbers: &Numbers, at: FlushPlace, o
         &AckMsg {
             source: numbers.node,
             sequence: numbers.sequence,
+            // It does not fail: a profile's sender is a node.
             sender: NodeId::of(profile.sender).unwrap(),
             instance: numbers.instance_id(),
             ack_type: FLUSH_ACK,
+            // RFC 5740 section 4.3.2: it answers the ack_id of an ACK_REQ, and a flush has none.
             ack_id: 0,
             exts: &[],
             body: AckBody::Mark(item_of(profile, at.position())),

@@ -26,10 +26,14 @@ impl Parts {
         ensures refused { OnErr result ((s : ReceiverState) → Stands (kept_of self.old) s → Stands (kept_of self.new) s) }
         ensures wanted { OnErr result ((s : ReceiverState) → Stands (kept_of self.old) s → is_hearing s ≡ true) }
     {
+        // Outside of a back-off there is no NACK to suppress. So what others send takes no memory most of the time.
         if self.numbers.backoff.is_none() {
             return Ok(());
         }
         let requests = requests_in(requests);
+        // Heard as a whole or not at all, and kept merged: spans that share no position, and the greatest count of each block. Without a bound a
+        // member that lies could have a receiver keep some 184 items more for each datagram; if too much were an error, thirty datagrams would end
+        // the receiver. A message that is passed over costs a request that others made too.
         hear_requests(
             &mut self.heard,
             &mut self.asked,
@@ -47,6 +51,7 @@ impl Parts {
         ensures refused { OnErr result ((s : ReceiverState) → Stands (kept_of self.old) s → Stands (kept_of self.new) s) }
         ensures wanted { OnErr result ((s : ReceiverState) → Stands (kept_of self.old) s → nack_wants self.old.profile msg.now s ≡ true) }
     {
+        // A network may give a NACK back to who sent it. It must not suppress itself.
         if msg.source == self.numbers.node {
             return Ok(());
         }

@@ -122,6 +122,7 @@ impl Parts {
             → IfSome (plan_of s.holding index) (λ found. IsAt self.now.profile (is_heard s.knows.heard s.holding) asking.new out.new front
             (walk_on self.now.profile (counts_from s.holding found due 0) w)) }
     {
+        // From one short block to the next: an object may have 262,144 blocks, most of them done.
         let mut short = self.hold.first_short(index);
         while let Some(block) = short {
             if block >= due {
@@ -165,6 +166,7 @@ impl Parts {
             self.ask_unknown(index, covered, asking, out);
             return;
         };
+        // Not taken: what has flags has a plan.
         let Some(plan) = self.hold.plan(index) else {
             return;
         };
@@ -207,6 +209,7 @@ impl Parts {
         write_nack_front(&self.profile, &self.numbers, out);
         let mut asking = Asking::new(&self.profile);
         self.ask_all(&mut asking, out);
+        // RFC 5401 section 3.2.2: others asked for all of it, and the sender repeats each symbol for everybody.
         if asking.all_heard {
             return Asks::Heard;
         }

@@ -106,6 +106,7 @@ impl Numbers {
     {
         Numbers {
             instance: Some(instance),
+            // The sequence number is this node's and not the sender's, so it goes on across instances.
             sequence: self.sequence,
             ..Numbers::new(self.node)
         }
@@ -178,6 +179,8 @@ impl Numbers {
     pub(crate) fn backing_off(&self, profile: &Profile, now: Moment, draw: u32) -> Numbers
         ensures { result ≡ record self.now { backoff = Some (moment_after now (draw % (profile.now.k * profile.now.grtt + 1))) } }
     {
+        // Uniform over K round trips, by a draw that is handed in: our own choice. RFC 5401 section 3.2.2 has a truncated exponential for large
+        // groups.
         let most = u64::from(profile.k) * u64::from(profile.grtt) + 1;
         Numbers {
             backoff: Some(moment_after(now, u64::from(draw) % most)),
@@ -209,6 +212,7 @@ impl Numbers {
     pub(crate) fn holding_off(&self, profile: &Profile, now: Moment) -> Numbers
         ensures { result ≡ record self.now { holdoff = moment_after now ((profile.now.k + 2) * profile.now.grtt) } }
     {
+        // One round trip more than the sender's round of K + 1: only then what was asked for can have come.
         let span = (u64::from(profile.k) + 2) * u64::from(profile.grtt);
         Numbers {
             holdoff: moment_after(now, span),

@@ -7,9 +7,11 @@ use rx_hold::Hold;
 
 /// The parts of a receiver, under one profile: what it holds, what it heard others ask for, and its numbers; and the room in
 /// which requests are read.
+// `asked` is room in which a message is read before it is heard. It stands here so that a message costs no new memory once the room is there.
 #[derive(Debug, Drop)]
 pub(crate) struct Parts {
     pub profile: Profile,
+    // What is held and what is known are two records of the rules, and two fields here. Both are swapped whole as an instance begins.
     pub hold: Hold,
     pub heard: Heard,
     pub numbers: Numbers,

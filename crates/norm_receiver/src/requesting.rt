@@ -103,6 +103,7 @@ pub(crate) fn ask(
             let item = item_of(profile, at);
             writer.push_item(out, Form::Items, WANT_SEGMENT, item, None)
         }
+        // The end of the stream is not known, so the range goes to the last block that a message can name.
         Need::Rest { index, block } => {
             let first = item_of(profile, first_in(index, block));
             let last = item_of(profile, first_in(index, LAST_BLOCK));

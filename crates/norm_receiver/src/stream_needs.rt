@@ -85,6 +85,7 @@ fn block_seen(hold: &Hold, index: u32) -> u32
     ensures seen { (s : Holding) → HoldStands hold.now s → HasSeenBlocks s → IfSome (plan_of s index) (λ found. says_stream found.flags ≡ true → result ≡ found.seen) }
 {
     match hold.seen(index) {
+        // The greatest block stands in the stream and not in the numbers: nothing is seen of a stream without a plan.
         Some(block) => block.min(LAST_BLOCK),
         None => 0,
     }
@@ -135,6 +136,7 @@ fn open_block(hold: &Hold, index: u32, plan: &Plan, seen: u32) -> u32
     requires block { IsBlock seen }
     ensures { (s : Holding) → HoldStands hold.now s → IfSome (plan_of s index) (λ found. seen ≡ found.seen → result ≡ open_block s found) }
 {
+    // The block that was seen last is itself open: what came of it may be its beginning alone.
     if is_done(hold, index, plan, seen) {
         return seen + 1;
     }
@@ -209,6 +211,8 @@ fn rest_from(end: &Option<Position>, behind: bool, least: u32) -> Option<u32>
     if !behind {
         return None;
     }
+    // Block 16,777,215 is done and no end came: no request can name more of the stream. It waits for a squelch, and what comes after it is asked
+    // for all the same. This is the one state in which something is needed and nothing of the object at the hand-up point can be.
     if least > LAST_BLOCK {
         return None;
     }
@@ -301,6 +305,7 @@ pub(crate) fn is_stream_quiet(hold: &Hold, numbers: &Numbers, index: u32, plan: 
     ensures { (s : Holding) → HoldStands hold.now s → HasSeenBlocks s → IfSome (plan_of s index) (λ found.
         result ≡ is_nil (stream_needs hold.now.p numbers.now.farthest numbers.now.flush s found)) }
 {
+    // First the tests that cost little. The end is a search over all blocks that are held.
     if !is_quiet_to_flush(hold, numbers, index, plan) {
         return false;
     }

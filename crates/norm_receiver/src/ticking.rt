@@ -20,6 +20,7 @@ impl Parts {
     {
         match self.write_nack(out) {
             Asks::Nothing => Sent::Nothing,
+            // Held off as after a NACK of its own: the same repair is under way, and a request for it would only be repeated.
             Asks::Heard => {
                 self.numbers = self.numbers.holding_off(&self.profile, now);
                 Sent::Nothing
@@ -51,6 +52,7 @@ impl Parts {
             → IsSent (kept_of self.new) out.new result (ticked self.old.profile s now) }
     {
         match self.numbers.due {
+            // The acknowledgement first: a sender in hold mode may stand still for it, and a NACK loses nothing by one tick.
             Some(at) => self.acknowledge(at, out),
             None => self.end_back_off(now, out),
         }

@@ -18,6 +18,7 @@ fn counted(count: u64, more: bool) -> Option<u64>
     ensures { IfSome result (λ n. n ≡ count + (if more then 1 else 0)) }
 {
     if more {
+        // A wrong count is worse than none, so it does not stop at the greatest number.
         count.checked_add(1)
     } else {
         Some(count)

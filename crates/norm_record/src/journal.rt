@@ -41,6 +41,7 @@ pub struct Journal {
     counts: Counts,
 }
 
+// Proof: events are read from stores that only grow, so one lemma serves every push (one_event_more).
 impl Model for Journal {
     ghost use Rattle.std.specs.Prelude.{List};
     ghost use Rattle.norm_journal.specs.declared.event.Event.{Event};
@@ -101,6 +102,7 @@ impl Journal {
 
     /// How many hand-ups are kept. Where those of one instance, part, index and offset are the same, each of them is kept once, however
     /// many receivers handed it up.
+    // Proof: the names of what is kept are those of what came, and differ; length-from_keys makes that a count.
     pub fn hand_ups(&self) -> usize
         ensures { UpsAgree self.now → result ≡ distinct_count nat_eq (names_in self.now) }
     {
@@ -155,6 +157,7 @@ impl Journal {
     pub fn push_turn(&mut self, t: u32, now: Moment) -> Result<(), Memory>
         ensures { Adds self.old self.new result (event.Turn t now) }
     {
+        // 32 bits keep an entry small. Beyond them the journal answers `Memory`, which so many entries would want anyway.
         let Ok(at) = u32::try_from(self.turns.len()) else {
             return Err(Memory);
         };
@@ -224,6 +227,7 @@ impl Journal {
         ensures { Adds self.old self.new result (event.Took to octets.now) }
     {
         self.entries.reserve(1)?;
+        // A take gives what was offered before, if the network is honest. Then its octets are there, and nothing is copied.
         if let Some(at) = self.offers.find(octets) {
             self.entries.push_reserved(Entry::Took { to, at });
             return Ok(());
@@ -250,6 +254,7 @@ impl Journal {
     {
         let hand_up = HandUp { instance, up };
         self.entries.reserve(1)?;
+        // Both lists have room before either grows: an event without its place among the hand-ups would break the count.
         self.hands.reserve(1)?;
         if let Some(at) = self.ups.find(&hand_up) {
             self.entries.push_reserved(Entry::Up { node, at });

@@ -11,6 +11,7 @@ use norm_ext::places::{COMMON, SEQUENCE_AT};
 pub(crate) fn name_of(octets: &[u8]) -> u64
     ensures { result ≡ name_of octets.now }
 {
+    // Octets too short for a header share the name 0, which costs a comparison.
     if octets.len() < COMMON {
         return 0;
     }

@@ -61,6 +61,7 @@ impl Offers {
         ensures latest { IfNone result ((at : ℕ) → ¬ IsLatest self.now octets.now at) }
     {
         let at = *self.latest.get(&name_of(octets))?;
+        // Not taken: each kept place is one of the row. A hint may be wrong all the same, and then the octets are kept twice.
         if at as usize >= self.row.len() {
             return None;
         }
@@ -76,12 +77,14 @@ impl Offers {
         ensures place { IfOk result (λ at. at ≡ length self.old) }
         ensures refused { OnErr result (self.new ≡ self.old) }
     {
+        // As in `push_turn` of the journal: 32 bits keep an entry small.
         let Ok(at) = u32::try_from(self.row.len()) else {
             return Err(Memory);
         };
         self.latest.reserve(1)?;
         self.row.keep(octets)?;
         let put: Result<_, _> = self.latest.insert(name_of(octets), at);
+        // It does not fail: the map has room for one more.
         put.unwrap();
         Ok(at)
     }

@@ -18,6 +18,7 @@ pub(crate) struct HandUp {
 }
 
 /// Hand-ups, seen as the list of them. Of each name the last place is known.
+// Receivers hand up the same octets, so each is kept once however many receivers there are.
 #[derive(Drop)]
 pub(crate) struct Ups {
     kept: Vec<HandUp>,
@@ -176,6 +177,7 @@ impl Ups {
         ensures place { IfOk result (λ at. at ≡ length self.old) }
         ensures refused { OnErr result (self.new ≡ self.old) }
     {
+        // As in `push_turn` of the journal: 32 bits keep an entry small.
         let Ok(at) = u32::try_from(self.kept.len()) else {
             return Err(Memory);
         };
@@ -184,6 +186,7 @@ impl Ups {
         self.latest.reserve(1)?;
         self.kept.push_reserved(hand_up);
         let put: Result<_, _> = self.latest.insert(name, at);
+        // It does not fail: the map has room for one more.
         put.unwrap();
         Ok(at)
     }

@@ -18,6 +18,7 @@ ghost use Rattle.norm_safety.specs.WorldLaws.{WorldLaws};
 /// an instance's order from its beginning, without a gap and octet for octet, a stream segment by segment, with a loss only where the
 /// sender dropped data, and is in each instance once. A receiver is listed past a watermark only after it handed up everything before. And a
 /// watermark is satisfied exactly where its quorum is listed past it.
+// Proof: hand-ups are exact first (Passed), and the relation GoesThrough follows at the end.
 #[tactic(auto, using(crate::proofs::SafeRun::safe_run))]
 pub fn safe_run()
     ensures { SafeRun }
@@ -33,6 +34,7 @@ pub fn each_front()
 /// In lawful runs each DATA and INFO that was said carries the encoded symbol or the info of its entry, with
 /// the entry's transmission information and flags; each flush names a closed source symbol of its instance's order; and each
 /// squelch a point that its instance's drop point is not before.
+// Proof: octets of receivers say nothing of objects whatever is read of them: the first octet decides.
 #[tactic(auto, using(crate::proofs::SaidRun::said_run))]
 pub fn said_run()
     ensures { OfLawfulRuns SaidOfOrders }
@@ -118,6 +120,7 @@ pub fn acknowledge_run()
 
 /// Nothing comes too late in a run of few objects: where the network gives only what was offered, however late, and no instance has more than
 /// 32,768 objects, a run is lawful. And an instance has no more objects than commands were accepted.
+// 32,768 objects, because 16 bits of an id then still name every index that any node knows, however late a datagram comes.
 #[tactic(auto, using(crate::proofs::InTime::time_laws))]
 pub fn in_time()
     ensures { TimeLaws }
@@ -126,6 +129,7 @@ pub fn in_time()
 /// What an event changes of a world. Only an offer joins what was offered; only the sender's events change the sender, and
 /// each other event moves the receiver of its node alone; the nodes stay the profile's, in order; and a take gives the next
 /// hand-up of its node's receiver.
+// An offer of what no tick gave changes nothing, and a lawful run has none. So no law has to find a message in octets again.
 #[tactic(auto, using(crate::proofs::WorldLemmas::world_laws))]
 pub fn world_steps()
     ensures { WorldLaws }

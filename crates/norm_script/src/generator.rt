@@ -12,12 +12,15 @@ use itoa::Buffer;
 use norm_base::{Failed, Sink};
 
 /// The lines that set keys.
+// As many as `setting_row` has arms. One more would be taken for a command.
 const SETTINGS: u32 = 11;
 
 /// All lines: those, and a hundred commands of each of three producers.
+// 11 settings, and three times 100 commands.
 const ROWS: u32 = 311;
 
 /// A line with its line feed.
+// The longest line has 500 octets as digits and eight more. On the stack, so that writing a script takes no memory.
 type Row = ArrayVec<u8, 1024>;
 
 /// Puts octets behind what a line has.
@@ -25,6 +28,7 @@ fn put(row: &mut Row, octets: &[u8])
     requires { length row.old.items + length octets.now ≤ 1024 }
     ensures { row.new.items ≡ row.old.items ++ octets.now }
 {
+    // It does not fail: no line is longer than its room.
     row.try_extend_from_slice(octets).unwrap()
 }
 
@@ -64,6 +68,7 @@ fn setting_row(n: u32, k: u32) -> Row
         8 => number_row(b"loss", 100),
         9 => number_row(b"repeat", 50),
         10 => number_row(b"late", 3),
+        // Ruled out by the clause: `row_at` asks for the first eleven alone.
         _ => unreachable!(),
     }
 }
@@ -75,6 +80,7 @@ fn put_octet(row: &mut Row, octet: u8)
 {
     let mut digits = [0u8; 2];
     let octets = [octet];
+    // It does not fail: two digits have room for one octet.
     hex::encode_to_slice(octets.as_slice(), digits.as_mut_slice()).unwrap();
     put(row, digits.as_slice());
 }

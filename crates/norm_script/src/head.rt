@@ -14,6 +14,7 @@ use std::alloc::Global;
 use std::marker::Model;
 
 /// The most lines of a script.
+// Our own choice: twice as many as commands, for settings, comments and empty lines. A line more is refused with `ManyLines`.
 pub const MOST_LINES: u32 = 8192;
 
 /// What a head says so far.
@@ -98,6 +99,7 @@ impl Head {
                 })?;
                 Ok(true)
             }
+            // The two rules across keys look at the settings before the first command, also if that command is refused for its producer.
             Ok(Meaning::Command { .. }) => Ok(false),
             Err(why) => {
                 self.refuse(n, why);
@@ -135,6 +137,7 @@ impl Head {
                 };
                 match self.refused {
                     None => Err(rule),
+                    // Of two reasons the one of the earlier line, as a reader goes through a script.
                     Some(refused) => Err(earlier(refused, rule)),
                 }
             }

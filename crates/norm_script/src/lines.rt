@@ -6,6 +6,7 @@ ghost use Rattle.norm_script.specs.Text.{text_lines};
 use crate::words::split_at_first;
 
 /// The first line of a text that is not empty, and what follows it.
+// Proof: the definition goes octet by octet, and the code cuts at the first line feed. text_lines-some and text_whole join them.
 pub(crate) fn first_line(text: &[u8]) -> (&[u8], &[u8])
     requires { 1 ≤ length text.now }
     ensures lines { text_lines text.now ≡ result.0.now ∷ text_lines result.1.now }

@@ -13,12 +13,16 @@ use norm_base::{Key, Memory, NodeId, Octets};
 use std::alloc::Global;
 
 /// The most octets of a line.
+// Our own choice: contents of 16,384 digits and the words before them. With an info both are shorter. A longer line is refused with `LongLine`,
+// unread.
 const MOST_OCTETS: usize = 16_500;
 
 /// The greatest quorum: a session has at most so many receivers.
+// The greatest value of the key `receivers`.
 const MOST_QUORUM: u32 = 16;
 
 /// The last id that a node may have.
+// RFC 5740 section 4.1: 2^32 - 1 is NORM_NODE_ANY and names no member.
 const LAST_NODE: u32 = 4_294_967_294;
 
 /// What a line means by itself.
@@ -166,6 +170,7 @@ fn strike_of(word: &[u8]) -> Result<Verb, Why>
 {
     match number_within(word, 1, LAST_NODE) {
         Some(number) => Ok(Verb::Strike {
+            // It does not fail: the number is within 1 and the last id.
             node: NodeId::of(number).unwrap(),
         }),
         None => Err(Why::NoNode),
@@ -268,11 +273,14 @@ pub(crate) fn meaning_of(alloc: Global, line: &[u8]) -> Result<Result<Meaning, W
             octets: line.len() as u64,
         }));
     }
+    // Before the line is looked at: a comment has a meaning whatever octets follow its first.
     if is_passed_over(line) {
         return Ok(Ok(Meaning::Nothing));
     }
     match meaning_of_words(alloc, line)? {
         Ok(meaning) => Ok(Ok(meaning)),
+        // How an editor spelt the line comes before any other reason, since it is the cause of that. It is looked for only here, so that a
+        // carriage return in a comment refuses nothing.
         Err(why) => Ok(Err(spelling_of(line).unwrap_or(why))),
     }
 }

@@ -14,6 +14,7 @@ fn begins_with_mark(line: &[u8]) -> bool
 }
 
 /// Whether it has an octet 0, 254 or 255.
+// UTF-16 has 254 and 255 in its mark, and 0 beside each ASCII letter. A text in UTF-8 has none of these unless it has a NUL.
 fn is_wide(line: &[u8]) -> bool
     ensures { result ≡ list_any is_wide line.now }
 {
@@ -48,6 +49,7 @@ pub fn spelling_of(line: &[u8]) -> Option<Why>
     requires { 1 ≤ length line.now }
     ensures { result ≡ spelling_of line.now }
 {
+    // A mark and UTF-16 first: they spoil the whole file, and the tests below would name only what they look like.
     if begins_with_mark(line) {
         return Some(Why::ByteOrderMark);
     }

@@ -11,9 +11,11 @@ use norm_base::{Memory, Octets, Text};
 use std::alloc::Global;
 
 /// The most digits of contents.
+// Our own choice: 8,192 octets. Longer contents come as files.
 const MOST_DIGITS: usize = 16_384;
 
 /// The most octets of a name.
+// Our own choice, for names that every file system takes, and that fit an info: the least `e` is 64 too.
 const MOST_NAME: usize = 64;
 
 /// The octets before the first of these, and those after it. `None` where there is none.
@@ -58,6 +60,7 @@ pub(crate) fn value_up_to(word: &[u8], high: u32) -> Option<u64>
     let mut value = 0u64;
     for digit in word {
         value = 10 * value + u64::from(digit.saturating_sub(48));
+        // Here and not at the end: a number of any length then never overflows.
         if value > u64::from(high) {
             return None;
         }
@@ -128,6 +131,7 @@ pub fn name_of(alloc: Global, word: &[u8]) -> Result<Option<Text>, Memory>
     if !is_name(word) {
         return Ok(None);
     }
+    // Not taken: the octets of a name are ASCII.
     let Ok(text) = str::from_utf8(word) else {
         return Ok(None);
     };

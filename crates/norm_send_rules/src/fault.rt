@@ -81,6 +81,7 @@ impl SendFault {
     {
         matches!(
             self,
+            // These three end when members confirm or watermarks end. Every other refusal stays, whenever the command comes again.
             SendFault::Enqueue(EnqueueFault::WindowFull { .. })
                 | SendFault::Enqueue(EnqueueFault::Stream(StreamFault::Full { .. }))
                 | SendFault::Mark(MarkFault::TooMany { .. })

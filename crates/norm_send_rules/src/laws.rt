@@ -29,6 +29,7 @@ pub fn wants()
 
 /// What holds of every state that a sender comes to: its wants are of its window, its objects fit the profile, watermarks are
 /// numbered from 1 on, and there is something to tell where it says so. Where nothing new is told, the sender is as it was.
+// Proof: that an order grew is a recursion over two lists of shapes (HaveAll).
 #[tactic(auto, using(crate::proofs::ReachedLemmas::reached_laws))]
 pub fn reached()
     ensures { ReachedLaws }

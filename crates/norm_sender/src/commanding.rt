@@ -62,6 +62,7 @@ impl Parts {
                 Some((info, bytes)) => {
                     Err((Some(Job::Data { info, bytes }), SendFault::Enqueue(fault)))
                 }
+                // The one fault with which the octets do not come back: what was made of them is gone.
                 None => Err((None, SendFault::Memory)),
             },
         }
@@ -78,6 +79,8 @@ impl Parts {
             Err((back, fault)) => match back {
                 Some((info, bytes)) => match info {
                     Some(name) => Err((Some(Job::File { name, bytes }), SendFault::Enqueue(fault))),
+                    // Not taken: the info comes back as it was given, and a file has its name for one. `Memory` is the one answer that needs no
+                    // command.
                     None => Err((None, SendFault::Memory)),
                 },
                 None => Err((None, SendFault::Memory)),
@@ -106,6 +109,7 @@ impl Parts {
             Err((back, fault)) => match back {
                 Some(info) => match info {
                     Some(name) => Err((Some(name), SendFault::Enqueue(fault))),
+                    // Not taken, as in `enqueue_file`.
                     None => Err((None, SendFault::Memory)),
                 },
                 None => Err((None, SendFault::Memory)),
@@ -192,6 +196,7 @@ impl Parts {
         ensures obeys { Obeys (kept_of self.old) (kept_of self.new) job result }
     {
         hold_range(&self.profile);
+        // Proof: each arm ensures Obeys of its own command, so the match wants no answer.
         match job {
             Job::Data { info, bytes } => self.enqueue_data(info, bytes),
             Job::File { name, bytes } => self.enqueue_file(name, bytes),

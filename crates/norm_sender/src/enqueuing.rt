@@ -67,6 +67,8 @@ impl Parts {
         }
         let plan = plan_of(&self.profile, len as u32);
         let index = self.window.next_index();
+        // The union first, and what was dropped is forgotten last: all memory is taken before anything is dropped. Until the object is finished
+        // the union is ahead of the window by one.
         let Ok(()) = self.union.admit(index, &plan, info.is_some()) else {
             return Err((None, EnqueueFault::Memory));
         };
@@ -76,6 +78,7 @@ impl Parts {
                 Ok(())
             }
             Err(refusal) => {
+                // `begin` of the window may still want memory. Then nothing is dropped, and the union takes its part back.
                 self.union.withdraw();
                 Err(refusal)
             }

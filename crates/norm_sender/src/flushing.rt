@@ -17,6 +17,7 @@ use mark_book::keeps_oldest;
 use norm_base::{Datagram, Moment, Sent};
 
 /// So many flushes are sent of a watermark that nothing else goes on for.
+// NORM_ROBUST_FACTOR of RFC 5740, 20 by default. After this many without a new want the watermark expires: those that are left do not answer.
 const MOST_FLUSHES: u32 = 20;
 
 impl Parts {
@@ -65,6 +66,7 @@ impl Parts {
         if self.pace.flushes < MOST_FLUSHES {
             return self.flush_for(oldest.at, now, out);
         }
+        // The round may close with a want, and then flushes are counted anew. So a watermark is not given up while a receiver still asks.
         if self.pace.closes.is_some() {
             return Sent::Nothing;
         }
@@ -73,6 +75,7 @@ impl Parts {
     }
 
     /// Flushes for the oldest watermark, behind one that was given up.
+    // Not `flush_in_turn` again: in one tick at most one watermark expires, so a tick has a bound.
     fn flush_next(&mut self, now: Moment, out: &mut Datagram) -> Sent
         ensures profile { self.new.profile ≡ self.old.profile }
         ensures stands { (s : SenderState) → Agrees (kept_of self.old) s → ((w : Watermark) → oldest s ≡ Some w → s.flushes ≡ 0)

@@ -14,11 +14,13 @@ use mark_book::{OpenWatermark, keeps_oldest};
 impl Parts {
     /// Follows the book, before which this was the oldest watermark: the window is told what all members are past now,
     /// and flushes are counted anew where another watermark became the oldest.
+    // Proof: the book is ahead: one state for the other parts, and one for its listings and watermarks.
     pub(crate) fn follow(&mut self, before: Option<OpenWatermark>)
         ensures profile { self.new.profile ≡ self.old.profile }
         ensures stands { (s t : SenderState) → IsBehind (kept_of self.old) s (with_book t s) → before ≡ option_map open_watermark (oldest s)
             → Agrees (kept_of self.new) (counted_anew s (with_book t s)) }
     {
+        // In hold mode the window drops nothing that a member may still need, so it has to know of each rise and each strike.
         self.window.note_past(self.book.least());
         if keeps_oldest(before, self.book.oldest()) {
             return;

@@ -48,6 +48,7 @@ impl Parts {
             block: item.id.block,
             symbol: item.id.symbol,
         };
+        // A position that no data has would list its member past what comes later, and the window could drop that unconfirmed.
         if !self.window.is_source(at) {
             return;
         }
@@ -61,6 +62,7 @@ impl Parts {
         if self.pace.closes.is_some() {
             return;
         }
+        // RFC 5401 section 3.2.4: receivers back off for up to K round trips, and their requests take one more to come.
         let span = (u64::from(self.profile.k) + 1) * u64::from(self.profile.grtt);
         self.pace = self.pace.opened(moment_after(now, span));
     }
@@ -71,6 +73,7 @@ impl Parts {
         ensures profile { self.new.profile ≡ self.old.profile }
         ensures stands { SenderMoves (kept_of self.old) (kept_of self.new) (λ p s. joined_round p s now (requests_of requests.now)) }
     {
+        // An empty list would open a round that delays the end of a watermark.
         if requests.is_empty() {
             return;
         }
@@ -91,6 +94,7 @@ impl Parts {
         ensures profile { self.new.profile ≡ self.old.profile }
         ensures stands { SenderMoves (kept_of self.old) (kept_of self.new) (λ p s. nack_heard p s now (nack_message msg.now)) }
     {
+        // A struck receiver may still ask, since it may hand up what it gets. It only confirms nothing any more.
         if !self.profile.is_receiver(msg.source) {
             return;
         }

@@ -28,6 +28,7 @@ impl Parts {
         ensures memory { why.now ≡ fault.Memory → self.new ≡ self.old }
     {
         match why {
+            // The rule has no answer for want of memory, so nothing changes: the same command may come once more as if it came first.
             MarkFault::Memory => {}
             MarkFault::Quorum { .. } | MarkFault::NothingEnqueued | MarkFault::TooMany { .. } => {
                 self.cut();
@@ -45,6 +46,7 @@ impl Parts {
             × (result ≡ (asked_for self.old.profile (cut self.old.profile s) by quorum (Some at)).1) }
         ensures memory { result ≡ Err fault.Memory → kept_of self.new ≡ kept_of self.old }
     {
+        // Taken before the request: a watermark that is satisfied as it is made never becomes the oldest, and so does not count flushes anew.
         let before = self.book.oldest();
         match self.book.request(Some(at), quorum) {
             Ok(mark) => {
@@ -72,6 +74,8 @@ impl Parts {
         if let Some(fault) = self.book.quorum_fault(quorum) {
             return Err(fault);
         }
+        // Where the order would end is asked before the stream is cut: what wants memory comes first, and want of memory then leaves all as it
+        // was.
         let Some(at) = self.window.end_cut() else {
             self.cut();
             return Err(MarkFault::NothingEnqueued);

@@ -59,6 +59,8 @@ impl Pace {
     }
 
     /// The numbers as another instance begins.
+    // The count of flushes falls to 0 for order alone. No datagram goes by it: a restart cuts all watermarks, and the next one that becomes the
+    // oldest sets it to 0 anyway. The sequence goes on, since receivers know it across instances.
     pub(crate) fn begun_anew(&self, instance: InstanceId) -> Pace
         ensures { (s : SenderState) → self.now ≡ pace_of s → result ≡ pace_of (begun_anew instance s) }
     {
@@ -118,6 +120,7 @@ impl Pace {
         ensures { self.now.flushes < 4294967295 → result ≡ record self.now { flushes = self.now.flushes + 1; last_flush = Some now } }
     {
         Pace {
+            // It stops at 20 long before: `flush_in_turn` gives the watermark up there.
             flushes: self.flushes.saturating_add(1),
             last_flush: Some(now),
             ..*self
@@ -186,6 +189,7 @@ impl Pace {
         ensures { result ≡ next_flush self.now.last_flush grtt now }
     {
         match self.last_flush {
+            // RFC 5740 section 5.5.3: a round trip for the flush, and one for the answers.
             Some(last) => moment_after(last, 2 * u64::from(grtt)).0 <= now.0,
             None => true,
         }

@@ -32,6 +32,7 @@ impl Parts {
             → Agrees (kept_of self.new) (restarted s instance).0 × (result ≡ (restarted s instance).1) }
     {
         hold_range(&self.profile);
+        // Receivers go by what lies above what they know, so an id that was used before would be passed over, or taken for the old instance.
         if self.pace.is_used(instance) {
             return Err(SendFault::IdUsed { instance });
         }

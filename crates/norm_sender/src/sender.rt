@@ -156,6 +156,7 @@ impl Sender {
         ensures back { IfErr result (λ refusal. GivesBack job refusal) }
         ensures memory { answer_of result ≡ Err send_fault.Memory → self.new ≡ self.old }
     {
+        // Both are part of the event in the rules, by which the clause speaks of a run. A sender keeps nothing of them.
         let _ = (by, now);
         self.parts.command(job)
     }
@@ -166,6 +167,8 @@ impl Sender {
     ///
     /// The fault by which [`command`](Sender::command) would refuse each file of this name and length, and with it the name, or
     /// `Memory` without it. Then nothing changes.
+    // That no file is begun is a condition on what is kept, and each call that asks for it says that it holds afterwards. So a caller need not
+    // know for which state the sender stands.
     pub fn begin_file(&mut self, name: Octets, len: u64) -> Result<(), (Option<Octets>, SendFault)>
         requires { self.old.window.filling ≡ None }
         ensures profile { self.new.p ≡ self.old.p }
@@ -204,6 +207,7 @@ impl Sender {
     }
 
     /// Gives up the file that was begun. What was dropped for it stays dropped.
+    // The sender goes on in the state in which room was made for the file. A session ends there, but no clause asks that of a caller.
     pub fn leave_file(&mut self)
         requires { IsSome self.old.window.filling }
         ensures profile { self.new.p ≡ self.old.p }
@@ -222,6 +226,7 @@ impl Sender {
     /// `Quorum` exactly where the quorum is 0 or above the number of receivers, else `NothingEnqueued` exactly where this
     /// instance enqueued nothing, and else `TooMany` exactly where 16 watermarks are open. The open stream is cut all the same, but
     /// for `Quorum`. Or `Memory`, and then nothing changes.
+    // Proof: the invariant goes by cases: the answer is Memory and all is as it was, or the rule holds.
     pub fn mark(&mut self, quorum: Option<u32>) -> Result<Receipt, MarkFault>
         requires { self.old.window.filling ≡ None }
         ensures profile { self.new.p ≡ self.old.p }

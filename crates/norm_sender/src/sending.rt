@@ -26,6 +26,7 @@ use norm_ext::flags;
 use norm_send_rules::Want;
 
 /// The flags of what is sent again by its own name.
+// NORM_FLAG_REPAIR and NORM_FLAG_EXPLICIT of RFC 5740 section 4.2.1. Which of what is sent again has the second is our own choice.
 const EXPLICIT_REPAIR: u8 = flags::REPAIR + flags::EXPLICIT;
 
 impl Parts {
@@ -71,6 +72,7 @@ impl Parts {
         ensures stands { SenderMoves (kept_of self.old) (kept_of self.new) (λ p s. noted (Symbol at) s) }
     {
         self.window.note_sent(at);
+        // The window asks whether all was sent before it drops an object, the union which parity was never sent. Each keeps its own answer.
         self.union.note_sent(at);
     }
 
@@ -97,6 +99,7 @@ impl Parts {
         ensures stands { (s : SenderState) → Agrees (kept_of self.old) s → IsValid self.old.profile s (Symbol at) → repair ≤ 3
             → IsSent (kept_of self.new) out.new result (sends_want self.old.profile now (λ object. repair) (Symbol at) s) }
     {
+        // Not taken: what the union wants and what the window names as new is in the window.
         if !self.write_symbol(at, repair, out) {
             return Sent::Nothing;
         }
@@ -112,6 +115,7 @@ impl Parts {
         ensures stands { (s : SenderState) → Agrees (kept_of self.old) s → IsValid self.old.profile s (Info index) → repair ≤ 3
             → IsSent (kept_of self.new) out.new result (sends_want self.old.profile now (λ object. repair) (Info index) s) }
     {
+        // Not taken, as for a symbol.
         if !self.write_info(index, repair, out) {
             return Sent::Nothing;
         }
@@ -148,9 +152,11 @@ impl Parts {
         let Want::Symbol { at } = want else {
             return EXPLICIT_REPAIR;
         };
+        // Not taken: a want is of the window.
         let Some(plan) = self.window.plan(at.index) else {
             return flags::REPAIR;
         };
+        // Parity is asked for by a count and not by name (RFC 5740 section 4.2.1 on EXPLICIT).
         if at.symbol < plan.source_len(at.block) {
             return EXPLICIT_REPAIR;
         }

@@ -25,6 +25,7 @@ fn stream_plan(profile: &Profile) -> Plan
     ensures { result ≡ stream_cut profile.now.e profile.now.b profile.now.max_n }
 {
     hold_range(profile);
+    // It does not fail: a profile's sizes are in the ranges of a plan.
     Plan::stream(profile.e, profile.b, profile.max_n).unwrap()
 }
 
@@ -46,6 +47,7 @@ impl Parts {
         }
         let plan = stream_plan(&self.profile);
         let index = self.window.next_index();
+        // The union first, as for an object: all memory is taken before anything is dropped.
         let Ok(()) = self.union.admit_stream(index, &plan) else {
             return Err(EnqueueFault::Memory);
         };
@@ -84,6 +86,7 @@ impl Parts {
         match self.window.write(bytes) {
             Ok(at) => {
                 self.retire();
+                // Last: segments may be asked for only if the window can send them, and what was dropped has to be gone from the union first.
                 self.grow(at.0);
                 Ok(Receipt::Wrote {
                     index: at.0,

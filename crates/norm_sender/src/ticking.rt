@@ -64,6 +64,7 @@ impl Parts {
         ensures stands { (s : SenderState) → Agrees (kept_of self.old) s → WantsHold self.old.profile s
             → IsSent (kept_of self.new) out.new result (sends_wanted self.old.profile now s) }
     {
+        // Repairs before new data: a receiver hands up in order, so a gap holds back all that came after it.
         let Some(want) = self.union.next() else {
             return self.send_further(now, out);
         };
@@ -91,6 +92,7 @@ impl Parts {
         ensures stands { (s : SenderState) → Agrees (kept_of self.old) s → WantsHold self.old.profile s
             → IsSent (kept_of self.new) out.new result (sends_first self.old.profile now s) }
     {
+        // Before any repair: until receivers know of the drop they ask for what is gone, in each round.
         if self.pace.squelch_due {
             return self.squelch(now, out);
         }
@@ -106,6 +108,7 @@ impl Parts {
             → IsSent (kept_of self.new) out.new result (ticked self.old.profile s now) }
     {
         hold_range(&self.profile);
+        // Before the look at the gap: a round closes at its moment, whether a datagram may be sent then or not.
         self.close_where_due(now);
         if !self.pace.may_send(now) {
             return Sent::Nothing;

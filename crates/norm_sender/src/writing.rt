@@ -16,6 +16,7 @@ use norm_ext::{CmdHead, Fti, ObjHead, fti_words, object_id};
 use norm_objmsg::{DataMsg, InfoMsg, write_data, write_info};
 
 /// So many blocks have a number in a message.
+// RFC 5510 section 5.1: 24 bits name a block.
 const BLOCK_COUNT: u32 = 16_777_216;
 
 /// A symbol's name, as messages spell it: with the lowest 24 bits of the block's number.
@@ -35,6 +36,7 @@ fn object_head(profile: &Profile, pace: &Pace, index: u32, flags: u8) -> ObjHead
     ensures gsize { result.gsize < 16 }
 {
     ObjHead {
+        // It does not fail: a profile's sender is a node.
         source: NodeId::of(profile.sender).unwrap(),
         sequence: pace.sequence,
         instance: pace.instance,
@@ -155,6 +157,7 @@ pub(crate) fn write_info_front(
 }
 
 /// Writes the front of a DATA: all but the symbol's octets.
+// The front alone: the symbol is pushed behind it from where it lies, so its octets are copied once.
 pub(crate) fn write_data_front(
     profile: &Profile,
     pace: &Pace,

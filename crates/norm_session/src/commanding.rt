@@ -78,6 +78,7 @@ fn write_of(bytes: &Octets) -> Result<Job, Memory>
 /// # Errors
 ///
 /// `Memory` where memory runs out.
+// A copy for each offer, since the sender keeps what it accepts and the script's line is printed afterwards.
 fn job_of(verb: &Verb) -> Result<Option<Job>, Memory>
     ensures job { IfOk result (λ job. job ≡ job_of verb.now) }
 {
@@ -161,6 +162,7 @@ fn offer_job(world: &mut World, by: Origin, job: Job, now: Moment) -> Result<Giv
 fn count(totals: &mut Totals, gave: &Gives) -> Result<(), Memory>
     ensures { OnOk result (totals.new ≡ with_gave gave.now totals.old) }
 {
+    // The counts are exact, so one that does not fit 64 bits ends the run as want of memory does. It would take more lines than memory has.
     if !totals.has_room_for_gave(gave) {
         return Err(Memory);
     }
@@ -201,6 +203,7 @@ impl Run {
         ensures cause { NeedsMemory result }
     {
         let place = arrived.place as usize;
+        // A producer hands over any number: what is no place of the script is passed over, so the clause needs no fact about the ring.
         if place >= script.lines.len() {
             return Ok(None);
         }
@@ -239,6 +242,7 @@ impl Run {
                 return Ok(place);
             }
         }
+        // `forever` does not end; the loop does by its return.
         unreachable!()
     }
 
@@ -264,6 +268,7 @@ impl Run {
         let by = origin_of(line);
         let has = gave_line(&mut self.line, by, instance, &line.verb, &gave)?;
         count(&mut self.totals, &gave)?;
+        // Noted and counted before the line is written: after the write nothing can fail, so no printed line lacks its event.
         self.waiting = waits_at(place, &gave);
         self.journal.push_job(by, job, gave)?;
         write_line(has, &self.line, output)

@@ -9,6 +9,8 @@ use std::alloc::Global;
 use std::marker::Model;
 
 /// The places of the lines that were not pulled yet, in the script's order.
+// Places and not a next number for each producer, so that the order of the script is the order of the list. A line is taken once; if it stayed
+// here, it would be pulled again.
 #[derive(Drop)]
 pub(crate) struct Left {
     places: Vec<usize>,

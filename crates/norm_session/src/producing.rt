@@ -19,6 +19,7 @@ use std::thread;
 use std::thread::Threads;
 
 /// A session has at most so many producers, each in a thread of its own.
+// The key `producers` goes up to 4, and each gets a thread of its own. A script with a greater number is refused.
 const MOST_PRODUCERS: usize = 4;
 
 /// What comes out of the ring.
@@ -48,7 +49,9 @@ fn insist<R: Wait>(rt: &R, ring: &Gate, seat: &mut Seat, place: u32)
     // Proof: the label names the loop for its invariant.
     'tries: for _ in rt.forever() {
         match ring.submit(rt, seat, place) {
+            // Not taken either, as the ring has a place for each line. A smaller ring would work the same.
             Err((_place, GateFault::Full)) => thread::yield_now(),
+            // Not taken: a script has at most 4,096 commands, which a seat may submit.
             Err((_place, GateFault::TooMany)) => break,
             Ok(_number) => break,
         }
@@ -125,6 +128,7 @@ fn work_beside<R: Threads + Wait + Sync, G: Turnstile + Sync, W: Work<Given = A>
                     requires { All (λ s. s.gate ≡ ring.now.id) list.now × (length lines.now ≤ 4096) }
                 { produce_all(rt, lines, gate, ring, list) },
             );
+            // Without a thread the producers run here and now. After the work would be too late: it would wait for ever for their lines.
             match started {
                 Ok(thread) => drop(thread),
                 Err(refused) => (refused.value)(),
@@ -160,6 +164,7 @@ fn ring_for(alloc: Global, script: &Script) -> Result<(Gate, Vec<Seat>, PullSeat
     ensures pull { IfOk result (λ made. made.2.gate ≡ made.0.id) }
     ensures capacity { IfOk result (λ made. made.0.capacity ≡ max (length script.now.lines) 1) }
 {
+    // The ring takes no capacity of 0.
     let places = script.lines.len().max(1) as u32;
     Gate::new(alloc, u32::from(script.profile.producers), places)
 }

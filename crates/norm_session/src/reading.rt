@@ -64,6 +64,7 @@ impl Copied {
             return Ok(Copied { octets: None });
         }
         let mut octets = Vec::new(alloc);
+        // All room before the first read, so that want of memory is told before a large file is read in vain.
         octets.reserve(len as usize)?;
         Ok(Copied {
             octets: Some(octets),
@@ -118,6 +119,7 @@ fn fault_of(alloc: Global, fault: FileFault, name: &str) -> SessionFault
 }
 
 /// How many octets the file of a name has.
+// Asked each time a file is offered, also while its command waits: what is sent is the file as it is then, and a file that waits takes no memory.
 fn length_of<D: Files>(alloc: Global, files: &mut D, name: &str) -> Result<u64, SessionFault>
     ensures same { D.contents files.new ≡ D.contents files.old }
     ensures value { IfOk result (λ len. IsLength (D.contents files.old) name.now len) }
@@ -270,6 +272,7 @@ fn accept_file<D: Files>(
             Ok(FileGave::Accepted { job, receipt })
         }
         Err(fault) => {
+            // The sender's condition is that no file is begun. The session ends with the fault all the same.
             world.leave_file();
             Err(fault)
         }
@@ -282,6 +285,7 @@ fn refusal_of(back: Option<Octets>, fault: SendFault) -> Result<FileGave, Sessio
 {
     match back {
         Some(name) => Ok(FileGave::Refused { name, fault }),
+        // The sender gives the name back with every refusal, and keeps it only for want of memory.
         None => Err(SessionFault::Memory),
     }
 }

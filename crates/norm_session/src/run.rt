@@ -13,6 +13,8 @@ use std::alloc::Global;
 use std::marker::Model;
 
 /// A run of a script so far: its nodes, and its journal unless its sender is alone.
+// Proof: what a function says is of every context (Context), from a place of a turn to another. So a run keeps nothing of what it was begun over,
+// and a turn is its functions' clauses, one applied to the other.
 #[derive(Drop)]
 pub struct Run {
     pub(crate) alloc: Global,
@@ -22,6 +24,7 @@ pub struct Run {
     pub(crate) world: World,
     pub(crate) journal: KeptJournal,
     /// The line that is printed, in memory that is kept from one to the next.
+    // Kept from line to line, so that a run of many short lines takes no memory for each.
     pub(crate) line: Line,
     pub(crate) totals: Totals,
     pub(crate) draws: Lcg64Xsh32,
@@ -58,5 +61,6 @@ impl Model for Run {
 pub(crate) fn sender_node(profile: &Profile) -> NodeId
     ensures { result ≡ profile.now.sender }
 {
+    // It does not fail: a profile's sender is a node.
     NodeId::of(profile.sender).unwrap()
 }

@@ -29,6 +29,7 @@ use std::alloc::Global;
 pub fn first_draws(profile: &Profile) -> Lcg64Xsh32
     ensures { result ≡ first_draws profile.now }
 {
+    // One more than the network's seed: with the same one the back-offs of receivers would follow what is lost.
     Lcg64Xsh32::seed_from_u64(u64::from(profile.chance) + 1)
 }
 
@@ -48,6 +49,7 @@ fn begun_journal(alloc: Global, alone: bool) -> Result<KeptJournal, Memory>
     ensures { IfOk result (λ journal. journal ≡ kept_of alone (event.Start ∷ [])) }
 {
     let mut journal = KeptJournal::new(alloc, alone);
+    // Before the network starts: once it is started it has to be in the journal, and that may want memory.
     journal.push_start()?;
     Ok(journal)
 }

@@ -19,6 +19,8 @@ use rand_core::utils::NextWord;
 use rand_pcg::Lcg64Xsh32;
 
 /// A turn takes at most so many datagrams.
+// Our own choice. Without a limit a member that sends faster than we take would keep the turn from its hand-ups and its own datagram.
+// 16 receivers cause at most 272 in a turn if nothing is delayed or repeated: 16 copies for each of 17 members.
 const MOST_TAKES: u32 = 512;
 
 /// The next draw.
@@ -41,6 +43,7 @@ impl Run {
             return Ok(());
         }
         if !self.world.is_receiver(to) {
+            // The draw is not used: the sender backs off from nothing.
             self.world.deliver(to, bytes, self.now, 0)?;
             return Ok(());
         }
@@ -78,6 +81,7 @@ impl Run {
     /// # Errors
     ///
     /// `Fabric` where the network failed, or `Memory`.
+    // Proof: each arm is a function with a clause for every network, so the call itself needs two lines.
     pub fn take<F: Fabric>(
         &mut self,
         fabric: &mut F,
@@ -119,6 +123,7 @@ impl Run {
             if !self.take(fabric, datagram)? {
                 return Ok(());
             }
+            // After each datagram and not after all of them: of two rises of one member only the last would be told then.
             self.tell_all(board, output)?;
         }
         Ok(())

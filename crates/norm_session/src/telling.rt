@@ -30,6 +30,7 @@ use producer_gate::Board;
 use std::alloc::Global;
 
 /// A session has at most so many receivers.
+// The key `receivers` goes up to 16. The loop ends earlier if fewer are left.
 const MOST_RECEIVERS: u32 = 16;
 
 /// The members that are not listed past a watermark, in order.
@@ -102,6 +103,7 @@ impl Run {
             ≡ record self.old { journal = noted self.old.journal (event.News news); totals = with_news news self.old.totals }) }
         ensures cause { NeedsMemory result }
     {
+        // As for a command: a count that does not fit 64 bits ends the run as want of memory does.
         if !self.totals.has_room_for_news(&news) {
             return Err(SessionFault::Memory);
         }
@@ -128,6 +130,7 @@ impl Run {
         let Some(news) = self.world.news() else {
             return Ok(false);
         };
+        // Before the change is noted: this takes memory, and what is left of a watermark is that of this moment.
         let left = left_by(self.alloc, self.world.sender(), &news)?;
         self.note_news(news)?;
         let instance = self.world.sender().instance();
@@ -156,6 +159,7 @@ impl Run {
             → Stopped (with_posted x board.new) fault network (K.pieces output.new)) }
         ensures cause { WriteCause result (K.fault_count output.old) (K.fault_count output.new) }
     {
+        // The number is known before, so that the loop has a bound: telling makes no further news.
         for _ in 0..self.world.sender().untold() {
             if !self.tell(board, output)? {
                 return Ok(());

@@ -30,6 +30,7 @@ pub fn moment_of<C: Clock>(turn: u32, step: u32, so_far: Moment, clock: &mut C) 
         return Moment(u64::from(turn) * u64::from(step));
     }
     let now = clock.now();
+    // A clock that falls holds the moment. Time that runs backwards would end no back-off and no gap.
     if now.0 < so_far.0 { so_far } else { now }
 }
 
@@ -115,6 +116,7 @@ impl Run {
         let turned = self.has_turned();
         let whole = self.is_whole(script);
         let last = self.is_last();
+        // At least one turn, since a script without commands is whole before any.
         with_either(turned, whole, last)
     }
 
@@ -135,11 +137,13 @@ impl Run {
         ensures stops { IfErr result (λ fault. StopsBeginning self.old fault (C.moments clock.old) (C.moments clock.new)) }
         ensures cause { NeedsMemory result }
     {
+        // Never `None`: a profile has at most 4,000,000 turns.
         let Some(turn) = self.turn.checked_add(1) else {
             return Err(SessionFault::Memory);
         };
         let step = self.step();
         let moment = moment_of(turn, step, self.now, clock);
+        // Before the turn begins: the push may want memory, and the run is then still in the turn before.
         self.journal.push_turn(turn, moment)?;
         self.turn = turn;
         self.now = moment;
@@ -187,6 +191,7 @@ impl Run {
             (counted (K.fault_count output.new) (F.fault_count fabric.new) files) }
     {
         let node = sender_node(&self.profile);
+        // The news before the offer: what the tick changed is printed before any member can answer to the datagram.
         let sent = self.tick_sender(datagram)?;
         self.tell_all(board, output)?;
         self.offer_sent(fabric, node, sent, datagram)?;
@@ -209,6 +214,7 @@ impl Run {
             (counted (K.fault_count output.new) (F.fault_count fabric.new) files) }
     {
         self.send(fabric, board, output, datagram)?;
+        // The sender first, then the takes, then the receivers: so in one turn a datagram of the sender may be handed up and answered.
         self.take_all(fabric, board, output, datagram)?;
         self.serve_all(fabric, output, datagram)?;
         Ok(())
@@ -245,6 +251,7 @@ impl Run {
     /// # Errors
     ///
     /// `Write`, `Fabric` or `Files` where a call failed, `Absent` where a command's file is not there, or `Memory`.
+    // Proof: only the states know the end, so the loop has the profile's bound, and the judge's state says how many turns there were.
     pub fn turns<R: Wait, A: Arrivals, K: Sink, F: Fabric, D: Files, C: Clock>(
         &mut self,
         rt: &R,

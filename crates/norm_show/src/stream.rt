@@ -16,8 +16,10 @@ use std::alloc::Global;
 use std::marker::Model;
 
 /// The most digits of a line.
+// Two digits for each of the 1,500 octets that a datagram has at most. A longer line ends the show as soon as it is too long.
 const MOST_DIGITS: usize = 3000;
 /// The octets of a read.
+// Our own choice: some lines of full size in one read, and still on the stack.
 const PIECE: usize = 16_384;
 /// What ends a line.
 const LINE_FEED: u8 = b'\n';
@@ -153,6 +155,8 @@ impl Reader {
     }
 
     /// Shows the lines that end in a piece of the input, and keeps what came of the next.
+    // Proof: Shows speaks of every input that may follow, so no list of lines is cut at an index. shows-on joins two pieces, leaves-behind carries
+    // a fault back.
     fn show_piece<K: Sink>(
         &mut self,
         alloc: Global,
@@ -188,6 +192,7 @@ impl Reader {
 
 /// Shows the datagrams of an input, line by line as it comes: each line of output is one write. Answers whether one was
 /// refused. An empty line is passed over; the first line that spells no datagram ends it.
+// Over any source and sink, and apart from the program: what is said of the input and the output needs no words and no network.
 pub fn show<S: Source, K: Sink>(
     alloc: Global,
     input: &mut S,

@@ -97,6 +97,7 @@ fn extensions_in(exts: &[u8]) -> Extensions<'_>
     requires { IsChecked exts.now }
     ensures { result ≡ extensions_of exts.now }
 {
+    // It does not fail: a message that was read has whole extensions.
     Extensions::check(exts).unwrap()
 }
 

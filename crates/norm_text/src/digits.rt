@@ -9,9 +9,11 @@ use std::alloc::AllocError;
 use std::simd::prelude::*;
 
 /// How many octets are turned at a time.
+// Our own choice: 64 octets are one vector of the widest machines, and the compiler splits it for others.
 const LANES: usize = 64;
 
 /// The sixteen digits, four times over.
+// The look-up in 64 lanes goes by each sixteen lanes alone, so each of the four needs the table.
 const DIGITS: [u8; 64] = *b"0123456789abcdef0123456789abcdef0123456789abcdef0123456789abcdef";
 
 /// The digit of the high half of each lane.
@@ -31,6 +33,7 @@ fn low_digits(lanes: u8x64) -> u8x64
 }
 
 /// The digits of each lane, in two halves.
+// Proof: interleaved lanes are one map over the indexes 0, 64, 1, 65, .., which computes to the digits of each lane in turn.
 #[inline(always)]
 fn halves_of(lanes: u8x64) -> (u8x64, u8x64)
     ensures digits { result.0 ++ result.1 ≡ encode_lower lanes }
@@ -63,6 +66,7 @@ fn padded(octets: &[u8]) -> u8x64
 }
 
 /// Puts the digits of fewer than 64 octets behind a text that has room for them.
+// No form of its own for few octets: lines print contents of many octets, or none.
 fn put_few(text: &mut Vec<u8>, octets: &[u8])
     requires few { length octets.now < 64 }
     requires room { vec_len text.old + 2 * length octets.now ≤ vec_capacity text.old }
@@ -72,6 +76,7 @@ fn put_few(text: &mut Vec<u8>, octets: &[u8])
         return;
     }
     let digits = digits_of(padded(octets));
+    // It does not fail: the clause asks for the room.
     text.extend_from_slice(&digits[..2 * octets.len()]).unwrap();
 }
 
@@ -108,6 +113,7 @@ pub fn push_digits(text: &mut Vec<u8>, octets: &[u8]) -> Result<(), AllocError>
     ensures digits { OnOk result (text.new.items ≡ text.old.items ++ encode_lower octets.now) }
     ensures refused { OnErr result (text.new.items ≡ text.old.items) }
 {
+    // Never `None`: what lies in memory has fewer than 2^63 octets.
     let Some(room) = octets.len().checked_mul(2) else {
         return Err(AllocError);
     };

@@ -11,6 +11,7 @@ use std::alloc::{AllocError, Global};
 use std::marker::Model;
 
 /// The room of a line's words but for contents.
+// Our own choice: a guess of the room, so that most lines take memory once. A longer line takes more as it grows.
 const WORDS: usize = 128;
 
 /// What stands between words.
@@ -19,6 +20,7 @@ const SPACE: u8 = b' ';
 /// A line without its line feed, seen as its octets. It is begun with its first word, then words and pieces of words are put
 /// behind it, and `end` gives it with its line feed. Where a call answers that there is no memory, a front of what it puts may
 /// stand.
+// One buffer, to which words are put one by one. Its value is then a fold of words onto a text, and no word needs a string of its own.
 #[derive(Debug, Drop)]
 pub struct Line {
     octets: Vec<u8>,

@@ -22,6 +22,7 @@ pub(crate) struct Located {
 pub(crate) fn address_at(port: u16) -> SocketAddr
     ensures { IsAt result port }
 {
+    // Nothing but this machine: nobody is authenticated, so what comes from outside could speak in any member's name.
     SocketAddr::V4(SocketAddrV4::new(Ipv4Addr::new(127, 0, 0, 1), port))
 }
 
@@ -69,6 +70,7 @@ pub(crate) fn member_at(profile: &Profile, place: u8) -> NodeId
     ensures id { result ≡ profile.now.sender + place }
     ensures node { is_node profile.now result ≡ true }
 {
+    // It does not fail: the greatest sender leaves numbers for 16 receivers.
     NodeId::of(profile.sender + u32::from(place)).unwrap()
 }
 

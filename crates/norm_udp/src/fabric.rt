@@ -27,6 +27,7 @@ use std::thread;
 use std::time::{Clock, Duration};
 
 /// How often a sender looks at most, while its gap lasts.
+// Our own choice, so that the look ends even if the clock stands still. A millisecond has time for fewer calls of the system.
 const MOST_LOOKS: u32 = 16_384;
 
 /// Microseconds between a node's datagrams: the profile's gap where it is the sender alone, and else 0.
@@ -55,6 +56,7 @@ fn look_through(
     ensures sieved { IfOk result (λ found. IfSome found (λ _. is_cut_off sieve.new.profile sieve.new.cut (heard_in into.new) ≡ false)) }
     ensures err { OnErr result (into.new ≡ []) }
 {
+    // A bound on datagrams that are passed over: a stranger who sends without end would otherwise keep this call from its node.
     for _ in 0..MOST_PASSED {
         let Some(found) = open.look(buffer, into)? else {
             return Ok(None);
@@ -124,6 +126,7 @@ impl<R: Net + Wait + Clock + Drop> UdpFabric<R> {
         ensures passed { passed_by self.new ≡ 0 }
         ensures misfit { misfit_by self.new ≡ None }
     {
+        // Before the sockets go, and by the lane: what was offered before still goes out.
         self.senders.leave(&self.rt);
         self.open = Open::Nothing;
         self.sieve = Sieve::open();
@@ -155,6 +158,7 @@ impl<R: Net + Wait + Clock + Drop> UdpFabric<R> {
     fn now(&self) -> u64 {
         match self.rt.monotonic() {
             Ok(time) => u64::try_from(time.as_micros()).unwrap_or(0),
+            // A clock that fails costs pauses of another length, and no datagram.
             Err(_) => 0,
         }
     }
@@ -250,6 +254,7 @@ impl<R: Net + Wait + Clock + Drop> UdpFabric<R> {
         requires { length bytes.now ≤ datagram_room }
         ensures { IfErr result (λ cause. is_sending cause ≡ true) }
     {
+        // What a thread failed at is told by the next call of the node. Nobody else hears of it, and a fault that is not told would be lost data.
         self.senders.check(&self.rt)?;
         self.open.send(&self.rt, &self.senders, from, bytes)
     }

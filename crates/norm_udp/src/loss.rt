@@ -8,6 +8,7 @@ use libc::{EAGAIN, ECONNREFUSED};
 use std::io;
 
 /// The system has no buffers (Linux's ENOBUFS).
+// Linux's number, which the kit does not name. On another system it is some other error, which then counts as a fault.
 const NO_BUFFERS: i32 = 105;
 
 /// Whether an error of a socket is a lost datagram: nobody is there, or there is no room for it.
@@ -15,6 +16,7 @@ pub(crate) fn is_loss(error: &io::Error) -> bool
     ensures { result ≡ is_loss (raw_os_error error.now) }
 {
     match error.raw_os_error() {
+        // NORM makes good what is lost, so a full buffer or a peer that has not started yet is no reason to end.
         Some(code) => code == EAGAIN || code == NO_BUFFERS || code == ECONNREFUSED,
         None => false,
     }

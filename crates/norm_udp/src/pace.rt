@@ -4,15 +4,19 @@ ghost use Rattle.std.specs.Prelude.{◌≡◌};
 ghost use Rattle.norm_udp.specs.Pausing.{look_until, sleep_since, pause_of, new_pace, with_offer_at, made_busy, found_empty};
 
 /// A sender looks for at most so many microseconds.
+// Our own choice: a longer gap leaves time to sleep, and a sender that looks takes a whole processor.
 const LONGEST_LOOK: u64 = 1_000;
 
 /// Microseconds since the last datagram for which a sleep is short.
+// Our own choice: within ten milliseconds of the last datagram the next one is mostly near.
 const RECENT: u64 = 10_000;
 
 /// Microseconds of a sleep where a datagram was offered or taken lately.
+// Our own choice: what an answer may be late by while datagrams come. Less of it costs the processor that other nodes of this machine need.
 const SHORT_SLEEP: u64 = 250;
 
 /// Microseconds of a sleep where none was.
+// Our own choice: a node at rest then wakes a thousand times a second at most.
 const LONG_SLEEP: u64 = 1_000;
 
 /// What is done where nothing is there to be taken.
@@ -101,6 +105,7 @@ impl Pace {
     {
         match self.offered {
             Some(offered) => Pause::Look(look_until(self.gap, offered)),
+            // The node has something to do first: it ticks, and may answer what it took.
             None if self.busy => Pause::Answer,
             None => Pause::Sleep(self.last),
         }

@@ -16,12 +16,15 @@ use std::thread::Threads;
 use std::time::Clock;
 
 /// Of each so many processors one is for a thread that sends.
+// Our own choice: half of the processors are left for the node and for other processes of this machine.
 const PROCESSORS_EACH: usize = 2;
 
 /// A machine with fewer processors has no thread that sends.
+// Our own choice: with fewer a thread that sends takes the processor that the node would use itself.
 const LEAST_PROCESSORS: usize = 4;
 
 /// How many threads send at most.
+// Our own choice: a hub has at most 16 receivers to share out among them.
 const MOST_THREADS: usize = 4;
 
 /// Does what was posted next: the thread sends another way from here on, or sends a datagram. The place is given back, with what failed.
@@ -73,6 +76,8 @@ fn threads_here<R: Threads>(rt: &R) -> usize {
 
 /// Threads that send what a hub or a sender offers, and what each is told by. As it is dropped, each thread ends once it has sent what
 /// was offered.
+// Threads stand behind the network and not in the node, because the call that sends is most of what a hub does. The node stays one thread, so no
+// clause of it speaks of others: what a thread sends is a network that delays.
 pub struct Senders(Vec<Arc<Lane>>);
 
 impl Drop for Senders {
@@ -115,6 +120,7 @@ impl Senders {
         let lane = Arc::new(alloc, Lane::new(&rt, alloc)?)?;
         let theirs = Arc::try_clone(&lane)?;
         self.0.push(lane)?;
+        // Whoever drops `self` then ends the threads that were started before.
         if thread::spawn(&rt, move || serve(&rt, &theirs)).is_err() {
             return Err(Memory);
         }

@@ -20,6 +20,7 @@ pub trait PassesOver {
 
 /// What a receiver alone passes over: from transmission information on that is not of its profile, all that its sender sends in that instance. A
 /// receiver would take no object of it, and ask for each again and again. INFO or DATA that fits ends that, so that one forged datagram cuts nobody off.
+// In the network and not in the rules: a network may lose anything, so no clause above it changes.
 #[derive(Drop)]
 pub(crate) struct Sieve {
     /// The receiver's profile. `None` at any other node, at which nothing is passed over.
@@ -63,6 +64,7 @@ fn is_in(cut: &Option<InstanceId>, instance: InstanceId) -> bool
 fn cut_by(is_fit: bool, cut: Option<InstanceId>, instance: InstanceId) -> Option<InstanceId>
     ensures { result ≡ cut_by is_fit cut instance }
 {
+    // From the first misfit on all of the instance is passed over. Without that a receiver would ask for each object anew in each round.
     if !is_fit {
         return Some(instance);
     }
@@ -132,6 +134,7 @@ impl Sieve {
         ensures count { self.new.count ≡ counted self.old.count result }
         ensures misfit { self.new.misfit ≡ misfit_then (Some profile.now) result self.old.misfit (Some heard.now) }
     {
+        // Only the profile's sender can misfit. Another one is passed over by the receiver itself.
         if heard.sender.number() != profile.sender {
             return false;
         }

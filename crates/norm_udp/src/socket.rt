@@ -12,18 +12,22 @@ use std::net::{Net, SocketAddr, UdpSocket};
 use std::os::fd::AsRawFd;
 
 /// Octets of a buffer that a datagram is received into: one more than a datagram may have, so that a longer one shows.
+// A read cuts what is longer than the buffer. With one octet more a datagram that is too long is told from one that fits.
 pub(crate) const BUFFER: usize = DATAGRAM_ROOM + 1;
 
 /// Octets of the receive buffer that a socket asks for.
+// Our own choice, 4 MiB: some 2,800 datagrams of full size, so that a turn that hands up or prints loses nothing. The system may give less.
 const RECEIVE_BUFFER: i32 = 4 << 20;
 
 /// How many datagrams in a row are passed over at most, before it is answered that nothing is there.
+// Our own choice. Strangers may send without end, and a node that is asked for a datagram has to come back to its turn.
 pub(crate) const MOST_PASSED: u32 = 1_024;
 
 /// Asks for a large receive buffer. The system may give less, and the socket goes on with that.
 fn ask_for_room(socket: &UdpSocket) {
     let mut value = [0u8; 16];
     value[..4].copy_from_slice(&RECEIVE_BUFFER.to_ne_bytes());
+    // Whatever it answers is of no use: with a smaller buffer more is lost, and NORM makes that good.
     let _ = unsafe { setsockopt(socket.as_raw_fd(), SOL_SOCKET, SO_RCVBUF, &value, 4) };
 }
 
@@ -68,6 +72,7 @@ fn sent(done: io::Result<usize>, address: SocketAddr) -> Result<(), SocketCause>
 {
     match done {
         Ok(_) => Ok(()),
+        // A datagram that could not be sent is one that the network lost.
         Err(error) if is_loss(&error) => Ok(()),
         Err(error) => Err(SocketCause::Send { address, error }),
     }

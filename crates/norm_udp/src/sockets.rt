@@ -109,6 +109,7 @@ fn share_sending<R: Wait + Clock>(
     }
     match member.socket.try_clone() {
         Ok(socket) => usize::from(senders.tell(rt, 0, Way::Hub { socket, hub })),
+        // Without a second handle of the socket the node sends by itself.
         Err(_) => 0,
     }
 }
@@ -215,6 +216,8 @@ fn tell_way<R: Wait + Clock>(
         receivers,
     };
     if !senders.tell(rt, place, way) {
+        // The lane had no free place for ten milliseconds, so its thread does not know where to send. It counts as want of memory: a lane is the
+        // room for datagrams.
         return Err(OpenFault::Memory);
     }
     Ok(())
@@ -244,6 +247,7 @@ fn share_copying<R: Net + Wait + Clock>(
 ) -> Result<usize, OpenFault>
     ensures { IfOk result (λ told. told ≡ sharing profile.now (lanes_of senders.now)) }
 {
+    // A thread without a receiver would have a lane to fill and nothing to send.
     let threads = senders.count().min(usize::from(profile.receivers));
     let mut told = 0;
     for place in 0..threads {
@@ -378,6 +382,7 @@ fn look_among(
                 return Ok(Some(member.located));
             }
         }
+        // It goes on only from a member that has nothing. So while datagrams wait at one, each costs one call of the system.
         let next = place.saturating_add(1);
         *place = if next < members.len() { next } else { 0 };
     }

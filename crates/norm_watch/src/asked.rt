@@ -6,6 +6,7 @@ use std::rt::Env;
 
 /// Whether a variable of the environment has this value.
 fn has_value(rt: &impl Env, name: &str, value: &[u8]) -> bool {
+    // No value that is asked for is longer.
     let mut buf = [0u8; 16];
     match rt.var(name, &mut buf) {
         Ok(n) => n <= buf.len() && &buf[..n] == value,

@@ -14,12 +14,15 @@ use std::fmt;
 use std::time::{Clock, Duration};
 
 /// How many seconds there are from one line of progress to the next.
+// Our own choice: as often as a person can read it.
 const PAUSE: u64 = 1;
 
 /// The clock is read at one take in this many. If nothing comes each sleeps a millisecond, so that they are well under a second.
+// Our own choice. While datagrams come a read of the clock at each would show in the rate.
 const TAKES: u32 = 64;
 
 /// The place of a datagram's first octet of a header, and of its flags.
+// RFC 5740 section 4.2.1.
 const FLAGS: usize = 12;
 
 /// What a node is.
@@ -136,6 +139,7 @@ fn is_repair(datagram: &[u8]) -> bool {
     if datagram.len() <= FLAGS {
         return false;
     }
+    // By two octets and not by a reading of the message: it is asked of each datagram.
     let kind = datagram[0] & 15;
     (kind == 1 || kind == 2) && datagram[FLAGS] & 1 == 1
 }
@@ -150,6 +154,8 @@ fn counts_takes(local: &Local) -> bool {
 }
 
 /// A network around which a person watches.
+// Around the outside, and not in the objects of norm_host: a network of any kind is watched as it stands, and each clause of the trait is passed
+// on once for all of them.
 #[derive(Drop)]
 pub struct WatchedFabric<'a, R, F> {
     rt: R,
@@ -347,6 +353,7 @@ impl<R: Eprint + Clock, F: Fabric + PassesOver> Fabric for WatchedFabric<'_, R, 
     ghost fault_count = { λ w. F.fault_count (watched_by w) };
 
     fn start(&mut self, profile: &Profile, local: Local) -> Result<(), FabricFault> {
+        // The watched network first: of a start that failed nothing is to be said.
         self.fabric.start(profile, local)?;
         self.begin(profile, &local);
         Ok(())

@@ -1,10 +1,12 @@
 //! Which members are listed past what, and which watermarks are open, by the lines that say so.
 
 /// The most members and open watermarks of a session.
+// The key `receivers` goes up to 16, and as many watermarks are open at once. What is beyond is not counted.
 const MOST: usize = 16;
 
 /// A place in the transport order, as one number that rises with it.
 fn place_of(index: u64, block: u64, symbol: u64) -> u64 {
+    // 32 bits of index, 24 of block and 8 of symbol fill one word, in the order that positions have.
     index.wrapping_shl(32) | block.wrapping_shl(8) | symbol
 }
 

@@ -15,6 +15,7 @@ pub struct Says {
 }
 
 /// Goes to the line's beginning, and wipes what stands there (ECMA-48, EL).
+// Wiped first, since the line before may have been longer.
 const BEGIN: &str = "\r\u{1b}[K";
 
 /// How far a node is, on one line that is drawn over the one before.
@@ -39,6 +40,7 @@ impl fmt::Display for Progress<'_> {
 /// Draws the line of progress over what stands there.
 pub(crate) fn draw<R: Eprint>(rt: &R, tally: &Tally) {
     let progress = Progress { tally };
+    // What cannot be said to a person is no fault of the node.
     let _ = eprint!(rt; "{progress}");
     tally.is_drawn.set(true);
 }

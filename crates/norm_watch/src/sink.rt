@@ -10,9 +10,11 @@ use crate::tally::Tally;
 use norm_base::{Failed, InstanceId, Sink};
 
 /// The most words of a line that are looked at.
+// No line has more words before its contents that are counted.
 const MOST_WORDS: usize = 8;
 
 /// The most octets of a line that are looked at: the words that are counted stand before contents.
+// Our own choice: the words before contents are shorter, and a line may have megabytes behind them.
 const MOST_OCTETS: usize = 128;
 
 /// A sink, each line of which is counted once it was written. Who is to know of a sender's restarts is told of each as its line was written, which is
@@ -157,6 +159,7 @@ impl<R: Eprint, K: Sink, T: Restarts> Sink for WatchedSink<'_, R, K, T> {
         if self.says.beside {
             wipe(&self.rt, self.tally);
         }
+        // The watched sink first: what was not written is not counted.
         self.sink.write(bytes)?;
         self.tell(bytes);
         if is_expiry(bytes) {

@@ -11,6 +11,7 @@ use std::fmt;
 use std::time::Duration;
 
 /// How many seconds after a datagram that may be late another shows that it is not. Our own choice.
+// A network that delays gives an old datagram for a moment, and a sender that is passed over sends on.
 const LATE: u64 = 1;
 
 /// Where the instance of a sender's datagram ends, which stands behind the sender's id (RFC 5740 section 4.2).

@@ -4,6 +4,7 @@ use std::cell::Cell;
 
 /// What the sink and the network of a node count together: octets and objects of the lines, a stream as one object, repairs of the datagrams, and
 /// of the members that are listed how many are past the oldest open watermark; whether a watermark expired, and whether a line of progress is drawn.
+// Cells, because the sink and the network both count here, and each holds it by a shared loan.
 #[derive(Drop)]
 pub struct Tally {
     pub(crate) octets: Cell<u64>,

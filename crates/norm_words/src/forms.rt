@@ -15,6 +15,7 @@ use std::alloc::{AllocError, Global};
 pub(crate) fn session_form<'a>(alloc: Global) -> Result<Command<'a>, AllocError>
     ensures { IfOk result (λ command. app_of command ≡ session_form) }
 {
+    // Texts to `clap`: numbers are read as in a script, because `clap` would take `+5` and `007`.
     let chance = Arg::new(alloc, "chance").long("chance");
     let turns = Arg::new(alloc, "turns").long("turns");
     let command = Command::new(alloc, "session").arg(chance)?.arg(turns)?;
@@ -67,6 +68,7 @@ pub(crate) fn hub_form<'a>(alloc: Global) -> Result<Command<'a>, AllocError>
 }
 
 /// Whether memory was wanted.
+// `clap` takes memory to refuse, so want of memory may come in place of a refusal.
 fn is_memory(error: &Error) -> bool
     ensures { Decides result (kind_of error.now ≡ ErrorKind.OutOfMemory) }
 {

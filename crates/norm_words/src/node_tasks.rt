@@ -14,6 +14,7 @@ use norm_script::number_within;
 use std::alloc::{AllocError, Global};
 
 /// The least and the greatest number of a node.
+// RFC 5740 section 4.1: 0 and 2^32 - 1 name no member. Whether the profile has the node is seen later.
 const NODES: (u32, u32) = (1, u32::MAX - 1);
 
 /// What the program is asked to do as one node of a session over a network. A profile is named by its path, as the shell gives it.

@@ -31,6 +31,8 @@ use std::marker::Model;
 /// The command of a file may also come in pieces: [`begin_file`](World::begin_file), then [`file_piece`](World::file_piece) until all its
 /// octets are there, then [`end_file`](World::end_file), or at any time [`leave_file`](World::leave_file). From the first of them
 /// to the last no other call may come that moves the sender.
+// The receivers lie in the order of their ids, one for each node of the profile. `place` goes by that; with a gap a datagram would go to another
+// node.
 #[derive(Debug, Drop)]
 pub struct World {
     profile: Profile,
@@ -62,6 +64,7 @@ fn receivers(alloc: Global, profile: &Profile) -> Result<Vec<Receiver>, Memory>
 }
 
 /// The place of a receiver among those of its profile.
+// Proof: the receiver at an index is that of its node, so laws by node need no list of states.
 fn place(profile: &Profile, node: NodeId) -> usize
     requires { is_receiver profile.now node ≡ true }
     ensures place { result ≡ place_of profile.now node }
@@ -224,6 +227,7 @@ impl World {
         ensures wanted { OnErr result (MayWant self.old to bytes.now) }
     {
         if !self.profile.is_receiver(to) {
+            // No draw: a sender backs off from nothing.
             self.sender.deliver(bytes, now);
             return Ok(());
         }
@@ -233,6 +237,7 @@ impl World {
     }
 
     /// The sender ticks: it writes the datagram that is to be sent now, if there is one. It takes no memory.
+    // Two calls in place of one that asks which node ticks: each is one event of the list, and its clause is that event's alone.
     pub fn tick_sender(&mut self, now: Moment, out: &mut Datagram) -> Sent
         requires { IsReady self.old }
         ensures ready { IsReady self.new }
@@ -256,6 +261,7 @@ impl World {
     }
 
     /// A node's datagram is offered to the network. Nothing of it is kept.
+    // The network and the journal have the octets. Kept here they would grow with the session, and the call could want memory.
     pub fn offered(&self, from: NodeId, bytes: &[u8])
         ensures { IsEvent self.now self.now (Offered from bytes.now) (λ answer. answer ≡ Silent) }
     {}

@@ -34,6 +34,7 @@ impl Numbers {
     /// Keeps an instance that was given. One that does not lie above the last one is used all the same, and standard error warns. So is one that cannot
     /// be kept: whoever gives instances sees to it that they rise.
     fn keep(&self, instance: InstanceId) {
+        // A given instance is used in any case: whoever gives it may have started all receivers anew.
         if let Ok(Some(last)) = self.file.keep(instance) {
             let instance = instance.0;
             let last = last.0;
@@ -87,6 +88,7 @@ fn document_at(rt: HostRuntime, alloc: Global, path: &str) -> Result<Option<Docu
     match load_document(alloc, &mut files, path) {
         Ok(document) => Ok(Some(document)),
         Err(LoadFault::Memory) => Err(Memory),
+        // The program loads the profile once more, and says there what is wrong with it.
         Err(_) => Ok(None),
     }
 }
@@ -94,6 +96,7 @@ fn document_at(rt: HostRuntime, alloc: Global, path: &str) -> Result<Option<Docu
 /// Puts an instance into the words, behind the first.
 fn put(alloc: Global, words: &mut Vec<String>, instance: InstanceId) -> Result<(), Memory> {
     let instance = instance.0;
+    // Into the words, as if a person had given it: so the program's one function has the instance in its words, and no clause knows of drawn ones.
     let word = format!(in alloc; "--instance={instance}")?;
     if !words.is_empty() {
         words.insert(1, word)?;

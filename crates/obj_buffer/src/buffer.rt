@@ -45,6 +45,7 @@ fn plan_of(profile: &Profile, len: u64) -> Plan
     requires most { len ≤ 16777216 }
     ensures { result ≡ cut_of len profile.now.e profile.now.b profile.now.max_n }
 {
+    // It does not fail: a profile's sizes are in their ranges, and 16,777,216 octets never need more blocks than 24 bits name.
     Plan::of(len, profile.e, profile.b, profile.max_n).unwrap()
 }
 
@@ -76,6 +77,7 @@ impl ObjectBuf {
         let codes = Codes::of(alloc, &mut CodeTable::new(alloc), &plan)?;
         let e = u64::from(profile.e);
         let mut symbols = bytes;
+        // Padded once, so that parity is made of whole symbols (RFC 5510 section 8) without a copy of the last one.
         symbols.resize((len.div_ceil(e) * e) as usize, 0)?;
         Ok(ObjectBuf {
             plan,

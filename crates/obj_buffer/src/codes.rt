@@ -57,6 +57,7 @@ impl Codes {
     pub fn of(alloc: Global, table: &mut CodeTable, plan: &Plan) -> Result<Codes, Memory>
         ensures { IfOk result (λ codes. codes ≡ plan.now) }
     {
+        // The first and the last block have the only two lengths that there are (RFC 5052 section 9.1).
         let last_block = plan.blocks() - 1;
         let first = code_of(alloc, table, plan, 0)?;
         if plan.source_len(last_block) == plan.source_len(0) {
@@ -84,6 +85,7 @@ impl Codes {
         }
         match &self.last {
             Some(last) => last,
+            // Not taken for a block of the plan: without a second code all blocks are as long as the first.
             None => &self.first,
         }
     }

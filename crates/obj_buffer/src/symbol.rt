@@ -74,6 +74,7 @@ fn push_parity(
     let start = plan.symbol_number(block, 0) as usize * e;
     let len = usize::from(plan.source_len(block)) * e;
     let (first, rest) = range_of(front, back, start, len);
+    // On the stack: a symbol is made for each datagram, and a sender has no answer for want of memory there.
     let mut room = [0; SYMBOL_ROOM];
     let parity = &mut room[..e];
     code.parity_in_two(first, rest, e, symbol, parity);
@@ -82,6 +83,7 @@ fn push_parity(
 
 /// Adds a symbol of an object: a source symbol at its own length, a parity symbol at e octets. `front` and `back` are
 /// together the object's octets, padded with zeros to whole symbols, and `front` is whole symbols. It takes no memory.
+// Proof: it holds for every object whose octets the two pieces are. Callers bring that fact, and no ghost value is needed.
 pub fn symbol_of(
     plan: &Plan,
     codes: &Codes,

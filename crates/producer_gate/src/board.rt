@@ -107,6 +107,7 @@ impl Board {
         ensures same { self.new.id ≡ self.old.id }
         ensures ends { PublishEnds self.old mark outcome result self.new }
     {
+        // All memory is taken when the board is made, so a full board can only be told as want of memory. A script has no more marks than places.
         if self.count >= MOST {
             return Err(Memory);
         }
@@ -153,6 +154,7 @@ impl BoardReader {
             count: _,
         } = front;
         hear(&self.words, &mut self.place, theirs);
+        // The count is read as the front is taken in. So one list says both what a reader saw and what it was told of.
         let _count = look(&self.words, &mut self.place);
     }
 

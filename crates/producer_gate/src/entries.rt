@@ -14,9 +14,11 @@ pub enum Seen {
 }
 
 /// How many kinds of outcomes there are.
+// The variants of `Outcome`.
 const KINDS: u64 = 4;
 
 /// How many values a count of 32 bits has.
+// `left` has 32 bits. Above the two bits of the kind it fits a word of 64.
 const COUNTS: u64 = 1 << 32;
 
 /// An outcome as one word: its kind, and above that its count.

@@ -12,6 +12,7 @@ use std::marker::Model;
 use std::sync::Wait;
 
 /// The most commands that one producer submits.
+// As many commands as a script has (`MOST_COMMANDS` of norm_script). One more is refused with `TooMany`.
 const MOST: u64 = 4096;
 
 /// The ring. Threads share it by reference.
@@ -34,6 +35,7 @@ impl Model for Gate {
 }
 
 /// What one producer submits with. A thread owns it, and it knows what it submitted.
+// A number and no list: what was submitted stands in the seat's view, which exists in proofs alone. So a seat takes no memory.
 #[derive(Drop)]
 pub struct Seat {
     pub(crate) pass: Own,
@@ -87,6 +89,7 @@ impl Gate {
         ensures own { IfOk result (λ made. All (λ s. s.gate ≡ made.0.id) made.1.items × (vec_len made.1 ≡ producers)) }
     {
         let (ring, mut pass) = Ring::ruled(alloc, capacity as usize)?;
+        // Room for all that can ever be pulled, so that a pull takes no memory.
         let names = Vec::with_capacity(alloc, producers as usize * MOST as usize)?;
         let seats = seats_of(alloc, &ring, &mut pass, producers)?;
         Ok((Gate { ring, producers }, seats, PullSeat { pass, names }))
@@ -113,6 +116,7 @@ impl Gate {
             number,
             item,
         };
+        // The seat's number rises only after the push: a command that is refused must get the same number again.
         if !push(&self.ring, rt, &mut seat.pass, command) {
             return Err((item, GateFault::Full));
         }

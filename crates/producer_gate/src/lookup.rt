@@ -21,6 +21,7 @@ pub(crate) fn post(words: &Words, place: &mut Place, count: u64, first: u64, sec
     ensures words { own_in place.new.me.0 ≡ own_in place.old.me.0 ++ (first, second) ∷ [] }
 {
     let at = count as usize;
+    // The count last. A reader that sees it finds both words of the entry there.
     put_first(words, place, at, first);
     put_second(words, place, at, second);
     show(words, place, count);
@@ -36,6 +37,7 @@ pub(crate) fn find_last(words: &Words, place: &mut Place, count: usize, mark: u6
     let mut left = count;
     // Proof: the label names the loop for its invariant.
     'back: while left > 0 {
+        // From the last entry back, since the last one of a mark counts.
         left -= 1;
         if first_at(words, place, left) == mark {
             return Seen::Known(outcome_of(second_at(words, place, left)));

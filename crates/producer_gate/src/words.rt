@@ -7,9 +7,11 @@ use std::alloc::Global;
 use std::collections::LinkedList;
 
 /// The most entries that a board holds.
+// As many outcomes as a script has commands. Beyond it `publish` answers `Memory`.
 pub(crate) const MOST: u64 = 4096;
 
 /// How many words these take, with the count of them.
+// Two words for each of 4,096 entries, and the count in front.
 pub(crate) const WORDS: usize = 8193;
 
 /// What a seat at the words knows.

@@ -7,6 +7,7 @@ use std::alloc::Global;
 use std::marker::Model;
 
 /// A sender of which no file is begun, so that each of its calls may come next.
+// A type of its own for one fact: no call here begins a file, so each call's condition holds of itself.
 #[derive(Drop)]
 pub(crate) struct Driven {
     sender: Sender,

@@ -42,6 +42,7 @@ fn tick(
     let Some(now) = words.number() else {
         return Ok(None);
     };
+    // The receiver's condition for a tick. Events of a file may come in any order, so it is asked and answered.
     if receiver.ups() > 0 {
         return Ok(Some(said(alloc, "untaken")?));
     }

@@ -6,6 +6,7 @@ use std::alloc::Global;
 use std::str::SplitWhitespace;
 
 /// What stands for no octets, and for no info.
+// Empty octets have no digits, and a word that is empty would be none.
 const DASH: &str = "-";
 
 /// The words of a line that were not read yet.

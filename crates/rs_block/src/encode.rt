@@ -13,6 +13,7 @@ use std::marker::Model;
 
 /// A code of blocks of k source symbols and n encoded symbols: symbols 0 to k - 1 of a block are its source
 /// symbols, and the others are parity. It keeps k octets for each parity symbol.
+// The rows are computed with the code, once, so that a symbol costs its sums alone.
 #[derive(Debug, Drop)]
 pub struct Code {
     k: u8,
@@ -129,6 +130,7 @@ impl Code {
         requires room { length out.old ≡ size }
         ensures { IsSymbol self.now.k self.now.n size (front.now ++ back.now) j out.new }
     {
+        // The split below divides by the size, and symbols without octets have no sum.
         if size == 0 {
             return;
         }

@@ -28,6 +28,7 @@ pub fn put_symbol(row: &mut [u8], size: usize, i: usize, symbol: &[u8])
 }
 
 /// Copies each symbol that is not the source symbol of its place to the same place of `aside`.
+// All of them before the first is written over: each source symbol that is computed is a sum of all symbols that came.
 pub fn set_aside(ids: &[u8], row: &[u8], size: usize, aside: &mut [u8])
     requires row { length row.now ≡ length ids.now * size }
     requires room { length row.now ≤ length aside.old }
@@ -129,6 +130,7 @@ pub fn put_lacking(
     requires room { length coefficients.old ≡ length ids.now }
     ensures { AreSources (length ids.now) size ids.now row.old row.new }
 {
+    // The sum reads the row, so the symbol is made beside it and then copied. On the stack, so that solving takes no memory.
     let mut room = [0; SYMBOL_ROOM];
     let symbol = &mut room[..size];
     for j in 0..ids.len() as u8 {

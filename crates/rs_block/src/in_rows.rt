@@ -20,6 +20,7 @@ use gf_field::add_scaled;
 use norm_base::SYMBOL_ROOM;
 
 /// Symbol `i` of symbols of `size` octets in rows.
+// Proof: rows count as their octets one after the other, so the lemmas on one long buffer serve here too.
 fn octets_at(rows: &[Row], size: usize, i: usize) -> &[u8]
     requires within { i < length rows.now }
     requires sizes { AllByRecursion (λ (row : List ℕ). length row ≡ size) rows.now }
@@ -31,6 +32,7 @@ fn octets_at(rows: &[Row], size: usize, i: usize) -> &[u8]
 }
 
 /// Puts a symbol into row `i`.
+// Proof: as at `octets_at`.
 fn put_row(rows: &mut [Row], size: usize, i: usize, symbol: &[u8])
     requires size { length symbol.now ≡ size }
     requires within { i < length rows.old }
@@ -43,6 +45,7 @@ fn put_row(rows: &mut [Row], size: usize, i: usize, symbol: &[u8])
 }
 
 /// Copies each symbol that is not the source symbol of its row to the same place of `aside`.
+// All of them before the first row is written over: each source symbol that is computed is a sum of all symbols that came.
 pub fn set_rows_aside(ids: &[u8], rows: &[Row], size: usize, aside: &mut [u8])
     requires count { length rows.now ≡ length ids.now }
     requires sizes { AllByRecursion (λ (row : List ℕ). length row ≡ size) rows.now }
@@ -132,6 +135,7 @@ pub fn put_lacking_rows(
     ensures sources { rows.new ≡ solved_sources size ids.now rows.old }
     ensures symbols { AreSymbols (length ids.now) size rows.new }
 {
+    // The sum reads the rows, so the symbol is made beside them and then copied. On the stack, so that solving takes no memory.
     let mut room = [0; SYMBOL_ROOM];
     let symbol = &mut room[..size];
     for j in 0..ids.len() as u8 {

@@ -14,6 +14,7 @@ ghost use Rattle.rs_block.specs.Row.{coefficients, combined};
 use gf_field::{add_scaled, alpha_log, alpha_pow};
 
 /// The order of alpha: exponents count up to it.
+// RFC 5510 section 8.1: alpha generates all 255 octets but 0.
 pub const ORDER: u32 = 255;
 
 /// The place of the symbol with this id.
@@ -48,6 +49,7 @@ fn difference_log(places: &[u8], x: u8) -> u32
 }
 
 /// The logarithm of the product of the differences of `place` and each other place.
+// Proof: the place is skipped by its value, as the definition does. All places differ, so no lemma speaks of indexes.
 #[tactic(auto, using(crate::proofs::Formula::others_steps))]
 fn others_log(places: &[u8], place: u8) -> u32
     requires { length places.now ≤ 255 }
@@ -63,6 +65,7 @@ fn others_log(places: &[u8], place: u8) -> u32
 }
 
 /// The logarithm of the weight of a place: what its coefficient has for its denominator, inverted.
+// Weights are kept as logarithms: a product is then a sum, and an inverse a difference.
 #[tactic(auto, using(crate::proofs::Formula::weight_is))]
 pub fn weight_log(places: &[u8], place: u8) -> u8
     requires { length places.now ≤ 255 }
@@ -84,6 +87,7 @@ pub fn weigh(places: &[u8], weights: &mut [u8])
 
 /// The coefficient of a place at `x`, from the logarithms of the product of all differences at `x` and of the
 /// place's weight.
+// One product of all differences serves every place: the place's own difference is taken out again, which costs one look-up in place of k.
 #[tactic(auto, using(crate::proofs::Formula::differ))]
 fn coefficient(all: u32, x: u8, place: u8, weight: u8) -> u8
     requires away { place ≢ x }

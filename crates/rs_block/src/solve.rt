@@ -21,6 +21,7 @@ use std::alloc::{AllocError, Global};
 use std::marker::Model;
 
 /// Room to solve blocks of at most k source symbols: all memory that solving takes is made once.
+// All room is made by `new`, because a receiver has no answer for want of memory at the moment at which a block becomes complete.
 #[derive(Debug, Drop)]
 pub struct Solver {
     k: u8,
@@ -255,6 +256,7 @@ fn recover(
         slice_index out.new t ≡ interpolated (map power ids.now) values (power j)) }
 {
     let size = out.len();
+    // A symbol that came is copied: most do come, and a sum costs a pass over all k symbols.
     match position_of(ids, j) {
         Some(i) => out.copy_from_slice(symbol_at(symbols, size, i)),
         None => {

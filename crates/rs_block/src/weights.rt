@@ -61,10 +61,12 @@ fn next_weight(log: u8, i: u8, last: u8) -> u8
 {
     let gained = alpha_log(place_of(i - 1) ^ place_of(last));
     let lost = alpha_log(place_of(i) ^ place_of(0));
+    // Twice the order is added because up to 507 is taken away, and the number has no sign.
     ((u32::from(log) + gained + 2 * ORDER - (lost + u32::from(last - 1))) % ORDER) as u8
 }
 
 /// Puts the logarithms of the weights of the first powers into `weights`, as many as there is room for.
+// From one weight to the next by two look-ups. Each by itself would take a pass over all places.
 fn weigh_powers(weights: &mut [u8])
     requires some { 1 ≤ length weights.old }
     requires few { length weights.old ≤ 255 }
@@ -112,6 +114,7 @@ fn weigh_others(ids: &[u8], places: &[u8], weights: &mut [u8])
 }
 
 /// Puts the logarithm of each place's weight into `weights`. Each place that has another symbol than its own costs a pass.
+// In this order: `weigh_own` starts from the weights of the first powers, and leaves at the other places what `weigh_others` then replaces.
 pub fn weigh_by_ids(ids: &[u8], places: &[u8], weights: &mut [u8])
     requires some { 1 ≤ length ids.now }
     requires ids { AreIds (length ids.now) 255 ids.now }

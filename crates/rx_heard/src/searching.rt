@@ -15,6 +15,7 @@ use fec_plan::{LAST_BLOCK, Point, Position};
 const WIDEST: u16 = 256;
 
 /// The first of these spans that does not end before a position, or how many they are.
+// Proof: the closure has a clause and the list is ordered, so partition_point decides all before and all after the index.
 pub(crate) fn first_span(spans: &[Span], at: Position) -> usize
     requires { AreApart spans.now }
     ensures bound { result ≤ length spans.now }
@@ -68,6 +69,7 @@ fn asks_as_many(counts: &[Count], at: Point, wanted: u8) -> bool
 }
 
 /// The source symbol behind a position, where blocks have so many.
+// Proof: a span that ends between two positions of one object ends before the last one's block does, so the next block has a number.
 fn symbol_behind(width: u16, at: Position) -> Position
     requires few { width ≤ 256 }
     requires block { width ≤ at.symbol + 1 → at.block + 1 < most_blocks }

@@ -21,6 +21,7 @@ use norm_receive_rules::Fit;
 use std::alloc::Global;
 
 /// For how many hand-ups room is taken with an object: a stream's open and its loss. Data and files need one.
+// A stream's open and its loss are all that comes beside the hand-ups of its symbols, of which its end is one. Any more would find no room.
 const FIRST_UPS: usize = 2;
 
 /// Whether both say the same plan; of a stream the length says nothing.
@@ -60,6 +61,7 @@ impl Front {
         ensures { result ≡ (nat_le (self.now.point + most_ahead) index || nat_lt self.now.profile.octets (self.now.taken + room_of self.now.profile fti.now flags)) }
     {
         let profile = self.profile;
+        // What a sender may make a receiver keep is bounded twice, by objects and by octets: a plan costs its memory before any symbol came.
         (index - self.point) as usize >= PLACES
             || self.taken + room_of(&profile, fti, flags) > u64::from(profile.octets)
     }
@@ -86,6 +88,7 @@ impl Front {
         let Ok(plan) = plan_by(fti, flags) else {
             return Err(Fit::Unfit);
         };
+        // The room to solve blocks has the sizes of the profile, so no other plan can be solved in it.
         if !is_of(&self.profile, plan.e(), fti) {
             return Err(Fit::Unfit);
         }
@@ -113,6 +116,7 @@ impl Front {
         ensures refused { OnErr result (front_view self.new ≡ front_view self.old) }
     {
         let profile = self.profile;
+        // All memory before the first change: the ring and the counts change together or not at all.
         let entry = Entry::new(alloc, index, fti, flags, plan, profile.blocks)?;
         self.reserve(FIRST_UPS)?;
         let place = (index - self.point) as usize;

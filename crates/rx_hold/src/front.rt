@@ -28,6 +28,7 @@ use std::alloc::Global;
 use std::collections::VecDeque;
 
 /// The objects from the hand-up point on.
+// Proof: it has no model, so clauses can name the ring's capacity, which no model shows.
 #[derive(Debug, Drop)]
 pub struct Front {
     pub profile: Profile,
@@ -38,6 +39,7 @@ pub struct Front {
     /// The octets that the objects in the ring take.
     pub taken: u64,
     /// How many hand-ups may come of what is held.
+    // The sum over all seats. If it were less, a hand-up could find no room; the room in `ups` is taken by it.
     pub waiting: usize,
     /// The hand-ups that were not taken yet. There is room for those that may come.
     pub ups: VecDeque<Up>,
@@ -339,9 +341,11 @@ impl Front {
         if place >= PLACES {
             return Ok(Put::Away);
         }
+        // These blocks were handed up and are gone, so the stream could not say whether it holds them.
         if place == 0 && id.block < self.first_block() {
             return Ok(Put::Had);
         }
+        // Before the symbol is kept, so that handing it up takes no memory.
         self.reserve(1)?;
         self.offer(place, id, payload, room, scratch)
     }

@@ -55,6 +55,7 @@ fn up_at(place: Option<Seat>) -> Up
 {
     match place {
         Some(seat) => seat.entry.into_up(),
+        // Ruled out by the clause: `is_whole_first` found an object there.
         None => unreachable!(),
     }
 }
@@ -80,6 +81,7 @@ pub fn waiting_of(place: &Option<Seat>) -> usize
 }
 
 /// Hands up the next segment of a stream at the first place, where that is there.
+// Proof: match on &mut ring[0] keeps the arm that writes nothing apart (set_same).
 fn hand_on(ring: &mut VecDeque<Option<Seat>>, told: usize) -> Option<Up>
     requires some { 0 < length ring.old.items }
     requires room { has_stream (at_place ring.old.items 0) ≡ true → told ≤ waiting_at (at_place ring.old.items 0) }
@@ -102,6 +104,7 @@ fn shift(ring: &mut VecDeque<Option<Seat>>) -> Option<Seat>
     ensures capacity { deque_capacity ring.new ≡ deque_capacity ring.old }
 {
     let first = ring.pop_front();
+    // It does not fail: one place was just taken from the ring.
     ring.push_back(None).unwrap();
     match first {
         Some(seat) => seat,
@@ -136,6 +139,7 @@ pub fn push(ups: &mut VecDeque<Up>, up: Up)
     ensures items { ups.new.items ≡ ups.old.items ++ up ∷ [] }
     ensures capacity { deque_capacity ups.new ≡ deque_capacity ups.old }
 {
+    // It does not fail: room was taken for every hand-up that may come of what is held, as it was kept.
     ups.push_back(up).unwrap();
 }
 
@@ -246,6 +250,7 @@ impl Front {
     }
 
     /// Hands up all that can be. It takes no memory.
+    // Proof: each round holds fewer symbols, so the bound of the rules is never met before the loop ends.
     pub fn advance(&mut self)
         requires { IsFront self.old }
         ensures sound { IsFront self.new }

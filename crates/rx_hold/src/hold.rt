@@ -38,9 +38,11 @@ use std::collections::VecDeque;
 use std::marker::Model;
 
 /// The octets of a segment's place, which stand before its own.
+// RFC 5740 section 4.2.1: a stream's symbol begins with the eight octets of payload_len, payload_msg_start and payload_offset.
 const SEGMENT_PLACE: usize = 8;
 
 /// What a receiver holds.
+// What is held of one object has a crate of its own (rx_hold), so that no check has to bear both.
 #[derive(Debug, Drop)]
 pub struct Hold {
     alloc: Global,
@@ -48,6 +50,7 @@ pub struct Hold {
     /// Room to solve the blocks of data and files.
     room: Room,
     /// Room to solve those of streams.
+    // Two rooms, because a segment is coded with its place and so has eight octets more than a symbol of data or a file.
     scratch: Scratch,
 }
 
@@ -102,6 +105,7 @@ impl Hold {
     /// # Errors
     ///
     /// `Memory` where memory runs out.
+    // Made before the old one goes: a message that begins an instance may still want memory then, and must leave all as it was.
     pub fn anew(&self) -> Result<Hold, Memory>
         ensures empty { IfOk result (λ hold. hold ≡ empty_hold self.now.p) }
         ensures begun { IfOk result (λ hold. StandsFor hold holding_nothing) }

@@ -40,6 +40,7 @@ impl Front {
         let index = self.point;
         drop(self.pass_first());
         push(&mut self.ups, Up::Lost { index });
+        // For good: from here on this receiver confirms nothing of the instance, since an acknowledgement says that all was handed up.
         self.lost = true;
     }
 
@@ -106,6 +107,7 @@ impl Front {
         ensures settled { IfOk result (λ _. IsSettled (front_view self.new)) }
         ensures refused { OnErr result (front_view self.new ≡ front_view self.old) }
     {
+        // Each object before the index may be lost, with one hand-up each, and one more in which the window begins. After this nothing can fail.
         let gap = index.saturating_sub(self.point) as usize;
         self.reserve(gap + 1)?;
         self.lose_before(index, block);

@@ -7,6 +7,8 @@ use fec_plan::Position;
 
 /// Where the next source symbol is that is to be handed up. A stream whose last block was handed up, of those that 24 bits name, goes
 /// on behind it, at a block that no message names.
+// No `Position`: after the last block that 24 bits name, 16,777,215, a stream goes on at block 16,777,216. No symbol has that block, so a stream
+// that did not end there waits until a squelch makes the rest of it lost.
 #[derive(Clone, Copy, Debug, PartialEq, Eq)]
 pub struct Place {
     pub index: u32,
@@ -32,6 +34,7 @@ impl Place {
     pub fn all_handed_up(&self, at: &Position, has_lost: bool) -> bool
         ensures { result ≡ (position_before at.now (position self.now.index self.now.block self.now.symbol) && not has_lost) }
     {
+        // An acknowledgement says that all was handed up, and the lost object was not.
         if has_lost {
             return false;
         }

@@ -15,9 +15,12 @@ use rx_stream::Scratch;
 use std::collections::VecDeque;
 
 /// How many objects are taken up from the hand-up point on.
+// As many as a sender's window may have (key `window`, up to 256). An object further ahead gets `Away`, and is asked for again later.
 pub const PLACES: usize = 256;
 
 /// What is at a place: an object of either kind.
+// `waiting` counts one hand-up for each symbol of a stream that was kept, and two for its open and its loss. Data and files take two with the
+// object. That much room is there before a symbol is kept; if it were not, handing up could fail for want of memory.
 #[derive(Debug, Drop)]
 pub struct Seat {
     pub entry: Entry,
@@ -44,6 +47,7 @@ pub fn fill(ring: &mut VecDeque<Option<Seat>>)
     ensures capacity { deque_capacity ring.new ≡ deque_capacity ring.old }
 {
     for _ in 0..PLACES {
+        // It does not fail: the ring has room for all places, and is empty.
         ring.push_back(None).unwrap();
     }
 }
@@ -131,6 +135,7 @@ pub fn offer_at(
 {
     match &mut ring[place] {
         Some(seat) => seat.offer(id, payload, room, scratch),
+        // Without a plan it is not known how the object is cut.
         None => Ok(Put::Away),
     }
 }

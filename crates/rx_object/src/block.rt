@@ -12,6 +12,7 @@ use crate::room::Room;
 use norm_order::put_padded;
 
 /// The id of a place where no symbol lies.
+// No symbol has this id: a block has at most 255 encoded symbols (RFC 5510 section 8), with the ids 0 to 254.
 pub const FREE: u8 = 255;
 
 /// The first place that is free. `None` exactly where none is.
@@ -28,9 +29,11 @@ fn free_place(ids: &[u8], symbol: u8) -> usize
     ensures free { slice_index ids.now result ≡ 255 }
 {
     let own = usize::from(symbol);
+    // A source symbol at its own place needs not be moved as the block is solved.
     if own < ids.len() && ids[own] == FREE {
         return own;
     }
+    // It does not fail: a symbol is put only into a block that lacks some, and so has a free place.
     first_free(ids).unwrap()
 }
 
@@ -84,6 +87,7 @@ fn solve(room: &mut Room, ids: &[u8], row: &mut [u8])
 
 /// Puts a symbol that is new into a block that lacks so many. As the last one that is lacking comes, the block's source
 /// symbols come to lie at their places. There is room to solve blocks of as many source symbols of this size.
+// Proof: what is held is a function of ids, so one more symbol changes one value, and no order of arrival counts.
 pub fn put(
     room: &mut Room,
     ids: &mut [u8],

@@ -42,6 +42,7 @@ pub struct Object {
     info: Option<Octets>,
     rows: Rows,
     /// For each block how many symbols are held.
+    // Always as many as the block has places that are not free. A greater count would end a block early, with zeros for what did not come.
     counts: Vec<u8>,
     /// The blocks that are not done.
     shorts: Shorts,
@@ -185,6 +186,7 @@ impl Object {
     pub fn holds(&self, block: u32, symbol: u8) -> bool
         ensures { result ≡ holds (alone self.now) (position self.now.plan.index block symbol) }
     {
+        // 255 stands for a place that is free, and is no symbol's id.
         if block >= self.rows.plan.blocks() || symbol == FREE {
             return false;
         }
@@ -298,6 +300,7 @@ impl Object {
     }
 
     /// The hand-up of an object that is whole. It takes no memory, and copies no octets.
+    // Proof: each symbol is whole or reaches as far as is taken (Covers), so it need not be known which one is the last.
     pub fn into_up(self) -> Up
         requires { is_whole (alone self) self.plan ≡ true }
         ensures { result ≡ ObjectUp self.plan.index (kind_of self.plan.flags) (told_info (alone self) self.plan) (object_octets (alone self) self.plan) }

@@ -12,6 +12,7 @@ use std::marker::Model;
 
 /// Room to solve blocks of data and files, of at most k source symbols of so many octets. It stands once for all objects of a
 /// profile.
+// Once for all objects and not in each: solving needs it for a moment, and a hold may have 256 objects.
 #[derive(Debug, Drop)]
 pub struct Room {
     solver: Solver,

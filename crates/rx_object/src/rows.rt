@@ -15,6 +15,8 @@ use std::alloc::Global;
 use symbol_mask::IdMask;
 
 /// A place for each source symbol of an object, block by block.
+// One buffer for the whole object, made with its plan: a hand-up cuts it to the object's length and gives it away, with no copy and no memory.
+// Source symbols lie at their places, so of a block that lacked some only the places are written that had another symbol.
 #[derive(Debug, Drop)]
 pub struct Rows {
     /// How the object is cut.
@@ -24,6 +26,7 @@ pub struct Rows {
     /// For each place the id of the symbol that lies there.
     pub ids: Vec<u8>,
     /// For each block the ids of its places as a set.
+    // The ids of a block twice: `ids` says which symbol lies where, this in one look whether a symbol came, in whatever order they come.
     pub masks: Vec<IdMask>,
 }
 
@@ -56,6 +59,7 @@ fn empty_masks(alloc: Global, count: u32) -> Result<Vec<IdMask>, Memory>
 }
 
 /// Puts a symbol that is new into a block that lacks so many, and solves the block that is whole by it.
+// Proof: it takes lent slices, so the written parts are known. A method on the vectors would leave take n (new ++ drop ..).
 fn put_at(
     plan: &Plan,
     room: &mut Room,

@@ -22,6 +22,9 @@ use symbol_mask::IdMask;
 
 /// What is held of a block: [`put`](Block::put) keeps a symbol that is new while some are lacking, and as the last one that
 /// is lacking comes, the block's source symbols come to lie in its rows.
+// A row for each symbol, in the order of ids: a stream's octets then stand once, and what is held is listed in the order of the rules. A symbol
+// that comes in order costs a comparison with the last id. `ids`, `mask` and `rows` speak of the same symbols; if one went apart, a block would be
+// solved from rows that are not what their ids say.
 #[derive(Debug, Drop)]
 pub struct Block {
     k: u8,
@@ -30,6 +33,7 @@ pub struct Block {
     /// The ids of the symbols that came, in order.
     ids: Vec<u8>,
     /// The same ids as a set, which tells in constant time whether one came.
+    // The ids twice, because symbols come in any order: the list says what lies where, and this in one look whether a symbol came.
     mask: IdMask,
     /// A row for each of them: its octets, or where none is lacking those of a source symbol.
     rows: Vec<Row>,
@@ -83,6 +87,7 @@ fn position_of(ids: &[u8], id: u8) -> Option<usize>
 }
 
 /// Puts an id, and its row, where they belong.
+// Proof: the id and its row go to one index, so they are one insertion into the list of ids with rows. Only the neighbours' order counts.
 fn keep(
     ids: &mut Vec<u8>,
     mask: &mut IdMask,
@@ -100,6 +105,7 @@ fn keep(
     ensures unmasked { OnErr result (mask.new ≡ mask.old) }
 {
     let place = place_for(ids, id);
+    // Reserve first. If memory ran out between the two inserts, `ids` and `rows` would disagree about the block.
     ids.reserve(1)?;
     rows.insert(place, row)?;
     ids.insert(place, id).unwrap();
@@ -121,6 +127,7 @@ fn are_own(ids: &[u8]) -> bool
 }
 
 /// Solves a block of which none is lacking. Where its own source symbols came nothing is done.
+// Proof: encoding the solved rows gives what came, so solving in place leaves the listed symbols as they were (encoded_again).
 fn settle(k: u8, ids: &[u8], rows: &mut [Row], scratch: &mut Scratch)
     requires scratch { scratch.old.k ≡ k }
     requires few { length ids.now ≤ k }
@@ -135,6 +142,7 @@ fn settle(k: u8, ids: &[u8], rows: &mut [Row], scratch: &mut Scratch)
     if ids.len() < usize::from(k) {
         return;
     }
+    // Without a loss all source symbols came, and nothing has to be computed: the usual case.
     if are_own(ids) {
         return;
     }
@@ -232,6 +240,7 @@ impl Block {
         requires { self.now.size ≡ most + 8 }
         ensures { result ≡ end_in_block most self.now }
     {
+        // Most blocks of a ring are empty, and `end` of a stream asks all of them.
         if self.ids.is_empty() {
             return None;
         }

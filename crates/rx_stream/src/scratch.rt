@@ -34,6 +34,7 @@ impl Model for Scratch {
 }
 
 /// Moves a symbol to its own row, where it is a source symbol, and the one that lies there to its place.
+// Proof: every symbol still lies in some row with its id, so the codeword is the same. It is said for all k and sizes, so the loop takes none.
 fn move_home(ids: &mut [u8], rows: &mut [Row], from: usize)
     requires within { from < length ids.old }
     requires count { length rows.old ≡ length ids.old }
@@ -78,6 +79,7 @@ fn solve_in_rows(
     ensures elements { AllByRecursion AreElements rows.new }
     ensures same { solver.new ≡ solver.old }
 {
+    // The block's own list of ids stays as it is: it says which symbols came, also after they were solved.
     moved.copy_from_slice(ids);
     move_all_home(moved, rows);
     solver.solve_rows(moved, rows, aside);

@@ -94,6 +94,7 @@ fn fits(plan: &Plan, block: u32, symbol: u8, payload: &[u8]) -> bool
     ensures block { result ≡ true → block < 16777216 }
     ensures sent { result ≡ true → IsSent plan.now.b (plan.now.e + 8) symbol payload.now }
 {
+    // The datagram may name any block, and the plan speaks of these alone.
     if block >= MOST_BLOCKS {
         return false;
     }
@@ -116,6 +117,7 @@ fn fill(alloc: Global, k: u8, size: usize, ring: &mut VecDeque<Block>, room: usi
     ensures { ring.new.items ≡ replicate room (empty_block k size) }
 {
     for _ in 0..room {
+        // It does not fail: the ring was made with this room, and an empty block takes no memory.
         ring.push_back(Block::new(alloc, k, size)).unwrap();
     }
 }
@@ -190,6 +192,7 @@ fn is_beyond(ring: &VecDeque<Block>, place: usize) -> bool
 
 /// Takes the first block away, each of whose source symbols is there, and puts another behind the last one. The rows of the
 /// block are given back.
+// Proof: replace and rotate_left need no room to be shown.
 fn shift(ring: &mut VecDeque<Block>, block: Block) -> Vec<Row>
     requires some { 0 < length ring.old.items }
     requires there { (d : BlockState) (symbol : ℕ) → symbol < (slice_index_or ring.old.items 0 d).k → is_some (source_of (slice_index_or ring.old.items 0 d) symbol) ≡ true }
@@ -215,6 +218,7 @@ fn spare_rows(alloc: Global, count: u8, size: usize) -> Result<Vec<Row>, Memory>
 }
 
 /// The first octets of a segment, in one of the spare rows.
+// Proof: an unfinished block needs its own row to be solved, so a hand-up goes into a spare one. There are as many spares as segments left.
 fn copy_of(row: &Row, spares: &mut Vec<Row>, len: usize) -> Octets
     requires some { 0 < length spares.old.items }
     requires sizes { AllByRecursion (λ (spare : List ℕ). length spare ≡ length row.now) spares.old.items }
@@ -223,6 +227,7 @@ fn copy_of(row: &Row, spares: &mut Vec<Row>, len: usize) -> Octets
     ensures count { length spares.new.items + 1 ≡ length spares.old.items }
     ensures sizes { AllByRecursion (λ (spare : List ℕ). length spare ≡ length row.now) spares.new.items }
 {
+    // It does not fail: there is a spare for each segment of the first block that was not handed up.
     let mut spare = spares.pop().unwrap();
     spare.copy(row.octets());
     segment_of(spare, len)
@@ -424,6 +429,7 @@ impl Stream {
     }
 
     /// The word that a symbol gets, of a block from the next segment's on.
+    // Proof: the tests of the rules are private methods with these tests as clauses, so nothing of what is kept is opened here.
     fn word(&self, block: u32, symbol: u8, payload: &[u8]) -> Put
         requires { self.now.point.block ≤ block }
         ensures word { (p : Settings) → IsOf p self.now → result ≡ put_by p (alone self.now) self.now.plan (position self.now.plan.index block symbol) payload.now }
@@ -513,6 +519,7 @@ impl Stream {
         ensures state { self.new ≡ passed self.old }
         ensures fewer { left self.new < left self.old }
     {
+        // It does not fail: `hand_up` looked at this segment just before.
         let row = self.ring[0].row(self.symbol).unwrap();
         let bytes = copy_of(row, &mut self.spares, usize::from(len));
         let count = self.plan.source_len(0);
@@ -523,6 +530,7 @@ impl Stream {
         let size = usize::from(self.plan.e()) + PLACE;
         self.symbol = 0;
         self.first += 1;
+        // The rows of a block that was passed are no longer needed, and there are as many as the next block has segments.
         self.spares = shift(&mut self.ring, Block::new(self.alloc, count, size));
         self.shorts.advance();
         bytes
@@ -545,6 +553,7 @@ impl Stream {
             return None;
         };
         let len = segment_len(row, self.plan.e());
+        // The end stays: nothing comes behind it, and whoever holds the stream gives it up with this hand-up.
         if len == 0 {
             return Some(Up::StreamEnd { index });
         }
@@ -559,6 +568,7 @@ impl Stream {
 
     /// The place of the stream's end, where it is held or given by what is held of its block. It looks at each block from the
     /// next segment's on, at one of which nothing is held for a moment only.
+    // Proof: the first of a loop over a range is find over it: this loop goes over blocks, that of Block::end over symbols.
     pub fn end(&self) -> Option<PayloadId>
         ensures { (p : Settings) → p.e ≡ self.now.plan.fti.e
             → option_map (λ (id : Name). position self.now.plan.index id.block id.symbol) result ≡ end_of p (alone self.now) self.now.plan }

@@ -23,6 +23,7 @@ fn room_for(count: u32) -> u32
     ensures few { count ≤ 1 → result ≡ 0 }
     ensures many { 1 < count → result ≡ count }
 {
+    // One block alone needs none: the ends of the window say all that its link would.
     if count > 1 { count } else { 0 }
 }
 
@@ -116,6 +117,7 @@ pub(crate) fn turn(links: &mut VecDeque<Link>, last: Link)
     if links.is_empty() {
         return;
     }
+    // Put over the link that goes and then turned round, so that no room is needed.
     links[0] = last;
     links.rotate_left(1);
 }

@@ -30,6 +30,8 @@ use std::marker::Model;
 /// A stream of the window. [`write`](HeldStream::write) and [`cut`](HeldStream::cut) come in any order, and
 /// [`close`](HeldStream::close) once behind them; the other calls come at any time. All memory is taken by
 /// [`new`](HeldStream::new).
+// Beside the buffer and not in it, since it decides itself which blocks go for room. The window says only where the stream stands, what all
+// members are listed past, and whether the entries before it may go.
 #[derive(Debug, Drop)]
 pub struct HeldStream {
     buffer: StreamBuf,
@@ -229,6 +231,7 @@ impl HeldStream {
         }
         // Proof: how many segments can be closed is known of each buffer that was asked, and so that 24 bits number the last block.
         let _closed = self.buffer.segments();
+        // Positions rise within a stream, so a member that is past the last segment is past all of them.
         let last = Position {
             index,
             block: to - 1,
@@ -276,6 +279,7 @@ impl HeldStream {
         ensures sent { (s : SenderState) (parts : List Part) → Knows profile.now index parts s.sent self.now
             → ((at : Place) → all_past s at ≡ reached_by past.now at) → AllSent profile.now index s.sent result }
     {
+        // 0 lets no block go. The drop point moves in the order, so nothing of a stream may go before the entries before it.
         if !before {
             return 0;
         }

@@ -11,6 +11,8 @@ use std::collections::VecDeque;
 use std::marker::Model;
 
 /// A mark for each of some segments in a row. How many were sent in a row from the first on is counted, and not looked for.
+// `run` is kept because each write that needs room asks whether the first blocks were sent: a search would pass over thousands of marks. It is
+// exactly the number of set marks at the beginning: a greater one would let a block go that was never sent.
 #[derive(Debug, Drop)]
 pub struct Marks {
     sent: VecDeque<bool>,
@@ -59,6 +61,7 @@ fn move_on(sent: &mut VecDeque<bool>, gone: usize, kept: usize)
     ensures room { deque_capacity sent.old ≤ deque_capacity sent.new }
 {
     give_up(sent, gone);
+    // It does not fail: `new` took room for all segments that a stream keeps.
     sent.resize(kept, false).unwrap();
 }
 
@@ -96,6 +99,7 @@ impl Marks {
         ensures { self.new ≡ record (self.old) { sent = slice_set self.old.sent place true } }
     {
         self.sent[place] = true;
+        // Only then the beginning gets longer. A mark further on waits until the search reaches it.
         if place == self.run {
             self.run = run_from(&self.sent, place);
         }

@@ -13,6 +13,7 @@ use std::alloc::Global;
 use std::marker::Model;
 
 /// Segments of a stream, by their numbers, and the one that fills. Each has a row: its place, its octets, and zeros.
+// The segment that fills has no buffer of its own: its octets stand once, in the row in which they are sent and coded.
 #[derive(Debug, Drop)]
 pub struct Rows {
     ring: Vec<u8>,
@@ -67,6 +68,7 @@ fn row_start(number: usize, room: usize, size: usize, len: usize) -> usize
 }
 
 /// The place of a segment as it is sent: its length, no start of a message, and its offset.
+// A stream marks no messages, so payload_msg_start is 0 (RFC 5740 section 4.2.1).
 fn place_of(len: u16, offset: u32) -> [u8; 8]
     ensures { result ≡ to_be_bytes w16 len ++ to_be_bytes w16 0 ++ to_be_bytes w32 offset }
 {
@@ -84,6 +86,7 @@ fn seal_row(ring: &mut [u8], start: usize, size: usize, used: usize, place: &[u8
     ensures { ring.new ≡ over (start + used) (replicate (size - used) 0) (over start place.now ring.old) }
 {
     put(ring, start, place);
+    // The row had an older segment. Parity is made of whole rows, so what is left of that would be coded.
     put_zeros(ring, start + used, size - used);
 }
 
@@ -184,6 +187,8 @@ impl Rows {
     }
 
     /// The rows of closed segments that lie behind each other in the ring.
+    // The rows of a block never go round the end, because the ring has room for whole blocks. So a block is one slice, and its parity takes no
+    // copy.
     pub fn run(&self, number: usize, count: usize) -> &[u8]
         requires from { self.now.first ≤ number }
         requires to { number + count ≤ self.now.first + length self.now.rows }

@@ -49,6 +49,8 @@ pub struct StreamBuf {
     ended: bool,
 }
 
+// Proof: it is related to a stream's parts, of which it keeps the segments from its first kept block on (StandsFor). Each call says what it stands
+// for afterwards.
 impl Model for StreamBuf {
     ghost use Rattle.stream_buffer.specs.StreamState.{StreamState};
     ghost use Rattle.stream_buffer.specs.StreamSound.{stream_view, StreamSound};
@@ -92,6 +94,7 @@ impl StreamBuf {
         ensures exact { result ≡ self.now.cut }
         ensures stream { self.now.cut.l ≡ None }
     {
+        // It does not fail: a profile's sizes are in the ranges of a plan.
         Plan::stream(self.e, self.b, self.max_n).unwrap()
     }
 
@@ -253,9 +256,11 @@ impl StreamBuf {
             return Err(StreamFault::Closed);
         }
         let offset = self.octets;
+        // payload_offset has 32 bits (RFC 5740 section 4.2.1).
         if bytes.len() as u64 > u64::from(u32::MAX - offset) {
             return Err(StreamFault::Spent { octets: offset });
         }
+        // A segment that is not full takes room too: a mark cuts it and may not fail, so the write asks room for it.
         let segments = (self.rows.filled() + bytes.len()).div_ceil(usize::from(self.e));
         let used = (self.rows.closed() + segments) as u64;
         match self.make_room(used, may_go) {
@@ -274,6 +279,7 @@ impl StreamBuf {
         ensures exact { self.new ≡ cut_here self.old }
     {
         let filled = self.rows.filled();
+        // It needs no room: the write that began the segment asked for it.
         if filled > 0 {
             self.rows.seal(self.octets - filled as u32);
         }
@@ -330,6 +336,7 @@ impl StreamBuf {
     {
         let row = self.rows.row(number);
         let len = PLACE + usize::from(u16::from_be_bytes([row[0], row[1]]));
+        // The lesser of the two is always `len`: `seal` wrote it, and it is at most what the row has behind its place.
         out.push(row.split_at(len.min(row.len())).0);
     }
 
@@ -346,6 +353,7 @@ impl StreamBuf {
         let b = usize::from(self.b);
         let size = usize::from(self.e) + PLACE;
         let sources = self.rows.run(block as usize * b, b);
+        // On the stack: a symbol is made for each datagram, and a sender has no answer for want of memory there.
         let mut room = [0; SYMBOL_ROOM];
         let parity = &mut room[..size];
         self.code.parity(sources, size, symbol, parity);

@@ -6,6 +6,7 @@ ghost use Rattle.norm_order.specs.Sets.{with_member, is_member};
 use std::marker::Model;
 
 /// The ids of an octet by words of 64 bits.
+// An id is an octet (RFC 5510 section 5.1), so 256 bits have room for each.
 const WORDS: usize = 4;
 
 /// A set of ids of symbols of one block. It lies in itself, and takes no memory beside.

@@ -10,9 +10,11 @@ use std::alloc::Global;
 use std::marker::Model;
 
 /// The places of a word.
+// The width of u64.
 const WORD: usize = 64;
 
 /// A set of places below a size. Room for all of them is made at once.
+// No word before `lowest` has a member. If one had, `take_lowest` would pass it over, and what it stands for would never be sent.
 #[derive(Debug, Drop)]
 pub struct Mask {
     size: usize,
@@ -20,6 +22,7 @@ pub struct Mask {
     lowest: usize,
 }
 
+// Proof: the set is the filter of a range by a bit's test, so one bit's change gives one member's.
 impl Model for Mask {
     ghost use Rattle.symbol_mask.specs.Places.{Places};
 
@@ -52,6 +55,7 @@ fn run_bits(from: usize, to: usize) -> u64
     ensures { result ≡ 2 ^ to - 2 ^ from }
 {
     let below = (1u64 << from) - 1;
+    // A shift by 64 is an error, so the whole rest of the word is a case of its own.
     if to == WORD {
         return u64::MAX - below;
     }
@@ -138,6 +142,7 @@ impl Mask {
         let is_new = !self.contains(place);
         let word = place / WORD;
         self.words[word] |= 1 << (place % WORD);
+        // Otherwise the search for the lowest member would begin after it.
         if word < self.lowest {
             self.lowest = word;
         }
@@ -173,6 +178,7 @@ impl Mask {
     {
         self.move_down(count);
         self.rises();
+        // With slots of 256 a block that begin at 1, the last slot of the last block that goes falls on 0, which is no slot of a block.
         if self.contains(0) {
             self.take_lowest();
         }
@@ -192,6 +198,7 @@ impl Mask {
         // Proof: the label names the loop for its invariant.
         'places: while let Some(place) = self.take_lowest() {
             if place >= limit {
+                // It was taken out to be looked at, and belongs to what stays.
                 self.insert(place);
                 return taken;
             }
@@ -225,6 +232,7 @@ impl Mask {
     }
 
     /// Takes all members out of another set of the same size and puts them into this one, and says how many are new here.
+    // One by one and not word by word: it costs what was asked for and not the size of the window, and the count of the new ones comes with it.
     pub fn take_all(&mut self, other: &mut Mask) -> usize
         requires same { other.old.size ≡ self.old.size }
         requires few { self.old.size < 2 ^ 64 }

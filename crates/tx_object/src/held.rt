@@ -22,6 +22,8 @@ use std::alloc::Global;
 use std::marker::Model;
 
 /// A data object or a file whose octets lie in the window's ring.
+// `unsent` is counted because the window asks for it at each object that it wants to drop. It is the number of marks in `sent` that are not set:
+// with any other number an object could go before all of it was sent, or never.
 #[derive(Debug, Drop)]
 pub struct Held {
     plan: Plan,
@@ -67,6 +69,7 @@ pub fn plan_of(profile: &Profile, len: u32) -> Plan
     requires most { len ≤ 16777216 }
     ensures { result ≡ cut_of len profile.now.e profile.now.b profile.now.max_n }
 {
+    // It does not fail: a profile's sizes are in their ranges, and 16,777,216 octets never need more blocks than 24 bits name.
     Plan::of(u64::from(len), profile.e, profile.b, profile.max_n).unwrap()
 }
 
@@ -229,10 +232,12 @@ impl Held {
         requires { block < blocks self.old.cut }
         ensures { self.new ≡ with_sent self.old block symbol }
     {
+        // Parity is no part of what has to be sent before an object may go.
         if symbol >= self.plan.source_len(block) {
             return;
         }
         let number = self.plan.symbol_number(block, symbol) as usize;
+        // A repeated symbol counts once; otherwise `unsent` would fall below what is left.
         if self.sent[number] {
             return;
         }

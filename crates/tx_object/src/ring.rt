@@ -51,6 +51,7 @@ impl Ring {
         requires count { count ≤ length self.now }
         ensures { IsAround (length self.now) (at + count) result }
     {
+        // Compared before anything is added, so that no sum exceeds the ring.
         let to_end = self.octets.len() - at;
         if count < to_end {
             at + count
@@ -60,6 +61,7 @@ impl Ring {
     }
 
     /// `len` octets from octet `start` on: those up to the ring's end, and those behind.
+    // Proof: a ring is its octets twice, so two pieces of a ring are two pieces of two lists, and range_is serves both.
     pub fn pieces(&self, start: usize, len: usize) -> (&[u8], &[u8])
         requires start { start < length self.now }
         requires len { len ≤ length self.now }

@@ -36,6 +36,7 @@ use stream_buffer::HeldStream;
 use tx_object::{Held, Ring};
 
 /// An entry of the window. What each call answers is said of the object that the entry stands for.
+// What the window asks of an object and of a stream is said here once, of one entry at a time.
 #[derive(Debug, Drop)]
 pub enum HeldEntry {
     /// A data object or a file, which lies in the window's ring.
@@ -73,6 +74,7 @@ fn once(plan: &Plan, auto: u8, segments: u64, block: u32) -> u8
     let sources = plan.source_len(block);
     let before = u64::from(block) * u64::from(sources);
     let closed = segments.saturating_sub(before);
+    // A code takes all source symbols of a block, so an open block has no parity yet.
     if closed < u64::from(sources) {
         return closed as u8;
     }

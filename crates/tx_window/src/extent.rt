@@ -13,6 +13,8 @@ use std::collections::VecDeque;
 use tx_object::plan_of;
 
 /// The extents of so many entries are kept, the last ones: an id names no entry before them.
+// Our own choice: 16 bits of an id name one of the 32,769 indices up to the last one, and nothing before them. What is forgotten can be named by
+// no acknowledgement.
 const MOST_KEPT: usize = 32_769;
 
 /// How many octets an object has, or how many segments of a stream are closed.
@@ -67,6 +69,7 @@ pub(crate) fn keep_extent(extents: &mut VecDeque<Extent>, forgotten: u32, extent
     ensures items { extents.new.items ≡ drop (result - forgotten) (extents.old.items ++ extent ∷ []) }
     ensures kept { (result ≡ forgotten) ⊎ ((result ≡ forgotten + 1) × (most_kept ≤ length extents.old.items)) }
 {
+    // It does not fail: `make_room` took the room before anything was dropped.
     extents.push_back(extent).unwrap();
     if extents.len() <= MOST_KEPT {
         return forgotten;

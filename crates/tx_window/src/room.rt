@@ -132,6 +132,7 @@ fn has_room(profile: &Profile, entries: usize, octets: u32, len: u32) -> bool
 }
 
 /// Makes room for one more, and says whether there was memory for it.
+// Proof: a capacity is in no model, so a function of the fields says that there is room.
 fn reserve(held: &mut VecDeque<HeldEntry>, extents: &mut VecDeque<Extent>) -> bool
     ensures held { held.new.items ≡ held.old.items }
     ensures extents { extents.new.items ≡ extents.old.items }
@@ -167,6 +168,7 @@ pub(crate) fn make_room(
     ensures held_room { MatchOption result ⊤ (λ _. length held.new.items < deque_capacity held.new) }
     ensures extents_room { MatchOption result ⊤ (λ _. length extents.new.items < deque_capacity extents.new) }
 {
+    // Memory first: an entry that was dropped cannot come back if memory then runs out.
     if !reserve(held, extents) {
         return None;
     }
@@ -190,11 +192,13 @@ pub(crate) fn join(
     ensures extents { extents.new.items ≡ drop (result - forgotten) (extents.old.items ++ extent ∷ []) }
     ensures kept { (result ≡ forgotten) ⊎ ((result ≡ forgotten + 1) × (most_kept ≤ length extents.old.items)) }
 {
+    // It does not fail: `make_room` took the room.
     held.push_back(entry).unwrap();
     keep_extent(extents, forgotten, extent)
 }
 
 /// What is wrong with the sizes of an object: the first fault that applies.
+// Proof: early returns in the order of the rules' table, so that each is one line of an answer.
 #[tactic(auto, unfolding(norm_order::specs::First::first_where))]
 fn size_fault(profile: &Profile, info: usize, len: u64) -> Option<EnqueueFault>
     ensures exact { result ≡ size_fault profile.now info len }
@@ -263,6 +267,8 @@ impl Window {
 
     /// Why an object with so many octets, and an info of so many, would be refused now: the first fault that applies, want of
     /// memory left out. Nothing is done.
+    // By sizes alone: a command that waits is offered in every turn, and an offer that is refused should cost neither memory nor a look at a
+    // symbol.
     pub fn object_fault(&self, info: usize, len: u64) -> Option<EnqueueFault>
         requires begun { self.now.filling ≡ None }
         ensures exact { (s : SenderState) (name : Option (List ℕ)) (octets : List ℕ) → Stands self.now s → info_length name ≡ info

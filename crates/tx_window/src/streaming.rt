@@ -44,6 +44,7 @@ fn write_size_fault(profile: &Profile, len: usize) -> Option<EnqueueFault>
     ensures exact { result ≡ write_size_fault profile.now len }
     ensures free { result ≡ None → 1 ≤ len }
 {
+    // One block less than the buffer: so a write that is not refused here fits as soon as older blocks may go, wherever in a block it begins.
     let most = (u64::from(profile.blocks) - 1) * u64::from(profile.b) * u64::from(profile.e);
     let len = len as u64;
     if len == 0 {
@@ -136,6 +137,7 @@ impl Window {
         if first == 0 {
             return index;
         }
+        // Blocks of a stream go only after all entries before it may go, so a stream that lacks a first block is the first entry.
         drop_front(&mut self.held, place);
         self.dropped = index;
         self.octets = size as u32;
@@ -187,6 +189,7 @@ impl Window {
     }
 
     /// The last closed source symbol once the open stream is cut, also where its entry was dropped.
+    // Asked before the cut: what may want memory for a mark comes first, so that want of memory leaves the whole sender as it was.
     pub fn end_cut(&self) -> Option<Position>
         ensures { (s : SenderState) → Stands self.now s → result ≡ last_source (current_shapes self.now.p (cut self.now.p s)) }
     {

@@ -71,6 +71,7 @@ fn join_begun(
     ensures extents { extents.new.items ≡ drop (result - forgotten) (extents.old.items ++ OfObject len ∷ []) }
     ensures kept { (result ≡ forgotten) ⊎ ((result ≡ forgotten + 1) × (most_kept ≤ length extents.old.items)) }
 {
+    // Not taken: `finish` looked at it just before.
     let Some(object) = begun.take() else {
         return forgotten;
     };
@@ -86,6 +87,8 @@ impl Window {
     ///
     /// The first of `Empty`, `TooBig`, `InfoTooBig`, `StreamOpen`, `IdsSpent` and `WindowFull` that applies, or `Memory`. Then the
     /// window is as it was, and the info comes back but for `Memory`.
+    // The outer `Option` says whether the info comes back, the inner one is the info. One alone could not tell a lost info from none.
+    // Proof: objects are counted in whole symbols: there is room for floor(octets / e) + window of them.
     pub fn begin(
         &mut self,
         kind: Kind,
@@ -116,6 +119,7 @@ impl Window {
             len,
             self.free,
         ) else {
+            // `Held::new` had the info, and it is gone.
             return Err((None, EnqueueFault::Memory));
         };
         let Some(made) = make_room(
@@ -152,6 +156,7 @@ impl Window {
         ensures stands { WindowMoves self.old self.new (λ s. s) }
         ensures profile { self.new.p ≡ self.old.p }
     {
+        // Not taken: a caller fills only after `begin`.
         let Some(begun) = &self.begun else {
             return;
         };
@@ -170,6 +175,7 @@ impl Window {
         ensures profile { self.new.p ≡ self.old.p }
     {
         let index = self.next_index();
+        // Not taken: a caller finishes only after `begin`.
         let Some(begun) = &self.begun else {
             return index;
         };
@@ -194,12 +200,14 @@ impl Window {
         ensures stands { WindowMoves self.old self.new (λ s. s) }
     {
         if let Some(begun) = self.begun.take() {
+            // The octets of the ring that it took are the last ones, so they are free again by moving the mark back.
             self.free = begun.start();
             self.octets -= begun.len();
         }
     }
 
     /// Begins anew for another instance: no entry is there. It takes no memory.
+    // The codes stay: they depend on the profile alone, which no instance changes.
     pub fn clear(&mut self)
         ensures begun { (id : ℕ) → WindowMoves self.old self.new (begun_anew id) }
         ensures profile { self.new.p ≡ self.old.p }

@@ -65,6 +65,8 @@ pub struct Window {
     pub(crate) codes: CodeTable,
 }
 
+// Proof: it stands for what it reads of a state (WindowReads) and not for the state. Whatever else a rule changes, the same proof holds, and who
+// stands above names no field of it.
 impl Model for Window {
     ghost use Rattle.tx_window.specs.WindowState.{WindowState};
     ghost use Rattle.tx_window.specs.WindowSound.{window_view, WindowSound};
@@ -124,6 +126,7 @@ impl Window {
         ensures begun { IfOk result (λ window. (instance : ℕ) → Stands window (sender_opening profile.now instance)) }
     {
         let e = u64::from(profile.e);
+        // Each object begins at a whole symbol, and so may leave its last one partly empty: one symbol more for each object of the window.
         let slots = u64::from(profile.octets) / e + u64::from(profile.window);
         let ring = Ring::new(alloc, (slots * e) as usize)?;
         let held = VecDeque::with_capacity(alloc, usize::from(profile.window))?;
@@ -146,6 +149,7 @@ impl Window {
     }
 
     /// The entry and the block of it before which all was dropped.
+    // A point and not an index, since the first entry may be a stream that lacks its first blocks.
     pub fn first(&self) -> (u32, u32)
         ensures exact { (s : SenderState) → Stands self.now s → (result.0 ≡ s.current.drop.index) × (result.1 ≡ s.current.drop.block) }
         ensures number { (result.0 ≡ (drop_of self.now).index) × (result.1 ≡ (drop_of self.now).block) }

@@ -44,6 +44,7 @@ impl Entry {
     {
         match self {
             Entry::Object(object) => object.into_up(),
+            // Ruled out by the clause: the caller asked `is_whole`.
             Entry::Stream(_) => unreachable!(),
         }
     }

@@ -15,6 +15,7 @@ use stream_buffer::HeldStream;
 use tx_object::Held;
 
 /// How many encoded symbols an object has. Its larger blocks come first, and all of a size have as many.
+// By sizes and not block by block: an object may have 262,144 blocks.
 fn encoded_blocks(held: &Held) -> u64
     ensures exact { result ≡ sum_by (encoding_symbols held.now.cut) (range_with_len 0 (blocks held.now.cut)) }
     ensures most { result < 2 ^ 41 }
