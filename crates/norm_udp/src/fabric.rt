@@ -112,6 +112,7 @@ impl<R: Net + Wait + Clock + Drop> UdpFabric<R> {
     }
 
     /// Has these threads send what the hub offers, and what a sender alone does. It comes before `start`.
+    // A call of its own and no part of `start`: the methods of a trait know of no bound that a value may go to another thread.
     pub fn send_by(&mut self, senders: Senders)
         ensures faults { self.new.faults ≡ self.old.faults }
         ensures passed { passed_by self.new ≡ passed_by self.old }
