@@ -30,7 +30,7 @@ EDITS = {
     'stream_buffer/parity_is_sent_of_a_block_that_is_not_closed': 'norm_order/Symbols',
     'stream_buffer/zeros_for_a_symbol_of_a_block_that_was_given_up': 'norm_order/Symbols',
 }
-# crates whose edits break no rule of that page: docs/architecture.md has them
+# crates whose edits break no rule of that page: their READMEs have them
 OTHER = ('norm_host', 'norm_program', 'norm_session', 'producer_gate')
 
 

@@ -1,12 +1,11 @@
 //! A stream of the window: which of its segments were sent, and which blocks may go for room.
 
 use fec_plan::Position;
-use stream_buffer::HeldStream;
 use norm_base::{Datagram, Given, Key, Memory, Profile};
 use std::alloc::Global;
 use std::process::Abort;
 use std::test::Fail;
-use stream_buffer::StreamFault;
+use stream_buffer::{HeldStream, StreamFault};
 
 /// The index of the stream.
 const INDEX: u32 = 3;
