@@ -9,8 +9,8 @@ use norm_memory::MemSink;
 use norm_order::Up;
 use norm_send_rules::Job;
 use norm_sender::Sender;
-use norm_session::{SessionFault, write_end, write_news, write_up};
 use norm_text::Line;
+use norm_turns::{SessionFault, write_end, write_news, write_up};
 use std::alloc::Global;
 
 /// Whether these octets were written, and no others.

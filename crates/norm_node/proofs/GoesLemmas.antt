@@ -19,10 +19,10 @@ use Rattle.norm_receiver.specs.ReceiverSound.{StandsFor, IsTick}
 use Rattle.norm_journal.specs.Jobs.{Told}
 use Rattle.norm_journal.specs.Lines.{up_line}
 use Rattle.norm_journal.specs.Takes.{most_takes}
-use Rattle.norm_session.specs.Causes.{session_fault}
-use Rattle.norm_session.specs.Turning.{IsNextMoment}
-use Rattle.norm_session.specs.declared.fault.SessionFault.{SessionFault}
-use Rattle.norm_session.specs.declared.fault.SessionFault.TheVariants as fault
+use Rattle.norm_turns.specs.Causes.{session_fault}
+use Rattle.norm_turns.specs.Moments.{IsNextMoment}
+use Rattle.norm_turns.specs.declared.fault.SessionFault.{SessionFault}
+use Rattle.norm_turns.specs.declared.fault.SessionFault.TheVariants as fault
 use Rattle.norm_node.specs.Lone.{Place, Between, Taking, Handing, Offering, Lone, Event, Begins, Takes, FindsNone, HandsUp, Ticks, Offers, IsDue, after, after_take, after_tick, next_up}
 use Rattle.norm_node.specs.Shown.{Outside, Shows, Happens, IsSame, Goes, IsTold, IsNextTold, IsPut, file_of}
 use Rattle.norm_node.specs.RunKept.{RunKept, Begun, At, lone_of, over, having, asked}

@@ -7,10 +7,10 @@ use Rattle.norm_base.specs.Settings.{Settings}
 use Rattle.norm_base.specs.declared.fault.FabricFault.{FabricFault}
 use Rattle.norm_base.specs.declared.fault.FabricFault.TheVariants as network_fault
 use Rattle.norm_journal.specs.Takes.{most_takes}
-use Rattle.norm_session.specs.Causes.{session_fault}
-use Rattle.norm_session.specs.Turning.{IsNextMoment}
-use Rattle.norm_session.specs.declared.fault.SessionFault.{SessionFault}
-use Rattle.norm_session.specs.declared.fault.SessionFault.TheVariants as fault
+use Rattle.norm_turns.specs.Causes.{session_fault}
+use Rattle.norm_turns.specs.Moments.{IsNextMoment}
+use Rattle.norm_turns.specs.declared.fault.SessionFault.{SessionFault}
+use Rattle.norm_turns.specs.declared.fault.SessionFault.TheVariants as fault
 use Rattle.norm_node.specs.Hub.{HubPlace, Idle, Listening, Passing, Hub, HubEvent, Opens, Hears, HearsNone, Passes, IsHubDue, after_hub, after_pass, hub_opening, Around, around, HubShows, HubHappens, IsSameHub, HubGoes, HubKept, hub_of, HubAt, CallsAround, HubLeaves, HubStopped}
 use Rattle.norm_node.specs.Passing.{HasPassed}
 

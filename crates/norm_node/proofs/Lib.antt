@@ -1,4 +1,3 @@
-pub mod FaultLemmas
 pub mod GoesLemmas
 pub mod HubLemmas
 pub mod RunLemmas

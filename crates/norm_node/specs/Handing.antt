@@ -2,8 +2,8 @@
 use Rattle.std.specs.Prelude.{ℕ, ◌≡◌, List, Option, None, Some}
 use Rattle.norm_base.specs.Contents.{ChangesOnly}
 use Rattle.norm_journal.specs.Jobs.{Told}
-use Rattle.norm_session.specs.declared.fault.SessionFault.{SessionFault}
-use Rattle.norm_session.specs.declared.fault.SessionFault.TheVariants as fault
+use Rattle.norm_turns.specs.declared.fault.SessionFault.{SessionFault}
+use Rattle.norm_turns.specs.declared.fault.SessionFault.TheVariants as fault
 
 -- the put failed of a file: all others have what they had
 abbrev pub OthersStay : Option (List ℕ × List ℕ) → (before after : Told) → Type 0

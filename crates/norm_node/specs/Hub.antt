@@ -4,9 +4,9 @@ use Rattle.norm_base.specs.Network.{Network, Starts, with_offer, with_answer}
 use Rattle.norm_base.specs.Settings.{Settings}
 use Rattle.norm_base.specs.declared.kinds.Local.TheVariants as local
 use Rattle.norm_journal.specs.Takes.{most_takes}
-use Rattle.norm_session.specs.Turning.{IsNextMoment}
-use Rattle.norm_session.specs.declared.fault.SessionFault.{SessionFault}
-use Rattle.norm_session.specs.declared.fault.SessionFault.TheVariants as fault
+use Rattle.norm_turns.specs.Moments.{IsNextMoment}
+use Rattle.norm_turns.specs.declared.fault.SessionFault.{SessionFault}
+use Rattle.norm_turns.specs.declared.fault.SessionFault.TheVariants as fault
 
 -- Where in a turn it is: between two turns; after so many takes; where the datagram of a member is to be offered on.
 pub data HubPlace : Type 0 where

@@ -1,7 +1,7 @@
 -- What a turn of a hub does.
 use Rattle.std.specs.Prelude.{ℕ, ◌≡◌, ◌+◌, [], Bool, true, false}
 use Rattle.norm_base.specs.Settings.{Settings}
-use Rattle.norm_session.specs.declared.fault.SessionFault.{SessionFault}
+use Rattle.norm_turns.specs.declared.fault.SessionFault.{SessionFault}
 use Rattle.norm_node.specs.Hub.{Around, HubAt, HubKept, HubStopped, Idle, Passing, after_pass}
 
 -- after a take: what it gave was passed on, and the next follows or the turn is over; where it gave none the turn is over

@@ -9,7 +9,7 @@ use Rattle.norm_order.specs.declared.up.Up.{Up}
 use Rattle.norm_order.specs.declared.up.Up.TheVariants as up
 use Rattle.norm_journal.specs.Jobs.{Told}
 use Rattle.norm_journal.specs.Lines.{up_line}
-use Rattle.norm_session.specs.Turning.{IsNextMoment}
+use Rattle.norm_turns.specs.Moments.{IsNextMoment}
 use Rattle.norm_node.specs.Lone.{Place, Offering, Lone, Event, Begins, Takes, FindsNone, HandsUp, Ticks, Offers, next_up, IsDue, after}
 
 -- What the outside tells: the network, the pieces that the output has, the files, and the moments that the clock gave.

@@ -5,8 +5,8 @@ use Rattle.norm_base.specs.Told.{Pieces, GainsFront}
 use Rattle.norm_order.specs.declared.up.Up.{Up}
 use Rattle.norm_journal.specs.Jobs.{Told}
 use Rattle.norm_journal.specs.Lines.{up_line}
-use Rattle.norm_session.specs.declared.fault.SessionFault.{SessionFault}
-use Rattle.norm_session.specs.declared.fault.SessionFault.TheVariants as fault
+use Rattle.norm_turns.specs.declared.fault.SessionFault.{SessionFault}
+use Rattle.norm_turns.specs.declared.fault.SessionFault.TheVariants as fault
 use Rattle.norm_node.specs.Lone.{Place, Taking, Offering, Handing, Lone, Event, next_up}
 use Rattle.norm_node.specs.Shown.{Outside, Goes, file_of, IsPut}
 use Rattle.norm_node.specs.RunKept.{Begun}

@@ -1,6 +1,6 @@
 -- A turn of a receiver's run, and all its turns.
 use Rattle.std.specs.Prelude.{ℕ, ◌≡◌, ◌+◌}
-use Rattle.norm_session.specs.declared.fault.SessionFault.{SessionFault}
+use Rattle.norm_turns.specs.declared.fault.SessionFault.{SessionFault}
 use Rattle.norm_node.specs.Lone.{Place, Between}
 use Rattle.norm_node.specs.Shown.{Outside}
 use Rattle.norm_node.specs.RunKept.{RunKept, Begun, At}

@@ -2,7 +2,7 @@
 
 ghost use Rattle.std.specs.Prelude.{◌≡◌, ◌≤◌, [], length, IfErr, OnOk};
 ghost use Rattle.norm_base.specs.Sizes.{datagram_room};
-ghost use Rattle.norm_session.specs.Causes.{NetworkCause};
+ghost use Rattle.norm_turns.specs.Causes.{NetworkCause};
 ghost use Rattle.norm_node.specs.Lone.{Between, Handing, Offering};
 ghost use Rattle.norm_node.specs.RunKept.{Begun, At, IsSameTurn, over};
 ghost use Rattle.norm_node.specs.Shown.{Outside};
@@ -11,7 +11,7 @@ ghost use Rattle.norm_node.specs.Taking.{after_sent};
 
 use crate::run::ReceiverRun;
 use norm_base::{Datagram, Fabric, Sent};
-use norm_session::SessionFault;
+use norm_turns::SessionFault;
 
 impl ReceiverRun {
     /// The receiver ticks, all of whose hand-ups were told.

@@ -1,7 +1,7 @@
 //! Hand-ups, each with its file and its line.
 
 ghost use Rattle.std.specs.Prelude.{◌≡◌, ℕ, [], false, IfOk, IfErr, OnOk, OnErr};
-ghost use Rattle.norm_session.specs.Causes.{HasCause, FilesCause, counted};
+ghost use Rattle.norm_turns.specs.Causes.{HasCause, FilesCause, counted};
 ghost use Rattle.norm_node.specs.Lone.{Handing};
 ghost use Rattle.norm_node.specs.RunKept.{Begun, At, IsSameTurn, having};
 ghost use Rattle.norm_node.specs.Shown.{Outside, file_of, IsPut};
@@ -13,7 +13,7 @@ use crate::run::ReceiverRun;
 use norm_base::{Files, InstanceId, Kind, NodeId, Sink};
 use norm_journal::up_line;
 use norm_order::Up;
-use norm_session::SessionFault;
+use norm_turns::SessionFault;
 use std::alloc::Global;
 
 /// Puts the file of a hand-up, if it is one of a file.

@@ -3,17 +3,14 @@
 ghost use Rattle.std.specs.Prelude.{◌≡◌, ◌<◌, ◌+◌, ℕ, Option, List, Bool, IfOk, IfErr, OnOk};
 ghost use Rattle.norm_base.specs.Network.{Network};
 ghost use Rattle.norm_base.specs.Settings.{Settings};
-ghost use Rattle.norm_session.specs.Causes.{NetworkCause};
+ghost use Rattle.norm_turns.specs.Causes.{NetworkCause};
 ghost use Rattle.norm_node.specs.Hub.{Around, around, HubAt, HubKept, HubStopped, Idle, Listening, RunsHub, StopsHub};
 ghost use Rattle.norm_node.specs.Passing.{HasPassed, IsNextHubTurn, HubTurns, HubStopsTurn, HubTakesTurns};
 
 use norm_base::{Clock, Datagram, Fabric, Local, Moment, Profile};
-use norm_session::{SessionFault, moment_of};
+use norm_turns::{MOST_TAKES, SessionFault, moment_of};
 use std::alloc::Global;
 use std::marker::Model;
-
-/// A turn takes at most so many datagrams.
-const MOST_TAKES: u32 = 512;
 
 /// A hub's run so far.
 #[derive(Drop)]

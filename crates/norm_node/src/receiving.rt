@@ -2,13 +2,13 @@
 
 ghost use Rattle.std.specs.Prelude.{◌≡◌, true, IfErr, OnOk};
 ghost use Rattle.norm_base.specs.Members.{is_receiver};
-ghost use Rattle.norm_session.specs.Causes.{HasCause, counted};
+ghost use Rattle.norm_turns.specs.Causes.{HasCause, counted};
 ghost use Rattle.norm_node.specs.Shown.{outside};
 ghost use Rattle.norm_node.specs.Runs.{RunsReceiver, StopsReceiver};
 
 use crate::run::ReceiverRun;
 use norm_base::{Clock, Datagram, Fabric, Files, Local, NodeId, Profile, Sink};
-use norm_session::SessionFault;
+use norm_turns::SessionFault;
 use std::alloc::Global;
 
 /// Runs the receiver of a node for exactly the turns of a profile: it starts the network for this node, and prints each hand-up,

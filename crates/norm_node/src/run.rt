@@ -8,8 +8,8 @@ ghost use Rattle.norm_node.specs.Shown.{Outside};
 
 use norm_base::{Memory, Moment, NodeId, Profile};
 use norm_receiver::Receiver;
-use norm_session::first_draws;
 use norm_text::Line;
+use norm_turns::first_draws;
 use rand_pcg::Lcg64Xsh32;
 use std::alloc::Global;
 use std::marker::Model;

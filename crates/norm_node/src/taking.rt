@@ -1,7 +1,7 @@
 //! Datagrams that the network gives.
 
 ghost use Rattle.std.specs.Prelude.{◌≡◌, ℕ, Some, None, IfOk, IfErr, OnOk};
-ghost use Rattle.norm_session.specs.Causes.{NetworkCause, NeedsMemory};
+ghost use Rattle.norm_turns.specs.Causes.{NetworkCause, NeedsMemory};
 ghost use Rattle.norm_node.specs.Lone.{Taking, Handing, reaches};
 ghost use Rattle.norm_node.specs.RunKept.{Begun, At, IsSameTurn, over};
 ghost use Rattle.norm_node.specs.Shown.{Outside};
@@ -10,10 +10,7 @@ ghost use Rattle.norm_node.specs.Taking.{Delivers, HasTaken};
 
 use crate::run::ReceiverRun;
 use norm_base::{Datagram, Fabric, NodeId};
-use norm_session::{SessionFault, next_draw};
-
-/// A turn takes at most so many datagrams.
-const MOST_TAKES: u32 = 512;
+use norm_turns::{MOST_TAKES, SessionFault, next_draw};
 
 /// Whether a datagram for a node is one for this node.
 fn reaches(to: NodeId, node: NodeId) -> bool

@@ -1,7 +1,7 @@
 //! Turns of a receiver's run.
 
 ghost use Rattle.std.specs.Prelude.{◌≡◌, ◌+◌, ◌<◌, IfErr, OnOk};
-ghost use Rattle.norm_session.specs.Causes.{HasCause, counted};
+ghost use Rattle.norm_turns.specs.Causes.{HasCause, counted};
 ghost use Rattle.norm_node.specs.Lone.{Between, Taking};
 ghost use Rattle.norm_node.specs.RunKept.{Begun, At, asked};
 ghost use Rattle.norm_node.specs.Shown.{Outside, outside};
@@ -9,7 +9,7 @@ ghost use Rattle.norm_node.specs.Turning.{TakesTurn, StopsTurn, TakesTurns, Stop
 
 use crate::run::ReceiverRun;
 use norm_base::{Clock, Datagram, Fabric, Files, Sink};
-use norm_session::{SessionFault, moment_of};
+use norm_turns::{SessionFault, moment_of};
 
 impl ReceiverRun {
     // Proof: a number of the profile, read by itself.

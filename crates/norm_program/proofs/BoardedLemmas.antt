@@ -8,8 +8,8 @@ use Rattle.norm_journal.specs.declared.event.Event.{Event}
 use Rattle.norm_script.specs.Commands.{Commands}
 use Rattle.norm_session.specs.Session as session
 use Rattle.norm_session.specs.Turning as turning
-use Rattle.norm_session.specs.declared.fault.SessionFault.{SessionFault}
-use Rattle.norm_session.specs.declared.fault.SessionFault.TheVariants as fault
+use Rattle.norm_turns.specs.declared.fault.SessionFault.{SessionFault}
+use Rattle.norm_turns.specs.declared.fault.SessionFault.TheVariants as fault
 use Rattle.norm_program.specs.Boarded.{RunsScript, StopsScript, span}
 use Rattle.producer_gate.specs.Boards.{BoardState}
 

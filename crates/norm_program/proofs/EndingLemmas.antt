@@ -4,9 +4,9 @@ use Rattle.norm_base.specs.Faults.{one_more}
 use Rattle.norm_base.specs.Told.{Pieces}
 use Rattle.norm_script.specs.Commands.{Commands}
 use Rattle.norm_journal.specs.declared.event.Event.{Event}
-use Rattle.norm_session.specs.Causes.{Counted, HasCause, counted}
-use Rattle.norm_session.specs.declared.fault.SessionFault.{SessionFault}
-use Rattle.norm_session.specs.declared.fault.SessionFault.TheVariants as fault
+use Rattle.norm_turns.specs.Causes.{Counted, HasCause, counted}
+use Rattle.norm_turns.specs.declared.fault.SessionFault.{SessionFault}
+use Rattle.norm_turns.specs.declared.fault.SessionFault.TheVariants as fault
 use Rattle.norm_program.specs.Asked.{Asked, is_alone}
 use Rattle.norm_program.specs.Boarded.{RunsScript, StopsScript, span}
 use Rattle.norm_program.specs.Ends.{Called, outside, EndsScript, EndsEarly, Prepared, IsReadEnding, IsTextEnding, IsLastEnding, IsAbsentEnding, IsStoppedEnding, IsInput, RanSession, StoppedSession}

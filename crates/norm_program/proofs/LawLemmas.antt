@@ -4,7 +4,7 @@ use Rattle.std.specs.Prelude.{⊤}
 use Rattle.norm_base.specs.Faults.{one_more}
 use Rattle.norm_base.specs.Settings.{Settings}
 use Rattle.norm_base.specs.Told.{Pieces, gained}
-use Rattle.norm_session.specs.declared.fault.SessionFault.{SessionFault}
+use Rattle.norm_turns.specs.declared.fault.SessionFault.{SessionFault}
 use Rattle.norm_words.specs.NodeTasks.{node_task_of}
 use Rattle.norm_words.specs.Tasks.{task_of}
 use Rattle.norm_words.specs.declared.node_tasks.NodeTask.{NodeTask}

@@ -13,9 +13,9 @@ use Rattle.norm_node.specs.Shown as shown
 use Rattle.norm_profile.specs.Loading.{IsOfFile, IsUnloaded, has_failed}
 use Rattle.norm_profile.specs.declared.loading.LoadFault.{LoadFault}
 use Rattle.norm_profile.specs.declared.loading.LoadFault.TheVariants as load
-use Rattle.norm_session.specs.Causes.{HasCause}
-use Rattle.norm_session.specs.declared.fault.SessionFault.{SessionFault}
-use Rattle.norm_session.specs.declared.fault.SessionFault.TheVariants as fault
+use Rattle.norm_turns.specs.Causes.{HasCause}
+use Rattle.norm_turns.specs.declared.fault.SessionFault.{SessionFault}
+use Rattle.norm_turns.specs.declared.fault.SessionFault.TheVariants as fault
 use Rattle.norm_program.specs.Ends.{Called, Outside, outside, called_as, IsAbsentEnding, IsStoppedEnding}
 use Rattle.norm_program.specs.NodeEnds.{EndsUnloaded, IsUnloadedEnding, IsLoading, EndsUnder, EndsBroken, BrokenReceiver, BrokenHub, EndsReceiver, EndsHub, seen, heard}
 use Rattle.norm_program.specs.declared.status.Ending.{Ending}

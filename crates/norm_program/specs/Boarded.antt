@@ -7,7 +7,7 @@ use Rattle.norm_journal.specs.declared.event.Event.{Event}
 use Rattle.norm_script.specs.Commands.{Commands}
 use Rattle.norm_session.specs.Session as session
 use Rattle.norm_session.specs.Turning as turning
-use Rattle.norm_session.specs.declared.fault.SessionFault.{SessionFault}
+use Rattle.norm_turns.specs.declared.fault.SessionFault.{SessionFault}
 use Rattle.producer_gate.specs.Boards.{BoardState}
 
 -- what the outside told before and after a session, whatever the board was and is

@@ -8,8 +8,8 @@ use Rattle.norm_script.specs.Commands.{Commands}
 use Rattle.norm_script.specs.declared.refusal.Refusal.{Refusal}
 use Rattle.norm_journal.specs.declared.event.Event.{Event}
 use Rattle.norm_journal.specs.Jobs.{Told}
-use Rattle.norm_session.specs.declared.fault.SessionFault.{SessionFault}
-use Rattle.norm_session.specs.declared.fault.SessionFault.TheVariants as fault
+use Rattle.norm_turns.specs.declared.fault.SessionFault.{SessionFault}
+use Rattle.norm_turns.specs.declared.fault.SessionFault.TheVariants as fault
 use Rattle.norm_program.specs.Asked.{Asked, is_alone, IsAsked, IsRefusedLine}
 use Rattle.norm_program.specs.Boarded.{RunsScript, Span, StopsScript, span}
 use Rattle.norm_program.specs.declared.status.Ending.{Ending}

@@ -12,8 +12,8 @@ use Rattle.norm_profile.specs.Loading.{IsAbsent, IsOfFile, IsUnloaded, has_faile
 use Rattle.norm_profile.specs.declared.loading.LoadFault.{LoadFault}
 use Rattle.norm_profile.specs.declared.loading.LoadFault.TheVariants as load
 use Rattle.norm_profile.specs.declared.refusal.ProfileRefusal.{ProfileRefusal}
-use Rattle.norm_session.specs.declared.fault.SessionFault.{SessionFault}
-use Rattle.norm_session.specs.declared.fault.SessionFault.TheVariants as fault
+use Rattle.norm_turns.specs.declared.fault.SessionFault.{SessionFault}
+use Rattle.norm_turns.specs.declared.fault.SessionFault.TheVariants as fault
 use Rattle.norm_program.specs.Asked.{Sender, with_instance}
 use Rattle.norm_program.specs.Ends.{Outside, Says, Undisturbed, absent_line, EndsScript, IsAbsentEnding}
 use Rattle.norm_program.specs.declared.status.Ending.{Ending}

@@ -3,12 +3,13 @@
 ghost use Rattle.std.specs.Prelude.{◌≡◌, List, IfOk, IfErr, true, false};
 ghost use Rattle.norm_journal.specs.declared.event.Event.{Event};
 ghost use Rattle.norm_program.specs.Boarded.{RunsScript, StopsScript, span};
-ghost use Rattle.norm_session.specs.Causes.{HasCause, counted};
+ghost use Rattle.norm_turns.specs.Causes.{HasCause, counted};
 ghost use Rattle.norm_script.specs.Scripts.{CanRun};
 
 use norm_base::{Clock, Fabric, Files, Memory, Sink};
 use norm_script::Script;
-use norm_session::{Ended, SessionFault};
+use norm_session::Ended;
+use norm_turns::SessionFault;
 use producer_gate::{Board, Through};
 use std::alloc::Global;
 use std::sync::Wait;

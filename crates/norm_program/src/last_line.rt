@@ -5,7 +5,7 @@ ghost use Rattle.norm_program.specs.Ends.{refused_line, absent_line, Says, IsLas
 
 use crate::status::Ending;
 use norm_base::{Failed, Sink, Text};
-use norm_session::SessionFault;
+use norm_turns::SessionFault;
 use std::alloc::{AllocError, Global};
 
 /// Writes a last line. A failed write leaves a front of it and raises the count, and decides nothing.

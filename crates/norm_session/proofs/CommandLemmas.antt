@@ -49,9 +49,10 @@ use Rattle.norm_session.specs.Noting.{IsAtHand, noted}
 use Rattle.norm_session.specs.Posting.{entries_in}
 use Rattle.norm_session.specs.RunKept.{RunKept}
 use Rattle.norm_session.specs.SoFar.{HasAll, IsTakenFrom, IsTelling, At}
-use Rattle.norm_session.specs.Stopping.{IsUnwritten, Stopped}
-use Rattle.norm_session.specs.declared.fault.SessionFault.{SessionFault}
-use Rattle.norm_session.specs.declared.fault.SessionFault.TheVariants as fault
+use Rattle.norm_turns.specs.Printing.{IsUnwritten}
+use Rattle.norm_session.specs.Stopping.{Stopped}
+use Rattle.norm_turns.specs.declared.fault.SessionFault.{SessionFault}
+use Rattle.norm_turns.specs.declared.fault.SessionFault.TheVariants as fault
 use Rattle.norm_session.proofs.LeftLemmas.{some_there}
 use Rattle.norm_session.proofs.SoFarLemmas.{more, kept_more, leads_on, untold, gained-nil, stops_for_memory, line_stops}
 

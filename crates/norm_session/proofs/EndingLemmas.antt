@@ -14,8 +14,9 @@ use Rattle.norm_session.specs.Context.{Context, judged_of}
 use Rattle.norm_session.specs.Noting.{noted}
 use Rattle.norm_session.specs.RunKept.{RunKept}
 use Rattle.norm_session.specs.SoFar.{At}
-use Rattle.norm_session.specs.Stopping.{IsUnwritten, Stopped}
-use Rattle.norm_session.specs.declared.fault.SessionFault.{SessionFault}
+use Rattle.norm_turns.specs.Printing.{IsUnwritten}
+use Rattle.norm_session.specs.Stopping.{Stopped}
+use Rattle.norm_turns.specs.declared.fault.SessionFault.{SessionFault}
 use Rattle.norm_safety.specs.World.{World}
 use Rattle.norm_session.proofs.SoFarLemmas.{more, untold, line_stops}
 use Rattle.norm_session.proofs.TakingLemmas.{keeping}

@@ -39,9 +39,10 @@ use Rattle.norm_session.specs.Handing.{HasTakenAll}
 use Rattle.norm_session.specs.Noting.{noted}
 use Rattle.norm_session.specs.RunKept.{RunKept}
 use Rattle.norm_session.specs.SoFar.{At, after_sent}
-use Rattle.norm_session.specs.Stopping.{IsUnwritten, Stopped}
-use Rattle.norm_session.specs.declared.fault.SessionFault.{SessionFault}
-use Rattle.norm_session.specs.declared.fault.SessionFault.TheVariants as fault
+use Rattle.norm_turns.specs.Printing.{IsUnwritten}
+use Rattle.norm_session.specs.Stopping.{Stopped}
+use Rattle.norm_turns.specs.declared.fault.SessionFault.{SessionFault}
+use Rattle.norm_turns.specs.declared.fault.SessionFault.TheVariants as fault
 use Rattle.norm_journal.specs.declared.totals.Totals.{Totals}
 use Rattle.norm_session.proofs.SendingLemmas.{moved}
 use Rattle.norm_session.proofs.SoFarLemmas.{more, untold, gained-nil, line_stops, stops_for_memory}

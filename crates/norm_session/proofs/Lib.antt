@@ -6,7 +6,6 @@ pub mod LeftLemmas
 pub mod CommandLemmas
 pub mod ReadingLemmas
 pub mod StartingLemmas
-pub mod CauseLemmas
 pub mod SafeLemmas
 pub mod DirectLemmas
 pub mod MomentLemmas

@@ -14,7 +14,8 @@ use Rattle.norm_journal.specs.Takes.{delivered, is_receiver}
 use Rattle.norm_journal.specs.declared.event.Event.{Event}
 use Rattle.norm_journal.specs.declared.event.Event.TheVariants as event
 use Rattle.norm_journal.proofs.FollowLemmas.{judges_what_follows}
-use Rattle.norm_session.specs.Moments.{Either, greatest, last_moment, count_of, Gave, ByClock, HaveMoments}
+use Rattle.norm_turns.specs.Moments.{Either, Gave}
+use Rattle.norm_session.specs.Moments.{greatest, last_moment, count_of, ByClock, HaveMoments}
 use Rattle.norm_session.proofs.SoFarLemmas.{gained-nil, gained-gained}
 
 -- the turn and its moment, after more turns at these moments

@@ -38,7 +38,7 @@ use Rattle.norm_world.specs.WorldKept.{WorldKept, StandsFor, IsBegun, IsFilling,
 use Rattle.norm_world.specs.WorldMoves.{IsEvent, IsRefused}
 use Rattle.norm_world.proofs.WorldLemmas.{is_event}
 use Rattle.norm_sender.specs.Commands.{GivesBack}
-use Rattle.norm_session.specs.Causes.{FilesCause, WriteCause, HasCause, counted, counts_after}
+use Rattle.norm_turns.specs.Causes.{FilesCause, WriteCause, HasCause, counted, counts_after}
 use Rattle.norm_session.specs.Commanding.{IsDue, IsAnswered, CommandCause, given, offering, told_at}
 use Rattle.norm_session.specs.Context.{Context, judged_of}
 use Rattle.norm_session.specs.Noting.{IsAtHand}
@@ -47,8 +47,8 @@ use Rattle.norm_session.specs.RunKept.{RunKept}
 use Rattle.norm_session.specs.Stopping.{Stopped}
 use Rattle.norm_session.specs.declared.reading.FileGave.{FileGave}
 use Rattle.norm_session.specs.declared.reading.FileGave.TheVariants.{Accepted, Refused}
-use Rattle.norm_session.specs.declared.fault.SessionFault.{SessionFault}
-use Rattle.norm_session.specs.declared.fault.SessionFault.TheVariants as fault
+use Rattle.norm_turns.specs.declared.fault.SessionFault.{SessionFault}
+use Rattle.norm_turns.specs.declared.fault.SessionFault.TheVariants as fault
 use Rattle.norm_session.proofs.CommandLemmas.{IsQuietEvent, has_all, moved_to, gave_text, memory_at}
 
 -- ---- a call of the files that gave nothing

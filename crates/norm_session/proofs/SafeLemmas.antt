@@ -37,7 +37,7 @@ use Rattle.norm_session.specs.Context.{Context, opening}
 use Rattle.norm_session.specs.Session.{IsSafe, IsSafeThroughout, OverHonest, nodes_of, session_opening, session_events}
 use Rattle.norm_session.specs.SoFar.{Leads, IsTakenFrom, AreTakenFrom}
 use Rattle.norm_session.specs.Stopping.{Stopped}
-use Rattle.norm_session.specs.declared.fault.SessionFault.{SessionFault}
+use Rattle.norm_turns.specs.declared.fault.SessionFault.{SessionFault}
 use Rattle.norm_session.proofs.SoFarLemmas.{judged_one}
 
 -- ---- what was offered is the world's

@@ -40,9 +40,9 @@ use Rattle.norm_session.specs.Context.{Context, opening, judged_of}
 use Rattle.norm_session.specs.Noting.{noted}
 use Rattle.norm_session.specs.RunKept.{RunKept}
 use Rattle.norm_session.specs.SoFar.{SoFar, IsTelling, At, after_sent}
-use Rattle.norm_session.specs.Causes.{session_fault}
+use Rattle.norm_turns.specs.Causes.{session_fault}
 use Rattle.norm_session.specs.Stopping.{Stopped}
-use Rattle.norm_session.specs.declared.fault.SessionFault.TheVariants as fault
+use Rattle.norm_turns.specs.declared.fault.SessionFault.TheVariants as fault
 use Rattle.norm_session.proofs.SoFarLemmas.{more, untold, offer_told, gained-nil, stops_for_memory}
 
 -- ---- the sender's node has no receiver

@@ -14,12 +14,12 @@ use Rattle.norm_base.specs.declared.kinds.Sent.TheVariants as sent
 use Rattle.norm_journal.specs.Places.{Place, Handing, Between, Taking, Offering, handing}
 use Rattle.norm_journal.specs.Takes.{most_takes}
 use Rattle.norm_world.proofs.ReceiverEvents.{not_same}
-use Rattle.norm_session.specs.Causes.{Counted, HasCause, counts_after}
+use Rattle.norm_turns.specs.Causes.{Counted, HasCause, counts_after}
 use Rattle.norm_session.specs.Context.{Context}
 use Rattle.norm_session.specs.RunKept.{RunKept, nodes_in}
 use Rattle.norm_session.specs.SoFar.{At, IsTelling, HasTaken, hands_next, takes_next, after_sent}
-use Rattle.norm_session.specs.declared.fault.SessionFault.{SessionFault}
-use Rattle.norm_session.specs.declared.fault.SessionFault.TheVariants as fault
+use Rattle.norm_turns.specs.declared.fault.SessionFault.{SessionFault}
+use Rattle.norm_turns.specs.declared.fault.SessionFault.TheVariants as fault
 
 -- ---- the receivers in their order
 

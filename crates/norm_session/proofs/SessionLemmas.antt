@@ -12,7 +12,7 @@ use Rattle.norm_journal.specs.Jobs.{Told}
 use Rattle.norm_journal.specs.Judged.{Judged, is_whole}
 use Rattle.norm_journal.specs.Places.{Between, Over}
 use Rattle.norm_journal.specs.SessionRun.{Whole, Spent, ending_of}
-use Rattle.norm_session.specs.Causes.{Counted, HasCause}
+use Rattle.norm_turns.specs.Causes.{Counted, HasCause}
 use Rattle.norm_session.specs.Context.{Context, with_moments, with_posted, judged_of}
 use Rattle.norm_session.specs.Finishing.{HasEnded, Finishes}
 use Rattle.norm_session.specs.Moments.{HaveMoments}
@@ -22,9 +22,9 @@ use Rattle.norm_session.specs.SoFar.{Leads, At}
 use Rattle.norm_session.specs.Starting.{IsBegun, local_of}
 use Rattle.norm_session.specs.Session.{OverHonest, IsSafeThroughout, RunsKept, StopsSession, StopsSender, StopsScript, context_of, end_of}
 use Rattle.norm_session.specs.Turning.{Span, span, StopsTurns}
-use Rattle.norm_session.specs.declared.fault.SessionFault.{SessionFault}
+use Rattle.norm_turns.specs.declared.fault.SessionFault.{SessionFault}
 use Rattle.norm_session.specs.declared.session.Made.{Made}
-use Rattle.norm_session.specs.declared.fault.SessionFault.TheVariants as fault
+use Rattle.norm_turns.specs.declared.fault.SessionFault.TheVariants as fault
 use Rattle.norm_session.proofs.DirectLemmas.{direct_over}
 use Rattle.norm_session.proofs.SafeLemmas.{safe_over, safe_stopped}
 use Rattle.norm_session.specs.Stopping.{Stopped}

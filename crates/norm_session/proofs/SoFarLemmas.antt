@@ -1,6 +1,6 @@
 -- A run with one event more, and what stops one.
 use Rattle.std.proofs.Common.{◌≡◌, ℕ, List, [], ◌∷◌, ◌++◌, Bool, true, false, Option, None, Some, refl, sym, ap, ◌∙◌, subst, append_assoc}
-use Rattle.std.specs.Prelude.{option_and_then, map, Result, Ok, Err, OnOk, IfErr}
+use Rattle.std.specs.Prelude.{option_and_then, map}
 use Rattle.std.specs.List.{AllByRecursion}
 use Rattle.std.specs.Option.{option_to_list}
 use Rattle.std.proofs.lemmas.List.{append-nil, map-append}
@@ -22,9 +22,10 @@ use Rattle.norm_session.specs.Noting.{kept_of, noted}
 use Rattle.norm_session.specs.Posting.{entry_of, entries_in, posting}
 use Rattle.norm_session.specs.RunKept.{RunKept, nodes_in}
 use Rattle.norm_session.specs.SoFar.{Leads, SoFar, IsTakenFrom, AreTakenFrom}
-use Rattle.norm_session.specs.Stopping.{IsUnwritten, Stopped}
-use Rattle.norm_session.specs.declared.fault.SessionFault.{SessionFault}
-use Rattle.norm_session.specs.declared.fault.SessionFault.TheVariants as fault
+use Rattle.norm_turns.specs.Printing.{IsUnwritten}
+use Rattle.norm_session.specs.Stopping.{Stopped}
+use Rattle.norm_turns.specs.declared.fault.SessionFault.{SessionFault}
+use Rattle.norm_turns.specs.declared.fault.SessionFault.TheVariants as fault
 use Rattle.producer_gate.specs.Boards.{BoardState}
 use Rattle.producer_gate.specs.Entries.{Entry}
 
@@ -224,10 +225,6 @@ stops_for_memory x journal j network written s =
       leaves = s.lines;
     }
 
--- what a call leaves where it answered a fault
-pub at_fault : {T : Type 0} (P : SessionFault → Type 0) (r : Result T SessionFault) (y fault : SessionFault) → r ≡ Err y → y ≡ fault → P fault → IfErr r P
-at_fault P r y fault is same h = subst (λ s. IfErr s P) (sym is) (subst P (sym same) h)
-
 -- ---- the line of an event, in a state that the judge accepts it in
 
 -- the journal has the event, and its line is not written whole
@@ -280,13 +277,3 @@ told_line_stops x journal e j next network unwritten written s accepted no_offer
     broken_line x (posted_by x e) journal e j next network unwritten written s
     (leads_told x journal e j next network network unwritten (gained unwritten (option_to_list (line_of j e))) s accepted
     (untold network e no_offer no_answer) refl taken no_turn octets) un
-
--- ---- what a call's clause says of another one's result
-
-pub on_ok : {T : Type 0} {P Q : Type 0} (result : Result T SessionFault) → (P → Q) → OnOk result P → OnOk result Q
-on_ok (Ok x) f h = f h
-on_ok (Err e) f h = h
-
-pub on_err : {T : Type 0} (P Q : SessionFault → Type 0) (result : Result T SessionFault) → ((failed : SessionFault) → P failed → Q failed) → IfErr result P → IfErr result Q
-on_err P Q (Ok x) f h = h
-on_err P Q (Err e) f h = f e h

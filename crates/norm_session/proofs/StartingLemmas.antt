@@ -23,15 +23,15 @@ use Rattle.norm_journal.specs.declared.event.Event.TheVariants as event
 use Rattle.norm_journal.specs.declared.totals.Totals.{Totals}
 use Rattle.norm_journal.proofs.FollowLemmas.{judges_what_follows}
 use Rattle.norm_world.specs.WorldKept.{WorldKept, StandsFor}
-use Rattle.norm_session.specs.Causes.{session_fault, NetworkCause}
+use Rattle.norm_turns.specs.Causes.{session_fault, NetworkCause}
 use Rattle.norm_session.specs.Context.{Context, opening, judged_of}
 use Rattle.norm_session.specs.Left.{lines_at}
 use Rattle.norm_session.specs.Noting.{kept_of}
 use Rattle.norm_session.specs.RunKept.{RunKept, nodes_in}
 use Rattle.norm_session.specs.SoFar.{AreTakenFrom, Leads, At}
 use Rattle.norm_session.specs.Starting.{IsBegun}
-use Rattle.norm_session.specs.declared.fault.SessionFault.{SessionFault}
-use Rattle.norm_session.specs.declared.fault.SessionFault.TheVariants as fault
+use Rattle.norm_turns.specs.declared.fault.SessionFault.{SessionFault}
+use Rattle.norm_turns.specs.declared.fault.SessionFault.TheVariants as fault
 use Rattle.norm_session.proofs.SoFarLemmas.{gained-nil, posting-nil, tells, untold, leads_on}
 
 -- nothing happened yet

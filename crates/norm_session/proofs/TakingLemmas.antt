@@ -29,15 +29,15 @@ use Rattle.norm_safety.specs.WorldStep.{world_step}
 use Rattle.norm_world.specs.WorldKept.{WorldKept, StandsFor}
 use Rattle.norm_world.specs.WorldMoves.{IsEvent}
 use Rattle.norm_world.proofs.ReceiverEvents.{no_sender, is_sender}
-use Rattle.norm_session.specs.Causes.{session_fault}
+use Rattle.norm_turns.specs.Causes.{session_fault}
 use Rattle.norm_session.specs.Context.{Context, judged_of}
 use Rattle.norm_session.specs.Noting.{noted}
 use Rattle.norm_session.specs.RunKept.{RunKept, nodes_in}
 use Rattle.norm_session.specs.SoFar.{MayAnswer, Leads, HasAll, IsTelling, At, HasTaken, hands_next, takes_next}
 use Rattle.norm_session.specs.Stopping.{Stopped}
 use Rattle.norm_session.specs.Taking.{IsDelivered, Delivers, GoesOn, StopsAfter}
-use Rattle.norm_session.specs.declared.fault.SessionFault.{SessionFault}
-use Rattle.norm_session.specs.declared.fault.SessionFault.TheVariants as fault
+use Rattle.norm_turns.specs.declared.fault.SessionFault.{SessionFault}
+use Rattle.norm_turns.specs.declared.fault.SessionFault.TheVariants as fault
 use Rattle.norm_session.proofs.SoFarLemmas.{more, leads_on, answer_told, gained-nil, stops_for_memory}
 
 -- ---- a delivery

@@ -7,14 +7,14 @@ use Rattle.norm_base.specs.Told.{Pieces}
 use Rattle.norm_script.specs.Commands.{Commands}
 use Rattle.norm_script.specs.Scripts.{CanRun}
 use Rattle.norm_journal.specs.Jobs.{Told}
-use Rattle.norm_session.specs.Causes.{Counted, HasCause}
+use Rattle.norm_turns.specs.Causes.{Counted, HasCause}
 use Rattle.norm_session.specs.Context.{Context, with_moments, with_posted}
 use Rattle.norm_session.specs.Finishing.{HasEnded, TurnedScript}
 use Rattle.norm_session.specs.RunKept.{RunKept}
 use Rattle.norm_session.specs.Session.{RunsKept, StopsScript}
 use Rattle.norm_session.specs.Stopping.{Stopped}
 use Rattle.norm_session.specs.Turning.{AtLast, Span}
-use Rattle.norm_session.specs.declared.fault.SessionFault.{SessionFault}
+use Rattle.norm_turns.specs.declared.fault.SessionFault.{SessionFault}
 use Rattle.norm_session.proofs.SessionLemmas.{script_runs, script_stops}
 
 -- a run is answered where its turns were made, and else why they were not

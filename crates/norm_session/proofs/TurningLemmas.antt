@@ -17,13 +17,14 @@ use Rattle.norm_journal.specs.declared.event.Event.{Event}
 use Rattle.norm_journal.specs.declared.event.Event.TheVariants as event
 use Rattle.norm_safety.specs.World.{World}
 use Rattle.norm_session.specs.Context.{Context, with_moments, opening, judged_of}
-use Rattle.norm_session.specs.Moments.{Either, count_of, ByClock, HaveMoments, last_moment}
+use Rattle.norm_turns.specs.Moments.{Either, IsGiven, IsStepped, IsNextMoment}
+use Rattle.norm_session.specs.Moments.{count_of, ByClock, HaveMoments, last_moment}
 use Rattle.norm_session.specs.Noting.{noted}
 use Rattle.norm_session.specs.RunKept.{RunKept}
 use Rattle.norm_session.specs.SoFar.{At}
 use Rattle.norm_session.specs.Stopping.{Stopped}
-use Rattle.norm_session.specs.Turning.{command_next, IsGiven, IsStepped, IsNextMoment, FollowMoments, GoesOn}
-use Rattle.norm_session.specs.declared.fault.SessionFault.TheVariants as fault
+use Rattle.norm_session.specs.Turning.{command_next, FollowMoments, GoesOn}
+use Rattle.norm_turns.specs.declared.fault.SessionFault.TheVariants as fault
 use Rattle.norm_session.proofs.MomentLemmas.{moves_all, no_moments}
 use Rattle.norm_session.proofs.SoFarLemmas.{gained-nil, kept_more, leads_by, untold, stops_for_memory}
 

@@ -17,7 +17,7 @@ use Rattle.norm_session.specs.RunKept.{RunKept}
 use Rattle.norm_session.specs.SoFar.{HasAll, At}
 use Rattle.norm_session.specs.Stopping.{Stopped}
 use Rattle.norm_session.specs.Turning.{Span, span, IsOver, FollowMoments, TakesTurn, StopsTurn, TakesTurns, StopsTurns}
-use Rattle.norm_session.specs.declared.fault.SessionFault.{SessionFault}
+use Rattle.norm_turns.specs.declared.fault.SessionFault.{SessionFault}
 use Rattle.norm_session.proofs.MomentLemmas.{count-both, last_moment-append, moments_both, no_moments}
 use Rattle.norm_session.proofs.TurningLemmas.{turns_so_far}
 

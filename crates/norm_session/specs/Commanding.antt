@@ -16,13 +16,13 @@ use Rattle.norm_journal.specs.Places.{Place, Giving, Again, Sending}
 use Rattle.norm_journal.specs.Printed.{line_of}
 use Rattle.norm_journal.specs.declared.event.Event.{Event}
 use Rattle.norm_world.specs.WorldKept.{StandsFor}
-use Rattle.norm_session.specs.Causes.{HasCause, counted}
+use Rattle.norm_turns.specs.Causes.{HasCause, counted}
 use Rattle.norm_session.specs.Context.{Context, judged_of}
 use Rattle.norm_session.specs.Noting.{kept_of}
 use Rattle.norm_session.specs.RunKept.{RunKept}
 use Rattle.norm_session.specs.SoFar.{HasAll, Leads, At, IsTelling}
 use Rattle.norm_session.specs.Stopping.{Stopped}
-use Rattle.norm_session.specs.declared.fault.SessionFault.{SessionFault}
+use Rattle.norm_turns.specs.declared.fault.SessionFault.{SessionFault}
 
 -- where a line's command is offered: for the first time, or again
 abbrev pub offering : Bool → Line → Place

@@ -6,7 +6,6 @@ pub mod Context
 pub mod SoFar
 pub mod Stopping
 pub mod Starting
-pub mod Causes
 pub mod Taking
 pub mod Commanding
 pub mod Reading

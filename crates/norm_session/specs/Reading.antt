@@ -17,8 +17,8 @@ use Rattle.norm_send_rules.specs.declared.job.Receipt.{Receipt}
 use Rattle.norm_world.specs.WorldKept.{WorldKept, StandsFor, IsFilling, HasBegun}
 use Rattle.norm_world.specs.WorldMoves.{IsEvent}
 use Rattle.norm_session.specs.Commanding.{told_at}
-use Rattle.norm_session.specs.declared.fault.SessionFault.{SessionFault}
-use Rattle.norm_session.specs.declared.fault.SessionFault.TheVariants as fault
+use Rattle.norm_turns.specs.declared.fault.SessionFault.{SessionFault}
+use Rattle.norm_turns.specs.declared.fault.SessionFault.TheVariants as fault
 use Rattle.norm_session.specs.declared.reading.FileGave.{FileGave}
 use Rattle.norm_session.specs.declared.reading.FileGave.TheVariants.{Accepted, Refused}
 

@@ -31,8 +31,8 @@ use Rattle.norm_session.specs.Posting.{entries_in, posting}
 use Rattle.norm_session.specs.RunKept.{nodes_in}
 use Rattle.norm_session.specs.Stopping.{Stopped}
 use Rattle.norm_session.specs.Turning.{Span}
-use Rattle.norm_session.specs.declared.fault.SessionFault.{SessionFault}
-use Rattle.norm_session.specs.declared.fault.SessionFault.TheVariants as fault
+use Rattle.norm_turns.specs.declared.fault.SessionFault.{SessionFault}
+use Rattle.norm_turns.specs.declared.fault.SessionFault.TheVariants as fault
 use Rattle.producer_gate.specs.Boards.{BoardState}
 
 -- the receivers of a script's profile, in order

@@ -1,5 +1,5 @@
 -- What a fault leaves of a run.
-use Rattle.std.specs.Prelude.{◌≡◌, ℕ, List, [], ◌∷◌, ◌++◌, Option, Some, ⊤}
+use Rattle.std.specs.Prelude.{◌≡◌, ℕ, List, [], ◌∷◌, ◌++◌, Some, ⊤}
 use Rattle.std.specs.List.{AllByRecursion}
 use Rattle.norm_base.specs.Network.{Network}
 use Rattle.norm_base.specs.Told.{Pieces, gained, GainsFront}
@@ -14,8 +14,8 @@ use Rattle.norm_journal.specs.SessionRun.{Absent, ending_of}
 use Rattle.norm_session.specs.Context.{Context, opening}
 use Rattle.norm_session.specs.Posting.{entries_in, posting}
 use Rattle.norm_session.specs.SoFar.{AreTakenFrom}
-use Rattle.norm_session.specs.declared.fault.SessionFault.{SessionFault}
-use Rattle.norm_session.specs.declared.fault.SessionFault.TheVariants as fault
+use Rattle.norm_turns.specs.declared.fault.SessionFault.{SessionFault}
+use Rattle.norm_turns.specs.declared.fault.SessionFault.TheVariants as fault
 
 -- a call of the network
 abbrev pub IsOfNetwork : Call → Type 0
@@ -45,12 +45,6 @@ pub record BrokenLine (x : Context) (journal : List Event) (written : Pieces) : 
   pub begun : judged_from (opening x) front ≡ Some before
   pub line_is : line_of before event ≡ Some line
   pub output : GainsFront (gained x.written (lines_from (opening x) front)) written line
-
--- What a fault leaves of the line of an event: a front of it where its write failed, and else nothing.
-abbrev pub IsUnwritten : SessionFault → (unwritten written : Pieces) → Option (List ℕ) → Type 0
-IsUnwritten fault.Write unwritten written line = (octets : List ℕ) × (line ≡ Some octets) × GainsFront unwritten written octets
-IsUnwritten fault.Memory unwritten written line = written ≡ unwritten
-IsUnwritten _ unwritten written line = ⊥
 
 -- the output has the lines of a journal
 abbrev pub HasLines : Context → List Event → Pieces → Type 0

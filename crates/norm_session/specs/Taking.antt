@@ -10,7 +10,7 @@ use Rattle.norm_session.specs.Context.{Context, judged_of}
 use Rattle.norm_session.specs.RunKept.{RunKept}
 use Rattle.norm_session.specs.SoFar.{MayAnswer, HasAll, At, HasTaken}
 use Rattle.norm_session.specs.Stopping.{Stopped}
-use Rattle.norm_session.specs.declared.fault.SessionFault.{SessionFault}
+use Rattle.norm_turns.specs.declared.fault.SessionFault.{SessionFault}
 
 -- The run is the one that the judge's delivery leads to; its journal is as it was.
 pub record IsDelivered (x : Context) (k new : RunKept) (w : World) (place : Place) (node : ℕ) (octets : List ℕ) : Type 0 where

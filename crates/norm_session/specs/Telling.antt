@@ -1,13 +1,10 @@
 -- What the sender still has to tell, and a run that tells it.
-use Rattle.std.specs.Prelude.{◌≡◌, ℕ, ◌+◌, ◌-◌, List, [], length, Bool, true, false, None, Some}
+use Rattle.std.specs.Prelude.{◌≡◌, ℕ, ◌+◌, ◌-◌, length, Bool, true, false}
 use Rattle.norm_base.specs.Network.{Network}
 use Rattle.norm_base.specs.Told.{Pieces}
 use Rattle.norm_journal.specs.Places.{Place}
 use Rattle.norm_safety.specs.World.{World}
 use Rattle.norm_send_rules.specs.SenderState.{SenderState}
-use Rattle.norm_send_rules.specs.Watermarks.{pending, watermark_of}
-use Rattle.norm_send_rules.specs.declared.news.News.{News}
-use Rattle.norm_send_rules.specs.declared.news.News.TheVariants as news
 use Rattle.norm_session.specs.Context.{Context}
 use Rattle.norm_session.specs.RunKept.{RunKept}
 use Rattle.norm_session.specs.SoFar.{SoFar, At}
@@ -15,15 +12,6 @@ use Rattle.norm_session.specs.SoFar.{SoFar, At}
 -- how many changes a sender did not tell yet
 abbrev pub untold_count : SenderState → ℕ
 untold_count s = length s.untold_nodes + length s.untold_marks
-
--- the members that are not listed past a watermark, in order
-abbrev pub left_past : SenderState → ℕ → List ℕ
-left_past s mark = elim (watermark_of s mark) [ Some w ↦ pending s w.at | None ↦ [] ]
-
--- the members that a change speaks of as left
-abbrev pub left_by : SenderState → News → List ℕ
-left_by s (news.Done mark outcome) = left_past s mark
-left_by s (news.Past node at) = []
 
 -- A run is at a place, where so many changes are to be told.
 pub record IsTellingOf (x : Context) (k : RunKept) (place : Place) (network : Network) (written : Pieces) (many : ℕ) : Type 0 where

@@ -1,5 +1,5 @@
 -- A turn of a run, and all its turns.
-use Rattle.std.specs.Prelude.{◌≡◌, ℕ, ◌*◌, ◌==◌, max, List, [], ◌∷◌, Option, slice_get, option_and_then, true, false}
+use Rattle.std.specs.Prelude.{◌≡◌, ℕ, List, [], ◌∷◌, Option, slice_get, option_and_then, true, false}
 use Rattle.norm_base.specs.Network.{Network}
 use Rattle.norm_base.specs.Told.{Pieces}
 use Rattle.norm_script.specs.Commands.{Commands}
@@ -8,31 +8,16 @@ use Rattle.norm_journal.specs.Judged.{is_done}
 use Rattle.norm_journal.specs.Places.{Place, Sending, Between, command_due}
 use Rattle.norm_session.specs.Context.{Context, judged_of, with_moments, with_posted}
 use Rattle.norm_session.specs.Left.{lines_at}
-use Rattle.norm_session.specs.Moments.{Either, Gave, HaveMoments, last_moment}
+use Rattle.norm_session.specs.Moments.{HaveMoments, last_moment}
 use Rattle.norm_session.specs.RunKept.{RunKept}
 use Rattle.norm_session.specs.SoFar.{At}
 use Rattle.norm_session.specs.Stopping.{Stopped}
-use Rattle.norm_session.specs.declared.fault.SessionFault.{SessionFault}
+use Rattle.norm_turns.specs.declared.fault.SessionFault.{SessionFault}
 use Rattle.producer_gate.specs.Boards.{BoardState}
 
 -- a turn begins with a command: one that waits, or one that is pulled, where there are some left
 abbrev pub command_next : Context → RunKept → Place
 command_next x k = command_due (option_and_then (slice_get x.script.lines) k.waiting) (lines_at x.script.lines k.left)
-
--- The clock gave the moment, if it did not fall.
-pub record IsGiven (so_far now : ℕ) (before after : Option (List ℕ)) : Type 0 where
-  pub given : ℕ
-  pub gave : Gave before after (given ∷ [])
-  pub now_is : now ≡ max so_far given
-
--- The moment is the turn's number times the step, and the clock was not asked.
-pub record IsStepped (turn step now : ℕ) (before after : Option (List ℕ)) : Type 0 where
-  pub now_is : now ≡ turn * step
-  pub unasked : after ≡ before
-
--- The moment of a turn.
-abbrev pub IsNextMoment : (turn step so_far now : ℕ) → Option (List ℕ) → Option (List ℕ) → Type 0
-IsNextMoment turn step so_far now before after = Either (step == 0) (IsGiven so_far now before after) (IsStepped turn step now before after)
 
 -- the moments of turns that follow, by the clock's
 abbrev pub FollowMoments : Context → Option (List ℕ) → Option (List ℕ) → List ℕ → Type 0

@@ -4,15 +4,14 @@ ghost use Rattle.std.specs.Prelude.{◌≡◌, true, IfErr, OnOk};
 ghost use Rattle.norm_base.specs.Network.{Network};
 ghost use Rattle.norm_journal.specs.Judged.{is_done};
 ghost use Rattle.norm_journal.specs.Places.{Between, Over};
-ghost use Rattle.norm_session.specs.Causes.{WriteCause};
+ghost use Rattle.norm_turns.specs.Causes.{WriteCause};
 ghost use Rattle.norm_session.specs.Context.{Context, judged_of};
 ghost use Rattle.norm_session.specs.SoFar.{At};
 ghost use Rattle.norm_session.specs.Stopping.{Stopped};
 
-use crate::fault::SessionFault;
-use crate::printing::write_end;
 use crate::run::Run;
 use norm_base::Sink;
+use norm_turns::{SessionFault, write_end};
 
 impl Run {
     /// The summary is made where the last turn was done, and its line is written.

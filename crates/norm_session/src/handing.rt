@@ -7,7 +7,7 @@ ghost use Rattle.norm_base.specs.Told.{Pieces};
 ghost use Rattle.norm_journal.specs.Places.{Handing, handing};
 ghost use Rattle.norm_journal.specs.Totals.{with_up};
 ghost use Rattle.norm_journal.specs.declared.event.Event.TheVariants as event;
-ghost use Rattle.norm_session.specs.Causes.{WriteCause, NeedsMemory};
+ghost use Rattle.norm_turns.specs.Causes.{WriteCause, NeedsMemory};
 ghost use Rattle.norm_session.specs.Context.{Context};
 ghost use Rattle.norm_session.specs.Handing.{HasTakenAll};
 ghost use Rattle.norm_session.specs.Noting.{noted};
@@ -15,13 +15,12 @@ ghost use Rattle.norm_session.specs.SoFar.{At, after_sent};
 ghost use Rattle.norm_session.specs.Stopping.{Stopped};
 ghost use Rattle.norm_world.specs.WorldMoves.{AreTaken, receiver_of};
 
-use crate::fault::SessionFault;
 use crate::noting::KeptJournal;
-use crate::printing::write_line;
 use crate::run::Run;
 use norm_base::{Datagram, InstanceId, NodeId, Sent, Sink};
 use norm_journal::{Totals, up_line};
 use norm_order::Up;
+use norm_turns::{SessionFault, write_line};
 
 /// A hand-up is counted, and noted.
 fn note_up(

@@ -1,17 +1,17 @@
 //! Producers in threads of their own: each submits the places of its lines to a ring, from which the one thread pulls that runs the session.
 
 ghost use Rattle.std.specs.Prelude.{◌≡◌, ◌≤◌, All, IfErr, IfOk, length, max};
-ghost use Rattle.norm_session.specs.Causes.{HasCause, counted};
+ghost use Rattle.norm_turns.specs.Causes.{HasCause, counted};
 ghost use Rattle.norm_script.specs.Scripts.{CanRun};
 ghost use Rattle.norm_session.specs.Session.{RunsKept, StopsScript};
 ghost use Rattle.norm_session.specs.Turning.{span};
 
 use crate::arrivals::{Arrivals, Arrived};
 use crate::beside::{Lent, Work, take_back};
-use crate::fault::SessionFault;
 use crate::session::{Made, run_script};
 use norm_base::{Clock, Fabric, Files, Memory, Sink};
 use norm_script::{Line, Script};
+use norm_turns::SessionFault;
 use producer_gate::{Board, Gate, GateFault, PullSeat, Seat, Turnstile};
 use std::alloc::Global;
 use std::sync::Wait;

@@ -5,14 +5,14 @@ ghost use Rattle.norm_base.specs.Network.{Network};
 ghost use Rattle.norm_base.specs.Sizes.{datagram_room};
 ghost use Rattle.norm_base.specs.Told.{Pieces};
 ghost use Rattle.norm_journal.specs.Places.{Place, Sending, Offering, Taking};
-ghost use Rattle.norm_session.specs.Causes.{NetworkCause, NeedsMemory};
+ghost use Rattle.norm_turns.specs.Causes.{NetworkCause, NeedsMemory};
 ghost use Rattle.norm_session.specs.Context.{Context};
 ghost use Rattle.norm_session.specs.SoFar.{At, IsTelling, after_sent};
 ghost use Rattle.norm_session.specs.Stopping.{Stopped};
 
-use crate::fault::SessionFault;
 use crate::run::{Run, sender_node};
 use norm_base::{Datagram, Fabric, NodeId, Sent};
+use norm_turns::SessionFault;
 
 impl Run {
     /// The sender ticks. What it gave is to be offered then.

@@ -3,14 +3,14 @@
 ghost use Rattle.std.specs.Prelude.{◌≡◌, ℕ, List, true, IfErr, OnOk};
 ghost use Rattle.norm_base.specs.Members.{is_receiver};
 ghost use Rattle.norm_journal.specs.Places.{Handing, Between, handing};
-ghost use Rattle.norm_session.specs.Causes.{HasCause, counted};
+ghost use Rattle.norm_turns.specs.Causes.{HasCause, counted};
 ghost use Rattle.norm_session.specs.Context.{Context};
 ghost use Rattle.norm_session.specs.SoFar.{At};
 ghost use Rattle.norm_session.specs.Stopping.{Stopped};
 
-use crate::fault::SessionFault;
 use crate::run::Run;
 use norm_base::{Datagram, Fabric, NodeId, Sent, Sink};
+use norm_turns::SessionFault;
 
 impl Run {
     /// A receiver's part of a turn: all that it handed up is taken, it ticks, and what it gave is offered. A node that is no receiver

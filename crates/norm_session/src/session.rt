@@ -3,7 +3,7 @@
 ghost use Rattle.std.specs.Prelude.{◌≡◌, List, Ok, Err, IfOk, IfErr};
 ghost use Rattle.norm_journal.specs.declared.event.Event.{Event};
 ghost use Rattle.norm_base.specs.Network.{Network};
-ghost use Rattle.norm_session.specs.Causes.{HasCause, WriteCause, counted};
+ghost use Rattle.norm_turns.specs.Causes.{HasCause, WriteCause, counted};
 ghost use Rattle.norm_session.specs.Context.{Context};
 ghost use Rattle.norm_session.specs.Finishing.{HasEnded, TurnedScript};
 ghost use Rattle.norm_script.specs.Scripts.{CanRun};
@@ -12,12 +12,12 @@ ghost use Rattle.norm_session.specs.Stopping.{Stopped};
 ghost use Rattle.norm_session.specs.Turning.{AtLast, span};
 
 use crate::arrivals::Arrivals;
-use crate::fault::SessionFault;
 use crate::producing::run_produced;
 use crate::run::Run;
 use norm_base::{Clock, Datagram, Fabric, Files, Sink};
 use norm_record::Journal;
 use norm_script::Script;
+use norm_turns::SessionFault;
 use producer_gate::{Board, Turnstile};
 use std::alloc::Global;
 use std::sync::Wait;

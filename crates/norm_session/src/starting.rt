@@ -2,16 +2,14 @@
 
 ghost use Rattle.std.specs.Prelude.{◌≡◌, ◌⊎◌, ◌∷◌, [], IfOk, IfErr, OnOk, OnErr};
 ghost use Rattle.norm_base.specs.Network.{Network, Starts};
-ghost use Rattle.norm_journal.specs.Draws.{first_draws};
 ghost use Rattle.norm_journal.specs.Places.{Between};
 ghost use Rattle.norm_journal.specs.declared.event.Event.TheVariants as event;
-ghost use Rattle.norm_session.specs.Causes.{NetworkCause};
+ghost use Rattle.norm_turns.specs.Causes.{NetworkCause};
 ghost use Rattle.norm_session.specs.Context.{Context};
 ghost use Rattle.norm_session.specs.Noting.{kept_of};
 ghost use Rattle.norm_session.specs.SoFar.{At};
 ghost use Rattle.norm_session.specs.Starting.{IsBegun, local_of};
 
-use crate::fault::SessionFault;
 use crate::left::Left;
 use crate::noting::KeptJournal;
 use crate::run::{Run, sender_node};
@@ -19,19 +17,9 @@ use norm_base::{Fabric, Local, Memory, Moment, Profile};
 use norm_journal::Totals;
 use norm_script::Script;
 use norm_text::Line;
+use norm_turns::{SessionFault, first_draws};
 use norm_world::World;
-use rand_core::SeedableRng;
-use rand_pcg::Lcg64Xsh32;
 use std::alloc::Global;
-
-/// The draws of a session as it begins: their seed is the one after the network's.
-#[tactic(auto, unfolding(norm_journal::specs::Draws::first_draws))]
-pub fn first_draws(profile: &Profile) -> Lcg64Xsh32
-    ensures { result ≡ first_draws profile.now }
-{
-    // One more than the network's seed: with the same one the back-offs of receivers would follow what is lost.
-    Lcg64Xsh32::seed_from_u64(u64::from(profile.chance) + 1)
-}
 
 /// What the network is started for.
 fn local_of(profile: &Profile, alone: bool) -> Local

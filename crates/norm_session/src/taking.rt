@@ -3,34 +3,17 @@
 ghost use Rattle.std.specs.Prelude.{◌≡◌, ℕ, Some, None, IfOk, IfErr, OnOk};
 ghost use Rattle.norm_base.specs.Network.{Network};
 ghost use Rattle.norm_base.specs.Told.{Pieces};
-ghost use Rattle.norm_journal.specs.Draws.{next_draw, draws_after};
 ghost use Rattle.norm_journal.specs.Places.{Taking};
-ghost use Rattle.norm_session.specs.Causes.{HasCause, NetworkCause, NeedsMemory, counted};
+ghost use Rattle.norm_turns.specs.Causes.{HasCause, NetworkCause, NeedsMemory, counted};
 ghost use Rattle.norm_session.specs.Context.{Context, with_posted};
 ghost use Rattle.norm_session.specs.SoFar.{At, HasTaken, hands_next};
 ghost use Rattle.norm_session.specs.Stopping.{Stopped};
 ghost use Rattle.norm_session.specs.Taking.{Delivers, GoesOn, StopsAfter};
 
-use crate::fault::SessionFault;
 use crate::run::Run;
 use norm_base::{Datagram, Fabric, NodeId, Sink};
+use norm_turns::{MOST_TAKES, SessionFault, next_draw};
 use producer_gate::Board;
-use rand_core::utils::NextWord;
-use rand_pcg::Lcg64Xsh32;
-
-/// A turn takes at most so many datagrams.
-// Our own choice. Without a limit a member that sends faster than we take would keep the turn from its hand-ups and its own datagram.
-// 16 receivers cause at most 272 in a turn if nothing is delayed or repeated: 16 copies for each of 17 members.
-const MOST_TAKES: u32 = 512;
-
-/// The next draw.
-#[tactic(auto, unfolding(norm_journal::specs::Draws::next_draw, norm_journal::specs::Draws::draws_after))]
-pub fn next_draw(draws: &mut Lcg64Xsh32) -> u32
-    ensures word { result ≡ next_draw draws.old }
-    ensures rest { draws.new ≡ draws_after draws.old }
-{
-    draws.next_word()
-}
 
 impl Run {
     /// A datagram comes to a node: to the sender, or to a receiver with the next draw. Any other node gets nothing, nor does a receiver

@@ -4,35 +4,23 @@ ghost use Rattle.std.specs.Prelude.{◌≡◌, ◌≤◌, ℕ, ◌==◌, ◌&&�
 ghost use Rattle.norm_journal.specs.Judged.{is_done, is_whole};
 ghost use Rattle.norm_journal.specs.Places.{Place, Sending, Taking, Between};
 ghost use Rattle.norm_safety.specs.World.{World as Rules};
-ghost use Rattle.norm_session.specs.Causes.{NeedsMemory, HasCause, counted};
+ghost use Rattle.norm_turns.specs.Causes.{NeedsMemory, HasCause, counted};
 ghost use Rattle.norm_send_rules.specs.Ticking.{is_idle};
 ghost use Rattle.norm_send_rules.specs.Watermarks.{open_watermarks};
 ghost use Rattle.norm_session.specs.Context.{Context, judged_of, with_posted};
 ghost use Rattle.norm_session.specs.Left.{lines_at};
 ghost use Rattle.norm_session.specs.SoFar.{HasAll, At};
 ghost use Rattle.norm_session.specs.Stopping.{Stopped};
-ghost use Rattle.norm_session.specs.Turning.{IsNextMoment, BeginsTurn, StopsBeginning, OpensTurn, StopsOpening, TakesTurn, StopsTurn, TakesTurns, StopsTurns, span};
+ghost use Rattle.norm_session.specs.Turning.{BeginsTurn, StopsBeginning, OpensTurn, StopsOpening, TakesTurn, StopsTurn, TakesTurns, StopsTurns, span};
 ghost use Rattle.norm_world.specs.WorldKept.{StandsFor};
 
 use crate::arrivals::Arrivals;
-use crate::fault::SessionFault;
 use crate::run::{Run, sender_node};
-use norm_base::{Clock, Datagram, Fabric, Files, Moment, Profile, Sink};
+use norm_base::{Clock, Datagram, Fabric, Files, Profile, Sink};
 use norm_script::Script;
+use norm_turns::{SessionFault, moment_of};
 use producer_gate::Board;
 use std::sync::Wait;
-
-/// The moment of a turn: its number times the profile's step; where the step is 0 the clock's, which does not fall.
-pub fn moment_of<C: Clock>(turn: u32, step: u32, so_far: Moment, clock: &mut C) -> Moment
-    ensures { IsNextMoment turn step so_far result (C.moments clock.old) (C.moments clock.new) }
-{
-    if step > 0 {
-        return Moment(u64::from(turn) * u64::from(step));
-    }
-    let now = clock.now();
-    // A clock that falls holds the moment. Time that runs backwards would end no back-off and no gap.
-    if now.0 < so_far.0 { so_far } else { now }
-}
 
 /// The profile's last turn.
 fn last_turn(profile: &Profile) -> u32

@@ -1,9 +1,9 @@
 use Rattle.std.proofs.Common.{None, ap, ◌∙◌, refl}
 use Rattle.std.proofs.lemmas.Result.{err_from_is_err_and}
 use Rattle.norm_base.specs.Network.{with_answer, with_offer, answer_of}
-use Rattle.norm_session.specs.Causes.{session_fault}
+use Rattle.norm_turns.specs.Causes.{session_fault}
 use Rattle.norm_node.specs.Hub.{Listening, Passing}
-use Rattle.norm_node.proofs.FaultLemmas.{at_fault}
+use Rattle.norm_turns.proofs.FaultLemmas.{at_fault}
 use Rattle.norm_node.proofs.GoesLemmas.{answer_is}
 use Rattle.norm_node.proofs.HubLemmas.{hears, hears_none, passes, around_stops}
 use Rattle.norm_node.proofs.hub.pass.Goals as goal

@@ -1,7 +1,7 @@
 use Rattle.std.proofs.Common.{◌∙◌, ◌<◌, ap, rules}
 use Rattle.std.proofs.lemmas.Result.{err_from_is_err_and}
-use Rattle.norm_session.specs.Causes.{Counted, counted}
-use Rattle.norm_node.proofs.FaultLemmas.{at_fault}
+use Rattle.norm_turns.specs.Causes.{Counted, counted}
+use Rattle.norm_turns.proofs.FaultLemmas.{at_fault}
 use Rattle.norm_node.proofs.HubLemmas.{listens_more, passed_one}
 use Rattle.norm_node.proofs.hub.pass_all.Goals as goal
 

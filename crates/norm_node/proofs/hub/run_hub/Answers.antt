@@ -1,5 +1,5 @@
 use Rattle.norm_node.specs.Hub.{around}
-use Rattle.norm_node.proofs.FaultLemmas.{if_err, on_ok}
+use Rattle.norm_turns.proofs.FaultLemmas.{on_err, on_ok}
 use Rattle.norm_node.proofs.RunLemmas.{hub_runs, hub_stops_run}
 use Rattle.norm_node.proofs.hub.run_hub.Goals as goal
 
@@ -12,5 +12,5 @@ returns-clause-run g c =
 pub returns-clause-stops : goal.returns-clause-stops
 returns-clause-stops g c =
     let before = around (g.F.Fabric.told c.args.fabric.now) (g.C.Clock.moments c.args.clock.now) in
-    if_err c.turns.result
+    on_err _ _ c.turns.result
     (λ e. hub_stops_run c.args.profile.now e before _ (g.F.Fabric.told c.start.new.self) c.in_ok-start.ensures.ok) c.turns.ensures.stops

@@ -1,7 +1,6 @@
 use Rattle.std.proofs.lemmas.Result.{err_from_is_err_and}
 use Rattle.norm_node.specs.Shown.{outside}
-use Rattle.norm_session.proofs.CauseLemmas.{network_cause}
-use Rattle.norm_node.proofs.FaultLemmas.{if_err, on_ok}
+use Rattle.norm_turns.proofs.FaultLemmas.{network_cause, on_err, on_ok}
 use Rattle.norm_node.proofs.RunLemmas.{receiver_runs, receiver_stops}
 use Rattle.norm_node.proofs.receiving.run_receiver.Goals as goal
 
@@ -15,7 +14,7 @@ returns-clause-run g c =
 pub returns-clause-stops : goal.returns-clause-stops
 returns-clause-stops g c =
     let before = outside (g.F.Fabric.told c.args.fabric.now) (g.K.Sink.pieces c.args.output.now) (g.D.Files.contents c.args.files.now) (g.C.Clock.moments c.args.clock.now) in
-    if_err c.turns.result
+    on_err _ _ c.turns.result
     (λ e. receiver_stops c.args.profile.now c.args.node c.in_ok-run.run' e before _ (g.F.Fabric.told c.start.new.self) c.in_ok-start.ensures.ok
     c.in_ok-run.ensures.begun) c.turns.ensures.stops
 

@@ -1,5 +1,5 @@
 use Rattle.std.proofs.Common.{◌∙◌, ◌≤◌, length, ap, subst, arith}
-use Rattle.norm_session.specs.Causes.{Counted}
+use Rattle.norm_turns.specs.Causes.{Counted}
 use Rattle.norm_session.specs.Reading.{ReadsOn, octets_there}
 use Rattle.norm_session.proofs.ReadingLemmas.{reads_end}
 use Rattle.norm_session.proofs.reading.read_all.Goals as goal

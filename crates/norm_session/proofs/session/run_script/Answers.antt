@@ -3,7 +3,7 @@ use Rattle.std.proofs.lemmas.Result.{err_from_is_err_and}
 use Rattle.norm_session.specs.Session.{RunsKept}
 use Rattle.norm_session.specs.Turning.{span}
 use Rattle.norm_session.proofs.SessionLemmas.{if_made, if_unmade, made_cause}
-use Rattle.norm_session.proofs.SoFarLemmas.{at_fault}
+use Rattle.norm_turns.proofs.FaultLemmas.{at_fault}
 use Rattle.norm_session.proofs.TurnedLemmas.{turned_runs, turned_stops}
 use Rattle.norm_session.proofs.session.run_script.Goals as goal
 

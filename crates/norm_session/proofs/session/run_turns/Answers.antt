@@ -1,8 +1,8 @@
 use Rattle.std.proofs.Common.{refl, inl}
 use Rattle.std.proofs.lemmas.Result.{err_from_is_err_and}
-use Rattle.norm_session.specs.declared.fault.SessionFault.TheVariants as fault
+use Rattle.norm_turns.specs.declared.fault.SessionFault.TheVariants as fault
 use Rattle.norm_session.proofs.SessionLemmas.{script_stops, not_begun}
-use Rattle.norm_session.proofs.SoFarLemmas.{at_fault, on_err}
+use Rattle.norm_turns.proofs.FaultLemmas.{at_fault, on_err}
 use Rattle.norm_session.proofs.StartingLemmas.{why_and}
 use Rattle.norm_session.proofs.TurnedLemmas.{turned_and, turned_cause}
 use Rattle.norm_session.proofs.session.run_turns.Goals as goal

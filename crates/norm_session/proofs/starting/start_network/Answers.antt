@@ -1,7 +1,6 @@
 use Rattle.std.proofs.lemmas.Result.{err_from_is_err_and}
-use Rattle.norm_session.specs.Causes.{session_fault}
-use Rattle.norm_session.proofs.SoFarLemmas.{at_fault}
-use Rattle.norm_session.proofs.CauseLemmas.{network_cause}
+use Rattle.norm_turns.specs.Causes.{session_fault}
+use Rattle.norm_turns.proofs.FaultLemmas.{at_fault, network_cause}
 use Rattle.norm_session.proofs.StartingLemmas.{start_fault}
 use Rattle.norm_session.proofs.starting.start_network.Goals as goal
 

@@ -1,5 +1,5 @@
 use Rattle.std.proofs.Common.{◌+◌, ap, ◌∙◌, rules}
-use Rattle.norm_session.specs.Causes.{Counted}
+use Rattle.norm_turns.specs.Causes.{Counted}
 use Rattle.norm_node.proofs.hub.HubRun.turns.Goals as goal
 
 pub loop-i-preserved : goal.loop-i-preserved

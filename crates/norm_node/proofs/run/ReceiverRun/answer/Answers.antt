@@ -1,6 +1,6 @@
 use Rattle.std.proofs.Common.{◌≡◌, sym, subst, List, ℕ, Result, Ok, Err}
 use Rattle.std.specs.Prelude.{IfErr}
-use Rattle.norm_session.specs.declared.fault.SessionFault.{SessionFault}
+use Rattle.norm_turns.specs.declared.fault.SessionFault.{SessionFault}
 use Rattle.norm_node.specs.Lone.{Handing, Offering}
 use Rattle.norm_node.specs.RunKept.{Begun, At, over}
 use Rattle.norm_node.specs.Shown.{Outside}

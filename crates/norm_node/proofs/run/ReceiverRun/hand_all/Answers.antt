@@ -1,8 +1,8 @@
 use Rattle.std.proofs.Common.{◌∙◌, ap}
 use Rattle.std.proofs.lemmas.Result.{err_from_is_err_and}
-use Rattle.norm_session.specs.Causes.{Counted}
+use Rattle.norm_turns.specs.Causes.{Counted}
 use Rattle.norm_node.specs.Lone.{Handing}
-use Rattle.norm_node.proofs.FaultLemmas.{at_fault}
+use Rattle.norm_turns.proofs.FaultLemmas.{at_fault}
 use Rattle.norm_node.proofs.GoesLemmas.{stops_for_memory}
 use Rattle.norm_node.proofs.run.ReceiverRun.hand_all.Goals as goal
 

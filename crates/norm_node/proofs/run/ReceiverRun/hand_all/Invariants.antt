@@ -1,5 +1,5 @@
 use Rattle.std.proofs.Common.{◌≡◌}
-use Rattle.norm_session.specs.Causes.{counted}
+use Rattle.norm_turns.specs.Causes.{counted}
 use Rattle.norm_node.specs.Lone.{Handing}
 use Rattle.norm_node.specs.RunKept.{Begun, At, IsSameTurn, having}
 use Rattle.norm_node.specs.Shown.{Outside}

@@ -1,9 +1,9 @@
 use Rattle.std.proofs.Common.{◌∙◌, sym, ap, ◌∷◌, []}
 use Rattle.std.proofs.lemmas.Result.{err_from_is_err_and}
 use Rattle.norm_base.specs.Told.{gained}
-use Rattle.norm_session.specs.Causes.{counted}
-use Rattle.norm_session.specs.declared.fault.SessionFault.TheVariants as fault
-use Rattle.norm_node.proofs.FaultLemmas.{at_fault, cause_exit}
+use Rattle.norm_turns.specs.Causes.{counted}
+use Rattle.norm_turns.specs.declared.fault.SessionFault.TheVariants as fault
+use Rattle.norm_turns.proofs.FaultLemmas.{at_fault, cause_exit}
 use Rattle.norm_node.proofs.GoesLemmas.{hands_on, put_stops}
 use Rattle.norm_node.proofs.run.ReceiverRun.hand_up.Goals as goal
 

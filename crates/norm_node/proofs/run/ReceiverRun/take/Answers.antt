@@ -1,11 +1,11 @@
 use Rattle.std.proofs.Common.{None, ap, ◌∙◌, sym, subst}
 use Rattle.std.proofs.lemmas.Result.{err_from_is_err_and}
 use Rattle.norm_base.specs.Network.{with_answer, answer_of}
-use Rattle.norm_session.specs.Causes.{session_fault}
-use Rattle.norm_session.specs.declared.fault.SessionFault.TheVariants as fault
+use Rattle.norm_turns.specs.Causes.{session_fault}
+use Rattle.norm_turns.specs.declared.fault.SessionFault.TheVariants as fault
 use Rattle.norm_node.specs.Lone.{Taking}
 use Rattle.norm_node.specs.Stopping.{Stopped}
-use Rattle.norm_node.proofs.FaultLemmas.{at_fault}
+use Rattle.norm_turns.proofs.FaultLemmas.{at_fault}
 use Rattle.norm_node.proofs.GoesLemmas.{takes, take_lost, finds_none, network_stops, answer_is}
 use Rattle.norm_node.proofs.run.ReceiverRun.take.Goals as goal
 

@@ -1,8 +1,8 @@
 use Rattle.std.proofs.Common.{◌∙◌}
 use Rattle.std.proofs.lemmas.Result.{err_from_is_err_and}
-use Rattle.norm_session.specs.Causes.{counted}
+use Rattle.norm_turns.specs.Causes.{counted}
 use Rattle.norm_node.specs.Shown.{outside}
-use Rattle.norm_node.proofs.FaultLemmas.{at_fault, cause_exit}
+use Rattle.norm_turns.proofs.FaultLemmas.{at_fault, cause_exit}
 use Rattle.norm_node.proofs.run.ReceiverRun.turn.Goals as goal
 
 pub returns-in_err-take_all-clause-stops : goal.returns-in_err-take_all-clause-stops

@@ -1,5 +1,5 @@
 use Rattle.std.proofs.lemmas.Result.{err_from_is_err_and}
-use Rattle.norm_node.proofs.FaultLemmas.{at_fault}
+use Rattle.norm_turns.proofs.FaultLemmas.{at_fault}
 use Rattle.norm_node.proofs.run.ReceiverRun.turns.Goals as goal
 
 pub returns-in_err-turn-clause-stops : goal.returns-in_err-turn-clause-stops

@@ -1,5 +1,5 @@
 use Rattle.std.proofs.Common.{◌≡◌, ◌≤◌}
-use Rattle.norm_session.specs.Causes.{counted}
+use Rattle.norm_turns.specs.Causes.{counted}
 use Rattle.norm_node.specs.Lone.{Between}
 use Rattle.norm_node.specs.RunKept.{Begun, At}
 use Rattle.norm_node.specs.Shown.{outside}

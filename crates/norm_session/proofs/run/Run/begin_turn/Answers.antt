@@ -1,8 +1,8 @@
 use Rattle.std.proofs.Common.{◌≡◌, ◌+◌, ◌∷◌, [], ap, sym, ◌∙◌, rules}
 use Rattle.std.proofs.lemmas.Result.{err_from_is_err_and}
 use Rattle.norm_session.specs.RunKept.{RunKept}
-use Rattle.norm_session.specs.declared.fault.SessionFault.TheVariants as fault
-use Rattle.norm_session.proofs.SoFarLemmas.{at_fault}
+use Rattle.norm_turns.specs.declared.fault.SessionFault.TheVariants as fault
+use Rattle.norm_turns.proofs.FaultLemmas.{at_fault}
 use Rattle.norm_session.proofs.TurningLemmas.{turn_begins, turn_unnoted, no_turn, stepped}
 use Rattle.norm_session.proofs.run.Run.begin_turn.Goals as goal
 

@@ -1,8 +1,7 @@
 use Rattle.std.proofs.Common.{◌∙◌}
 use Rattle.std.proofs.lemmas.Result.{err_from_is_err_and}
 use Rattle.norm_session.specs.Context.{with_posted}
-use Rattle.norm_session.proofs.CauseLemmas.{cause_exit}
-use Rattle.norm_session.proofs.SoFarLemmas.{at_fault}
+use Rattle.norm_turns.proofs.FaultLemmas.{cause_exit, at_fault}
 use Rattle.norm_session.proofs.run.Run.exchange.Goals as goal
 
 pub returns-in_err-take_all-clause-cause : goal.returns-in_err-take_all-clause-cause

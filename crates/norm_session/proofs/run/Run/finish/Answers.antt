@@ -1,7 +1,7 @@
 use Rattle.std.proofs.Common.{sym}
 use Rattle.std.proofs.lemmas.Result.{err_from_is_err_and}
 use Rattle.norm_journal.specs.Places.{Over}
-use Rattle.norm_session.proofs.SoFarLemmas.{at_fault}
+use Rattle.norm_turns.proofs.FaultLemmas.{at_fault}
 use Rattle.norm_session.proofs.run.Run.finish.Goals as goal
 
 pub returns-in_err-summarize-clause-stops : goal.returns-in_err-summarize-clause-stops

@@ -3,8 +3,8 @@ use Rattle.std.proofs.lemmas.Result.{err_from_is_err_and}
 use Rattle.norm_journal.specs.Follows.{IsLength}
 use Rattle.norm_send_rules.specs.declared.job.Job.TheVariants as job
 use Rattle.norm_sender.specs.SenderKept.{Stands}
-use Rattle.norm_session.specs.Causes.{Counted}
-use Rattle.norm_session.proofs.SoFarLemmas.{at_fault}
+use Rattle.norm_turns.specs.Causes.{Counted}
+use Rattle.norm_turns.proofs.FaultLemmas.{at_fault}
 use Rattle.norm_session.proofs.CommandLemmas.{on_ok, on_fault}
 use Rattle.norm_session.proofs.ReadingLemmas.{file_stops, of_turned, accepted_as, file_at_hand, gives_file_at, refuses_file_at, write_after, files_after}
 use Rattle.norm_session.proofs.run.Run.give_file.Goals as goal

@@ -1,8 +1,8 @@
 use Rattle.std.proofs.Common.{◌∙◌, ap}
 use Rattle.std.proofs.lemmas.Result.{err_from_is_err_and}
 use Rattle.norm_journal.specs.Places.{Handing}
-use Rattle.norm_session.specs.Causes.{Counted}
-use Rattle.norm_session.proofs.SoFarLemmas.{at_fault}
+use Rattle.norm_turns.specs.Causes.{Counted}
+use Rattle.norm_turns.proofs.FaultLemmas.{at_fault}
 use Rattle.norm_session.proofs.HandingLemmas.{stops_at}
 use Rattle.norm_session.proofs.run.Run.hand_all.Goals as goal
 

@@ -1,8 +1,8 @@
 use Rattle.std.proofs.Common.{◌∙◌, sym, ap, subst, ◌∷◌, [], Some}
 use Rattle.std.proofs.lemmas.Result.{err_from_is_err_and}
 use Rattle.norm_base.specs.Told.{gained}
-use Rattle.norm_session.specs.Stopping.{IsUnwritten}
-use Rattle.norm_session.proofs.SoFarLemmas.{at_fault}
+use Rattle.norm_turns.specs.Printing.{IsUnwritten}
+use Rattle.norm_turns.proofs.FaultLemmas.{at_fault}
 use Rattle.norm_session.proofs.HandingLemmas.{hands_on, hand_stops}
 use Rattle.norm_session.proofs.run.Run.hand_up.Goals as goal
 

@@ -6,7 +6,7 @@ use Rattle.norm_journal.specs.Pulling.{origin_of}
 use Rattle.norm_journal.specs.declared.event.Event.TheVariants as event
 use Rattle.norm_session.specs.Noting.{IsAtHand, noted}
 use Rattle.norm_session.specs.RunKept.{RunKept}
-use Rattle.norm_session.specs.Stopping.{IsUnwritten}
+use Rattle.norm_turns.specs.Printing.{IsUnwritten}
 use Rattle.norm_session.proofs.CommandLemmas.{notes, notes_stop, job_quiet, on_ok, on_fault}
 use Rattle.norm_session.proofs.run.Run.note_job.Goals as goal
 

@@ -3,7 +3,7 @@ use Rattle.std.specs.Option.{option_map, option_to_list}
 use Rattle.norm_base.specs.Told.{gained}
 use Rattle.norm_journal.specs.Lines.{no_line, reason_of}
 use Rattle.norm_journal.specs.declared.event.Event.TheVariants as event
-use Rattle.norm_session.specs.Stopping.{IsUnwritten}
+use Rattle.norm_turns.specs.Printing.{IsUnwritten}
 use Rattle.norm_session.proofs.CommandLemmas.{notes, notes_stop, on_ok, on_fault}
 use Rattle.norm_session.proofs.ReadingLemmas.{length_quiet}
 use Rattle.norm_session.proofs.run.Run.note_length.Goals as goal

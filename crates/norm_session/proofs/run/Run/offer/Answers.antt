@@ -1,10 +1,10 @@
 use Rattle.std.proofs.Common.{sym, subst}
 use Rattle.std.proofs.lemmas.Result.{err_from_is_err_and}
 use Rattle.norm_base.specs.Network.{Network}
-use Rattle.norm_session.specs.Causes.{session_fault}
+use Rattle.norm_turns.specs.Causes.{session_fault}
 use Rattle.norm_session.specs.Stopping.{Stopped}
-use Rattle.norm_session.specs.declared.fault.SessionFault.TheVariants as fault
-use Rattle.norm_session.proofs.SoFarLemmas.{at_fault}
+use Rattle.norm_turns.specs.declared.fault.SessionFault.TheVariants as fault
+use Rattle.norm_turns.proofs.FaultLemmas.{at_fault}
 use Rattle.norm_session.proofs.SendingLemmas.{offers_on, offer_stops, offer_unnoted}
 use Rattle.norm_session.proofs.run.Run.offer.Goals as goal
 

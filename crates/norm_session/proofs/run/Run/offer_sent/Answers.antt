@@ -1,5 +1,5 @@
 use Rattle.norm_session.proofs.SendingLemmas.{offering_one}
-use Rattle.norm_session.proofs.SoFarLemmas.{on_err}
+use Rattle.norm_turns.proofs.FaultLemmas.{on_err}
 use Rattle.norm_session.proofs.run.Run.offer_sent.Goals as goal
 
 pub returns-in-Datagram-clause-stops : goal.returns-in-Datagram-clause-stops

@@ -3,9 +3,8 @@ use Rattle.std.proofs.lemmas.Result.{err_from_is_err_and}
 use Rattle.norm_journal.specs.Places.{Taking}
 use Rattle.norm_session.specs.Context.{with_posted}
 use Rattle.norm_session.specs.RunKept.{RunKept}
-use Rattle.norm_session.proofs.CauseLemmas.{cause_exit}
+use Rattle.norm_turns.proofs.FaultLemmas.{cause_exit, at_fault}
 use Rattle.norm_session.proofs.SendingLemmas.{sent_by}
-use Rattle.norm_session.proofs.SoFarLemmas.{at_fault}
 use Rattle.norm_session.proofs.run.Run.send.Goals as goal
 
 pub returns-in_err-tell_all-clause-stops : goal.returns-in_err-tell_all-clause-stops

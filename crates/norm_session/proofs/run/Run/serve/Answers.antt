@@ -1,6 +1,6 @@
 use Rattle.std.proofs.lemmas.Result.{err_from_is_err_and}
 use Rattle.norm_journal.specs.Places.{handing}
-use Rattle.norm_session.proofs.SoFarLemmas.{at_fault}
+use Rattle.norm_turns.proofs.FaultLemmas.{at_fault}
 use Rattle.norm_session.proofs.ServingLemmas.{cause_memory, cause_of_last, last_goes, last_stops, sent_none, sent_one}
 use Rattle.norm_session.proofs.run.Run.serve.Goals as goal
 

@@ -1,9 +1,9 @@
 use Rattle.std.proofs.Common.{◌≡◌, ◌∙◌, ◌+◌, ◌<◌, ◌≤◌, sym, ap, drop, rules}
 use Rattle.std.proofs.lemmas.Result.{err_from_is_err_and}
 use Rattle.norm_journal.specs.Places.{handing}
-use Rattle.norm_session.specs.Causes.{Counted}
+use Rattle.norm_turns.specs.Causes.{Counted}
 use Rattle.norm_session.specs.RunKept.{RunKept}
-use Rattle.norm_session.proofs.SoFarLemmas.{at_fault}
+use Rattle.norm_turns.proofs.FaultLemmas.{at_fault}
 use Rattle.norm_session.proofs.ServingLemmas.{none_served, next_served, all_served}
 use Rattle.norm_session.proofs.run.Run.serve_all.Goals as goal
 

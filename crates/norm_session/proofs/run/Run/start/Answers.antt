@@ -1,7 +1,7 @@
 use Rattle.std.proofs.Common.{refl, inl}
 use Rattle.std.proofs.lemmas.Result.{err_from_is_err_and}
-use Rattle.norm_session.specs.declared.fault.SessionFault.TheVariants as fault
-use Rattle.norm_session.proofs.SoFarLemmas.{at_fault}
+use Rattle.norm_turns.specs.declared.fault.SessionFault.TheVariants as fault
+use Rattle.norm_turns.proofs.FaultLemmas.{at_fault}
 use Rattle.norm_session.proofs.StartingLemmas.{ok_and, run_and, err_and, why_and, cause_and}
 use Rattle.norm_session.proofs.run.Run.start.Goals as goal
 

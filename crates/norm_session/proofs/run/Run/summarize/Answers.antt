@@ -1,4 +1,4 @@
-use Rattle.norm_session.proofs.SoFarLemmas.{on_ok, on_err}
+use Rattle.norm_turns.proofs.FaultLemmas.{on_ok, on_err}
 use Rattle.norm_session.proofs.EndingLemmas.{ends, end_stops}
 use Rattle.norm_session.proofs.run.Run.summarize.Goals as goal
 

@@ -1,9 +1,9 @@
 use Rattle.std.proofs.Common.{◌∙◌, ◌<◌, ap, rules}
 use Rattle.std.proofs.lemmas.Result.{err_from_is_err_and}
-use Rattle.norm_session.specs.Causes.{Counted, counted}
+use Rattle.norm_turns.specs.Causes.{Counted, counted}
 use Rattle.norm_session.specs.Context.{with_posted}
 use Rattle.norm_session.specs.SoFar.{takes_next}
-use Rattle.norm_session.proofs.SoFarLemmas.{at_fault}
+use Rattle.norm_turns.proofs.FaultLemmas.{at_fault}
 use Rattle.norm_session.proofs.ServingLemmas.{takes_more, took_one, cause_fault}
 use Rattle.norm_session.proofs.run.Run.take_all.Goals as goal
 

@@ -6,11 +6,11 @@ use Rattle.norm_journal.specs.Lines.{news_line}
 use Rattle.norm_sender.specs.SenderKept.{SenderKept, Stands}
 use Rattle.norm_session.specs.Context.{with_posted}
 use Rattle.norm_session.specs.RunKept.{RunKept}
-use Rattle.norm_session.specs.Stopping.{IsUnwritten}
+use Rattle.norm_turns.specs.Printing.{IsUnwritten}
 use Rattle.norm_session.specs.Telling.{IsTellingOf}
-use Rattle.norm_session.specs.declared.fault.SessionFault.{SessionFault}
-use Rattle.norm_session.specs.declared.fault.SessionFault.TheVariants as fault
-use Rattle.norm_session.proofs.SoFarLemmas.{at_fault}
+use Rattle.norm_turns.specs.declared.fault.SessionFault.{SessionFault}
+use Rattle.norm_turns.specs.declared.fault.SessionFault.TheVariants as fault
+use Rattle.norm_turns.proofs.FaultLemmas.{at_fault}
 use Rattle.norm_session.proofs.TellingLemmas.{SaysLeft, tells, tell_stops}
 use Rattle.norm_session.proofs.run.Run.tell.Goals as goal
 

@@ -1,9 +1,9 @@
 use Rattle.std.proofs.Common.{◌∙◌, ap, subst, ◌-◌, ◌≤◌, rules}
 use Rattle.std.proofs.lemmas.Result.{err_from_is_err_and}
-use Rattle.norm_session.specs.Causes.{Counted, counted}
+use Rattle.norm_turns.specs.Causes.{Counted, counted}
 use Rattle.norm_session.specs.Context.{with_posted}
 use Rattle.norm_session.specs.Telling.{HasTold}
-use Rattle.norm_session.proofs.SoFarLemmas.{at_fault}
+use Rattle.norm_turns.proofs.FaultLemmas.{at_fault}
 use Rattle.norm_session.proofs.TellingLemmas.{tells_on, told_all}
 use Rattle.norm_session.proofs.run.Run.tell_all.Goals as goal
 

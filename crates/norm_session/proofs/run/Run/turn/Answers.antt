@@ -1,8 +1,7 @@
 use Rattle.std.proofs.Common.{◌∷◌, [], ◌∙◌}
 use Rattle.std.proofs.lemmas.Result.{err_from_is_err_and}
 use Rattle.norm_session.specs.Context.{with_moments}
-use Rattle.norm_session.proofs.CauseLemmas.{cause_exit}
-use Rattle.norm_session.proofs.SoFarLemmas.{at_fault}
+use Rattle.norm_turns.proofs.FaultLemmas.{cause_exit, at_fault}
 use Rattle.norm_session.proofs.run.Run.turn.Goals as goal
 
 pub returns-in_err-open_turn-clause-stops : goal.returns-in_err-open_turn-clause-stops

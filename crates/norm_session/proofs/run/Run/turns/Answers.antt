@@ -2,7 +2,7 @@ use Rattle.std.proofs.Common.{◌≡◌, ◌≤◌, refl, ap, ◌∙◌, subst, 
 use Rattle.std.proofs.lemmas.Result.{err_from_is_err_and}
 use Rattle.norm_script.specs.Commands.{Commands}
 use Rattle.norm_session.specs.Turning.{span, TakesTurn, StopsTurn}
-use Rattle.norm_session.proofs.SoFarLemmas.{at_fault}
+use Rattle.norm_turns.proofs.FaultLemmas.{at_fault}
 use Rattle.norm_session.proofs.TurnsLemmas.{has_not_turned, has_turned_on, turns_stop, turns_done, turns_spent}
 use Rattle.norm_session.proofs.run.Run.turns.Goals as goal
 

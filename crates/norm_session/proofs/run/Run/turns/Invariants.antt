@@ -1,5 +1,5 @@
 use Rattle.std.proofs.Common.{◌≡◌, ◌≤◌}
-use Rattle.norm_session.specs.Causes.{counted}
+use Rattle.norm_turns.specs.Causes.{counted}
 use Rattle.norm_session.specs.Turning.{span}
 use Rattle.norm_session.proofs.TurnsLemmas.{HasTurned}
 use Rattle.norm_session.proofs.run.Run.turns.Given as goal

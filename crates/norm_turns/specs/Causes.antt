@@ -3,8 +3,8 @@ use Rattle.std.specs.Prelude.{◌≡◌, ℕ, Result, Ok, Err}
 use Rattle.norm_base.specs.Faults.{one_more}
 use Rattle.norm_base.specs.declared.fault.FabricFault.{FabricFault}
 use Rattle.norm_base.specs.declared.fault.FabricFault.TheVariants as network
-use Rattle.norm_session.specs.declared.fault.SessionFault.{SessionFault}
-use Rattle.norm_session.specs.declared.fault.SessionFault.TheVariants.{Write, Fabric, Files, Absent, Memory}
+use Rattle.norm_turns.specs.declared.fault.SessionFault.{SessionFault}
+use Rattle.norm_turns.specs.declared.fault.SessionFault.TheVariants.{Write, Fabric, Files, Absent, Memory}
 
 -- a call of the network failed, or wanted memory
 abbrev pub session_fault : FabricFault → SessionFault

@@ -1,8 +1,8 @@
 use Rattle.std.proofs.Common.{◌≡◌, ◌∷◌, [], List, ℕ, Some, subst}
 use Rattle.std.specs.Prelude.{OnOk, IfErr}
 use Rattle.norm_base.specs.Told.{gained}
-use Rattle.norm_session.specs.Stopping.{IsUnwritten}
-use Rattle.norm_session.proofs.printing.write_up.Goals as goal
+use Rattle.norm_turns.specs.Printing.{IsUnwritten}
+use Rattle.norm_turns.proofs.printing.write_up.Goals as goal
 
 pub returns-clause-written : goal.returns-clause-written
 returns-clause-written g c =

@@ -4,8 +4,8 @@ ghost use Rattle.std.specs.Prelude.{◌≡◌, ◌∷◌, [], Some, OnOk, IfErr}
 ghost use Rattle.std.specs.Option.{option_to_list};
 ghost use Rattle.norm_base.specs.Told.{gained};
 ghost use Rattle.norm_journal.specs.Lines.{line_if, up_line, end_line};
-ghost use Rattle.norm_session.specs.Causes.{WriteCause};
-ghost use Rattle.norm_session.specs.Stopping.{IsUnwritten};
+ghost use Rattle.norm_turns.specs.Causes.{WriteCause};
+ghost use Rattle.norm_turns.specs.Printing.{IsUnwritten};
 
 use crate::fault::SessionFault;
 use norm_base::{InstanceId, NodeId, Sink};
@@ -18,11 +18,7 @@ use norm_text::Line;
 /// # Errors
 ///
 /// `Write` where the write failed.
-pub(crate) fn write_line<K: Sink>(
-    has: bool,
-    line: &Line,
-    output: &mut K,
-) -> Result<(), SessionFault>
+pub fn write_line<K: Sink>(has: bool, line: &Line, output: &mut K) -> Result<(), SessionFault>
     ensures written { OnOk result (K.pieces output.new ≡ gained (K.pieces output.old) (option_to_list (line_if has line.now))) }
     ensures stops { IfErr result (λ fault. IsUnwritten fault (K.pieces output.old) (K.pieces output.new) (line_if has line.now)) }
     ensures why { IfErr result (λ fault. fault ≡ SessionFault.Write) }

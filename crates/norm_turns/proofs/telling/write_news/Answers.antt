@@ -2,10 +2,10 @@ use Rattle.std.proofs.Common.{◌≡◌, ◌∙◌, ap, subst}
 use Rattle.std.specs.Option.{option_to_list}
 use Rattle.norm_base.specs.Told.{gained}
 use Rattle.norm_journal.specs.Lines.{news_line}
-use Rattle.norm_session.specs.Stopping.{IsUnwritten}
-use Rattle.norm_session.specs.Telling.{left_by}
-use Rattle.norm_session.proofs.SoFarLemmas.{on_ok, on_err}
-use Rattle.norm_session.proofs.telling.write_news.Goals as goal
+use Rattle.norm_turns.specs.Printing.{IsUnwritten}
+use Rattle.norm_turns.specs.Telling.{left_by}
+use Rattle.norm_turns.proofs.FaultLemmas.{on_ok, on_err}
+use Rattle.norm_turns.proofs.telling.write_news.Goals as goal
 
 pub returns-clause-written : goal.returns-clause-written
 returns-clause-written g c =

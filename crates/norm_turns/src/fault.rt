@@ -1,8 +1,8 @@
 //! Why a run stops before it is done.
 
 ghost use Rattle.std.specs.Prelude.{◌≡◌};
-ghost use Rattle.norm_session.specs.Causes.{session_fault};
-ghost use Rattle.norm_session.specs.declared.fault.SessionFault.TheVariants as fault;
+ghost use Rattle.norm_turns.specs.Causes.{session_fault};
+ghost use Rattle.norm_turns.specs.declared.fault.SessionFault.TheVariants as fault;
 
 use norm_base::{FabricFault, Failed, Memory, Text};
 use std::alloc::{AllocError, AllocFailed};

@@ -1,7 +1,7 @@
 use Rattle.std.proofs.Common.{◌≤◌, sym, subst, ◌∙◌, rules}
 use Rattle.mark_book.specs.BookState.{BookState, Stands as BookStands}
-use Rattle.norm_session.proofs.TellingLemmas.{left_more, left_ends, left_all}
-use Rattle.norm_session.proofs.telling.left_past.Goals as goal
+use Rattle.norm_turns.proofs.TellingLemmas.{left_more, left_ends, left_all}
+use Rattle.norm_turns.proofs.telling.left_past.Goals as goal
 
 pub returns-in_default : goal.returns-in_default
 returns-in_default c s stands =

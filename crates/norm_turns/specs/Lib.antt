@@ -1,0 +1,4 @@
+pub mod Causes
+pub mod Moments
+pub mod Printing
+pub mod Telling

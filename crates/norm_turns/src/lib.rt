@@ -1,0 +1,17 @@
+//! What the runs of a session and of one node have in common (RFC 5740 section 5): why they stop, their draws, the moments of
+//! their turns, and the lines that they print.
+#![tactic(auto)]
+
+mod draws;
+mod fault;
+mod limits;
+mod moments;
+mod printing;
+mod telling;
+
+pub use crate::draws::{first_draws, next_draw};
+pub use crate::fault::SessionFault;
+pub use crate::limits::MOST_TAKES;
+pub use crate::moments::moment_of;
+pub use crate::printing::{write_end, write_line, write_up};
+pub use crate::telling::{left_by, write_news};

@@ -1,0 +1,17 @@
+//! The moments of turns.
+
+ghost use Rattle.norm_turns.specs.Moments.{IsNextMoment};
+
+use norm_base::{Clock, Moment};
+
+/// The moment of a turn: its number times the profile's step; where the step is 0 the clock's, which does not fall.
+pub fn moment_of<C: Clock>(turn: u32, step: u32, so_far: Moment, clock: &mut C) -> Moment
+    ensures { IsNextMoment turn step so_far result (C.moments clock.old) (C.moments clock.new) }
+{
+    if step > 0 {
+        return Moment(u64::from(turn) * u64::from(step));
+    }
+    let now = clock.now();
+    // A clock that falls holds the moment. Time that runs backwards would end no back-off and no gap.
+    if now.0 < so_far.0 { so_far } else { now }
+}
