@@ -50,6 +50,7 @@ pub enum PlanFault {
 
 /// How an object of `l` octets, or a stream, is cut into symbols of `e` octets and blocks of at most `b`
 /// source symbols, with `max_n` encoding symbols for a block of `b`.
+// Only a sound cut is ever made. With a length or a `b` of 0 every count of blocks would divide by 0.
 #[derive(Clone, Copy, Debug, PartialEq, Eq)]
 pub struct Plan {
     l: Option<u64>,

@@ -24,6 +24,7 @@ impl Model for Point {
 
 /// A symbol's place: the object's index from 0, the block, below 16,777,216 as messages name it, and the symbol. Ordered by
 /// these, in this order.
+// The block fits 24 bits, so that each position can be named in a message.
 #[derive(Clone, Copy, Debug, PartialEq, Eq, PartialOrd, Ord)]
 pub struct Position {
     pub index: u32,

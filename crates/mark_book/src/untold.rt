@@ -21,7 +21,7 @@ pub fn put_node(nodes: &mut Vec<NodeId>, node: NodeId)
             return;
         }
     }
-    // As above.
+    // It does not fail, as above.
     nodes.push(node).unwrap();
 }
 

@@ -23,6 +23,8 @@ use symbol_mask::Mask;
 /// The slots of an object, of which so many source symbols are closed, that the open round asks for. A run of whole blocks is kept as its end alone, at the block with which
 /// it begins, and filled as the round closes; all other slots are kept in a set. The first `whole` blocks are whole. Where `complete` is set,
 /// all closed source symbols are among them.
+// All blocks of a run are whole, so a run needs no look at what is closed. A run over a block that is not would ask for symbols that do not exist
+// yet.
 #[derive(Debug, Drop)]
 pub struct Coverage {
     plan: Plan,
@@ -169,8 +171,7 @@ impl Coverage {
     }
 
     /// Puts the source symbols of the blocks from one up to another, which are whole, into them, as a run.
-    // One number for a run of any length. A NACK that asks for a whole object would else set a bit for each of its symbols, and a thousand such
-    // requests would do so each time.
+    // One number for a run of any length. Otherwise a request for a whole object would set a bit for each of its symbols.
     fn insert_blocks(&mut self, first: usize, behind: usize)
         requires some { first < behind }
         requires within { behind ≤ self.old.room }

@@ -28,6 +28,8 @@ use symbol_mask::Mask;
 /// An object of the window: how many of its source symbols are closed, the first block that is kept, which of its slots are wanted, and how
 /// many, and which were sent. Of the open round the slots that it asks for, of each block the greatest count, and whether it asks for
 /// anything. All sets, the counts and what is asked for are numbered from the first kept block on.
+// An object in no round has no slots and counts (`is_asked`), and every set has a slot for each block that has room. Otherwise a closing would
+// pass an object over that asks for something, or a slot would lie past its set.
 #[derive(Debug, Drop)]
 pub struct Marks {
     plan: Plan,
@@ -415,7 +417,7 @@ impl Marks {
         ensures more { MoreOf (named_part named.now.flags (span named.now.first named.now.last)) index self.old self.new }
         ensures planned { IsPlanned self.old → IsPlanned self.new }
     {
-        // A NACK may name one object hundreds of times. Each time after the first then costs a test, and not a pass over the object.
+        // A NACK may name one object over a hundred times. Each time after the first then costs a test, and not a pass over the object.
         if self.is_settled(named.flags) {
             return;
         }

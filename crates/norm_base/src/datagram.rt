@@ -8,7 +8,7 @@ use std::alloc::Global;
 use std::marker::Model;
 
 /// The most octets of a datagram.
-// Our own choice: what an Ethernet frame carries. A longer datagram that comes is passed over, and none is written.
+// Our own choice: more than the 1,440 octets of the longest DATA. A longer datagram that comes is passed over, and none is written.
 pub const DATAGRAM_ROOM: usize = 1500;
 
 /// The most octets of a symbol as it is coded: a symbol of 1,400, and the eight octets of a segment's place before it.

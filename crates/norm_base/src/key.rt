@@ -137,7 +137,7 @@ impl Key {
         ensures few { length result.words.now ≤ 3 }
     {
         match self {
-            // RFC 5740 section 4.1 and 4.2.1: instances and object transport ids have 16 bits.
+            // RFC 5740 sections 4.1 and 4.2.1: instances and object transport ids have 16 bits.
             Key::Instance => numbers("instance", 0, 65_535, 1),
             Key::First => numbers("first", 0, 65_535, 0),
             // RFC 5740 section 4.1: 0 and 2^32 - 1 name no member. Below them is room for 16 receivers behind the sender.

@@ -6,6 +6,7 @@ ghost use Rattle.norm_base.specs.Member.{IsMember};
 use std::marker::Model;
 
 /// A node's id. 0 and 4294967295 (NORM_NODE_NONE and NORM_NODE_ANY) name no member.
+// Never one of the two numbers that name no member: as a source of a datagram they would make it unreadable.
 #[derive(Clone, Copy, Debug, PartialEq, Eq, PartialOrd, Ord, Hash)]
 pub struct NodeId(u32);
 

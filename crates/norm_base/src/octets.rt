@@ -8,8 +8,7 @@ ghost use Rattle.std.specs.Cmp.Rules.{comparing};
 use std::marker::Model;
 
 /// A vector of octets.
-// A type of its own, because clauses see it as a list: what a refusal gives back is then one equation. A bare vector would need its elements and
-// its bounds said each time.
+// A type of its own, because clauses see it as a list: what a refusal gives back is then one equation.
 #[derive(Clone, Debug, Drop)]
 pub struct Octets(Vec<u8>);
 

@@ -13,6 +13,7 @@ use std::marker::Model;
 
 /// A session's profile: one field for each key of a script, within that key's range. Besides, `max_n`
 /// is at least `b`, and `blocks * b * e` is at most 16,777,216.
+// Every value is in its key's range. The ranges are what rules out overflow and want of room all over the code.
 #[derive(Clone, Copy, Debug, PartialEq, Eq)]
 pub struct Profile {
     /// The sender's first instance id.

@@ -11,6 +11,7 @@ use norm_ext::{read_16, read_32};
 use std::marker::Model;
 
 /// The node ids of a list that are left, in their order.
+// Whole numbers: the walk takes four octets at a time, and a rest would not have them.
 #[derive(Debug, Drop)]
 pub struct Nodes<'a> {
     list: &'a [u8],
@@ -82,6 +83,7 @@ impl<'a> Iterator for Nodes<'a> {
 }
 
 /// The object transport ids of a list that are left, in their order.
+// Whole numbers, as for `Nodes`.
 #[derive(Debug, Drop)]
 pub struct Objects<'a> {
     list: &'a [u8],

@@ -15,6 +15,7 @@ const FIRST_SHORT_TYPE: u8 = 128;
 const LENGTH_AT: usize = 1;
 
 /// The extensions of a list that are left, in their order.
+// The list was checked. So the walk trusts each length, and need not answer a refusal.
 #[derive(Debug, Drop)]
 pub struct Extensions<'a> {
     words: &'a [u8],

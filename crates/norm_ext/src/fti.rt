@@ -30,6 +30,7 @@ const MAX_N_AT: usize = 9;
 
 /// An object's length in octets, below 2^48, its symbol length in octets, its block length in symbols, and the
 /// most encoding symbols of a block.
+// The length is below 2^48, as many bits as it is written with. A longer one would be read as another.
 #[derive(Clone, Copy, Debug, PartialEq, Eq)]
 pub struct Fti {
     pub l: u64,

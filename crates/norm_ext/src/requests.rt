@@ -120,6 +120,7 @@ pub fn check_requests(list: &[u8], at: usize) -> Result<(), Refusal>
 }
 
 /// The requests of a list that are left, in their order.
+// The list was checked. So the walk trusts each length, and need not answer a refusal.
 #[derive(Debug, Drop)]
 pub struct Requests<'a> {
     list: &'a [u8],

@@ -29,6 +29,7 @@ const ITEM: u16 = places::ITEM as u16;
 
 /// A writer of requests behind what a datagram has. `new`, then `push_item` for each item or range, on one datagram that
 /// nobody else changes meanwhile. An item joins the last request where it has the form and the flags of that.
+// `used` is never above `limit`: their difference says whether one more fits.
 #[derive(Debug, Drop)]
 pub struct RequestWriter {
     limit: u16,

@@ -10,7 +10,7 @@ use norm_ext::places::{FEEDBACK, ITEM};
 use norm_ext::{Item, Requests, requests_of as requests_in};
 
 /// The type of an acknowledgement that answers a FLUSH (RFC 5740 section 4.3.2).
-// A type of its own for the content: an acknowledgement of any other type is lent as it is, and not read.
+// NORM_ACK_FLUSH. An acknowledgement of any other type is lent as it is, and not read.
 pub const FLUSH_ACK: u8 = 2;
 
 /// A negative acknowledgement: a receiver asks for repair. Its parts are lent from the datagram.

@@ -67,6 +67,7 @@ fn is_within(profile: &Profile, local: &Local) -> bool
 
 /// The network that the profile of its last start names, and before one a direct network. A node of its own and the hub begin over sockets alone. Over
 /// sockets it tells nothing, and a call may fail.
+// The kind is that of the last start that was Ok: calls go to the network that began.
 #[derive(Drop)]
 pub struct HostFabric<R> {
     starts: Vec<(Profile, Local)>,

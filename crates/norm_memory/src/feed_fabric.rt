@@ -13,6 +13,7 @@ use std::marker::Model;
 /// A network in memory that gives the datagrams of a list, one for each take, and then nothing. It keeps
 /// what is offered and gives it to nobody, so it is not honest. A start leaves the list where it is. It has
 /// no faults.
+// Each datagram of the list has at most 1,500 octets. A longer one would find no room in what is lent to `take`.
 #[derive(Debug, Drop)]
 pub struct FeedFabric {
     starts: Vec<(Profile, Local)>,

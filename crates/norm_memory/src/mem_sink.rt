@@ -13,6 +13,7 @@ use std::marker::Model;
 
 /// Octets in memory, where the calls with the listed numbers fail and leave all as it was. So does a
 /// call that finds no memory.
+// The ends rise and none is past the octets, so that the pieces in a row are all that was written.
 #[derive(Debug, Drop)]
 pub struct MemSink {
     octets: Vec<u8>,

@@ -42,7 +42,7 @@ pub fn copy_of_octets(octets: &Octets) -> Result<Octets, Memory>
 }
 
 /// The same hand-up, in memory of its own.
-// By hand, since the clause says that the copy is the same hand-up. A derived copy would have no such contract.
+// By hand: a copy takes memory and so may fail, and the clause says that it is the same hand-up.
 pub fn copy_of_up(up: &Up) -> Result<Up, Memory>
     ensures { IfOk result (λ copy. copy ≡ up.now) }
 {

@@ -22,6 +22,7 @@ use std::marker::Model;
 /// may begin, and after each takes what was handed up by [`take_up`](Receiver::take_up) until that is `None`. Datagrams
 /// may come in any order, and may hold any octets. At each moment it is asked for the datagram to send
 /// ([`tick`](Receiver::tick)), by which it acknowledges and asks for repair.
+// It stands for some state of the rules at each moment. Otherwise the clauses of its calls would promise nothing.
 #[derive(Debug, Drop)]
 pub struct Receiver {
     parts: Parts,

@@ -95,7 +95,7 @@ fn lets_put(word: Fit) -> bool
 {
     match word {
         Fit::Known | Fit::Taken => true,
-        // What comes with a plan that is not that of the object, or has no room, cannot be a symbol of it.
+        // Without a plan that fits there is nothing to put it into.
         Fit::Away | Fit::Unfit => false,
     }
 }
@@ -246,7 +246,6 @@ impl Parts {
             → Stands (kept_of self.new) (flush_at (position index id.block id.symbol) (nodes_of nodes.now) (record s { knows = learns index s.knows })) }
     {
         let at = FlushPlace { index, id };
-        // Before the numbers change: what was handed up is asked as it is when the flush comes.
         let acknowledged = self.acknowledges(at.position(), nodes);
         let known = self.numbers.learning(index);
         self.numbers = known.flushed(at, acknowledged);

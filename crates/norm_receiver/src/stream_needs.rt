@@ -136,7 +136,6 @@ fn open_block(hold: &Hold, index: u32, plan: &Plan, seen: u32) -> u32
     requires block { IsBlock seen }
     ensures { (s : Holding) → HoldStands hold.now s → IfSome (plan_of s index) (λ found. seen ≡ found.seen → result ≡ open_block s found) }
 {
-    // The block that was seen last is itself open: what came of it may be its beginning alone.
     if is_done(hold, index, plan, seen) {
         return seen + 1;
     }

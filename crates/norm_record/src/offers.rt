@@ -11,6 +11,7 @@ use std::collections::HashMap;
 use std::marker::Model;
 
 /// Offered datagrams, seen as the list of them. Of each name the last place is known.
+// For each name the map has the last place. With an older one a take of a repeated sequence number would be kept twice.
 #[derive(Drop)]
 pub(crate) struct Offers {
     row: Row,

@@ -12,7 +12,7 @@ use itoa::Buffer;
 use norm_base::{Failed, Sink};
 
 /// The lines that set keys.
-// As many as `setting_row` has arms. One more would be taken for a command.
+// As many as `setting_row` has arms.
 const SETTINGS: u32 = 11;
 
 /// All lines: those, and a hundred commands of each of three producers.

@@ -62,7 +62,7 @@ impl Parts {
                 Some((info, bytes)) => {
                     Err((Some(Job::Data { info, bytes }), SendFault::Enqueue(fault)))
                 }
-                // The one fault with which the octets do not come back: what was made of them is gone.
+                // Want of memory: the one fault with which the octets do not come back.
                 None => Err((None, SendFault::Memory)),
             },
         }

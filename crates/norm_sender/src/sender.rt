@@ -58,6 +58,8 @@ use tx_window::Window;
 /// - [`idle`](Sender::idle) takes constant time: how many objects have wants, and whether a squelch is due or a round open, are kept, and two entries
 ///   of the window at most tell whether something is new. [`open_requests`](Sender::open_requests), [`flushes`](Sender::flushes) and
 ///   [`instance`](Sender::instance) are kept, and are looked for nowhere.
+// It stands for some state of the rules at each moment, or for one in which a file is being taken in. Otherwise the clauses of its calls would
+// promise nothing.
 #[derive(Debug, Drop)]
 pub struct Sender {
     parts: Parts,

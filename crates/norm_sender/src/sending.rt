@@ -156,7 +156,7 @@ impl Parts {
         let Some(plan) = self.window.plan(at.index) else {
             return flags::REPAIR;
         };
-        // Parity is asked for by a count and not by name (RFC 5740 section 4.2.1 on EXPLICIT).
+        // Our own choice: parity answers a count and not a name, so it has REPAIR alone.
         if at.symbol < plan.source_len(at.block) {
             return EXPLICIT_REPAIR;
         }

@@ -90,6 +90,7 @@ fn either(a: bool, b: bool) -> bool
 }
 
 /// What came of the next line, its number, and whether a datagram was refused before it.
+// `rest` has no line feed: a line that ended is shown at once, and what is kept is the beginning of one line.
 #[derive(Debug, Drop)]
 struct Reader {
     rest: Vec<u8>,

@@ -18,6 +18,7 @@ use std::alloc::Global;
 use std::marker::Model;
 
 /// A data object or a file with its info, whole in memory, and the codes of its blocks.
+// The octets are padded with zeros to whole symbols, as the code sees them. With anything else there parity would not be that of the object.
 #[derive(Debug, Drop)]
 pub struct ObjectBuf {
     plan: Plan,

@@ -14,6 +14,7 @@ use std::marker::Model;
 use std::sync::Arc;
 
 /// The codes of the blocks of one plan: blocks have one length or two, and the first block has the greater one.
+// Each code is that of its length, so a symbol is made without a look at its numbers.
 #[derive(Debug, Drop)]
 pub struct Codes {
     plan: Plan,

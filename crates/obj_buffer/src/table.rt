@@ -10,6 +10,7 @@ use std::marker::Model;
 use std::sync::Arc;
 
 /// A code that was made, of how many source and encoded symbols.
+// `k` and `n` are those of the code. They stand beside it because a search reads them, and not the code.
 #[derive(Debug, Drop)]
 struct Kept {
     k: u8,

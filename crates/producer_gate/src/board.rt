@@ -15,6 +15,8 @@ use std::marker::Model;
 use std::sync::Arc;
 
 /// The board. One thread owns it and publishes.
+// `count` is the number of entries that were published, and the next one is written there. A smaller one would write over an entry that readers
+// saw.
 #[derive(Drop)]
 pub struct Board {
     words: Arc<Words, Global>,

@@ -56,6 +56,7 @@ impl Model for Seat {
 }
 
 /// What commands are pulled with. One thread owns it, and it knows what it pulled.
+// The names are those of what was pulled, in that order: the pass knows it in proofs alone, and `close` has to answer it.
 #[derive(Drop)]
 pub struct PullSeat {
     pass: Own,

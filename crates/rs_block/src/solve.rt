@@ -21,7 +21,7 @@ use std::alloc::{AllocError, Global};
 use std::marker::Model;
 
 /// Room to solve blocks of at most k source symbols: all memory that solving takes is made once.
-// All room is made by `new`, because a receiver has no answer for want of memory at the moment at which a block becomes complete.
+// All room is made by `new`, so that solving cannot fail: by then the symbol that completes the block is kept.
 #[derive(Debug, Drop)]
 pub struct Solver {
     k: u8,

@@ -13,6 +13,7 @@ use std::alloc::Global;
 use std::marker::Model;
 
 /// Room to solve blocks of k source symbols of so many octets. It stands once for all streams of a profile.
+// The rooms have k ids and k symbols exactly, so that solving checks no length.
 #[derive(Debug, Drop)]
 pub struct Scratch {
     solver: Solver,

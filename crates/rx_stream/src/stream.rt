@@ -40,6 +40,7 @@ use std::mem;
 
 /// What is held of a stream. Symbols are offered in any order, of any block from the next segment's on, and segments are
 /// handed up in order.
+// There is a spare row for each segment that is left of the first block. With one less a hand-up would need memory.
 #[derive(Debug, Drop)]
 pub struct Stream {
     alloc: Global,

@@ -30,6 +30,7 @@ use std::marker::Model;
 /// [`write`](StreamBuf::write) and [`cut`](StreamBuf::cut) come in any order, and [`close`](StreamBuf::close) once behind
 /// them. A segment's symbol is there once it is closed: it is full, or was cut, or is the end. All memory is taken by
 /// [`new`](StreamBuf::new).
+// The open segment has a row too, so a cut never needs room that a write did not ask for.
 #[derive(Debug, Drop)]
 pub struct StreamBuf {
     code: Code,

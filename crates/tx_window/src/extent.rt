@@ -13,8 +13,8 @@ use std::collections::VecDeque;
 use tx_object::plan_of;
 
 /// The extents of so many entries are kept, the last ones: an id names no entry before them.
-// Our own choice: 16 bits of an id name one of the 32,769 indices up to the last one, and nothing before them. What is forgotten can be named by
-// no acknowledgement.
+// By ids of 16 bits: they name one of the 32,769 indices up to the last one, and nothing before them. What is forgotten can be named by no
+// acknowledgement.
 const MOST_KEPT: usize = 32_769;
 
 /// How many octets an object has, or how many segments of a stream are closed.

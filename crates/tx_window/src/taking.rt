@@ -200,7 +200,7 @@ impl Window {
         ensures stands { WindowMoves self.old self.new (λ s. s) }
     {
         if let Some(begun) = self.begun.take() {
-            // The octets of the ring that it took are the last ones, so they are free again by moving the mark back.
+            // The octets of the ring that it took are the last ones, so setting `free` back gives them up.
             self.free = begun.start();
             self.octets -= begun.len();
         }
