@@ -20,10 +20,10 @@ EDITS = {
     'norm_fbmsg/acknowledgement_of_another_instance_is_credited': 'norm_send_rules/Hearing',
     'obj_buffer/code_is_of_the_other_length': 'norm_order/Symbols', 'obj_buffer/last_symbol_is_sent_padded': 'norm_order/Symbols',
     'rs_block/first_source_is_not_written': 'rs_block/Codeword', 'rs_block/parity_is_shifted': 'rs_block/Codeword', 'rs_block/weight_is_not_inverted': 'rs_block/Codeword',
-    'rx_entries/an_object_is_handed_up_again_when_its_fti_comes_anew': 'norm_receive_rules/HandingUp',
-    'rx_hold/a_block_waits_for_all_sources': 'norm_receive_rules/BlockValue',
     'rx_hold/a_flush_is_acknowledged_though_an_object_was_never_seen': 'norm_receive_rules/Acknowledging',
-    'rx_hold/the_last_symbol_is_handed_up_with_its_padding': 'norm_receive_rules/HandingUp',
+    'rx_hold/an_object_is_handed_up_again_when_its_fti_comes_anew': 'norm_receive_rules/HandingUp',
+    'rx_object/a_block_waits_for_all_sources': 'norm_receive_rules/BlockValue',
+    'rx_object/the_last_symbol_is_handed_up_with_its_padding': 'norm_receive_rules/HandingUp',
     'rx_stream/a_block_waits_for_all_sources': 'norm_receive_rules/BlockValue',
     'rx_stream/a_segment_is_handed_up_with_its_padding': 'norm_receive_rules/HandingUp',
     'stream_buffer/a_cut_segment_begins_at_its_end': 'norm_order/Segments',
@@ -54,8 +54,8 @@ def definition_at(text, at):
 def cited():
     """{(crate, file, name): the files of code that bring it in}, without tests and laws."""
     out = {}
-    for path in sorted(glob.glob(os.path.join(REPO, 'crates', '*', 'src', '*.rt'))):
-        crate, name = path.split(os.sep)[-3], os.path.basename(path)[:-3]
+    for path in sorted(glob.glob(os.path.join(REPO, 'crates', '*', 'src', '**', '*.rt'), recursive=True)):
+        crate, name = os.path.relpath(path, os.path.join(REPO, 'crates'))[:-3].split('/src/', 1)
         if crate.startswith('tests_') or crate.endswith('_tests') or name == 'laws':
             continue
         text = read(path)
