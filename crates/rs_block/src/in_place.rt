@@ -1,7 +1,7 @@
-//! A block that is solved in its own row. A place whose symbol is its own source symbol is left alone; the symbols of the
+//! A block that is solved where its symbols lie. A place whose symbol is its own source symbol is left alone; the symbols of the
 //! other places are set aside, and the source symbols of these places are put over them.
 
-ghost use Rattle.std.specs.Prelude.{ℕ, List, ◌≡◌, ◌≢◌, ◌<◌, ◌≤◌, ◌*◌, ◌+◌, EachIndex, bit_xor, length, map, slice_index};
+ghost use Rattle.std.specs.Prelude.{ℕ, List, ◌≡◌, ◌<◌, ◌≤◌, ◌*◌, ◌+◌, EachIndex, bit_xor, length, map, slice_index};
 ghost use Rattle.norm_base.specs.Octets.{AreOctets};
 ghost use Rattle.norm_base.specs.Sizes.{symbol_room};
 ghost use Rattle.gf_field.specs.Power.{power};
@@ -13,30 +13,20 @@ ghost use Rattle.rs_block.specs.Points.{AreWeights};
 ghost use Rattle.rs_block.specs.Row.{combined};
 
 use crate::interpolation::{place_of, position_of, put_coefficients, symbol_at};
+use crate::piece::{Piece, put_symbol};
 use gf_field::add_scaled;
 use norm_base::SYMBOL_ROOM;
 
-/// Puts a symbol into place `i` of a row.
-pub fn put_symbol(row: &mut [u8], size: usize, i: usize, symbol: &[u8])
-    requires size { length symbol.now ≡ size }
-    requires within { i * size + size ≤ length row.old }
-    ensures here { (t : ℕ) → t < size → slice_index row.new (i * size + t) ≡ slice_index symbol.now t }
-    ensures others { (m t : ℕ) → m ≢ i → t < size → slice_index row.new (m * size + t) ≡ slice_index row.old (m * size + t) }
-{
-    let start = i * size;
-    row[start..start + size].copy_from_slice(symbol);
-}
-
 /// Copies each symbol that is not the source symbol of its place to the same place of `aside`.
 // All of them before the first is written over: each source symbol that is computed is a sum of all symbols that came.
-pub fn set_aside(ids: &[u8], row: &[u8], size: usize, aside: &mut [u8])
-    requires row { length row.now ≡ length ids.now * size }
-    requires room { length row.now ≤ length aside.old }
-    ensures { LieIn size ids.now row.now row.now aside.new }
+pub fn set_aside<P: Piece>(ids: &[u8], pieces: &[P], size: usize, aside: &mut [u8])
+    requires symbols { P.are_symbols (length ids.now) size pieces.now }
+    requires room { length ids.now * size ≤ length aside.old }
+    ensures { LieIn size ids.now (P.octets pieces.now) (P.octets pieces.now) aside.new }
 {
     for (i, id) in ids.iter().enumerate() {
         if usize::from(*id) != i {
-            put_symbol(aside, size, i, symbol_at(row, size, i));
+            put_symbol(aside, size, i, P::symbol(pieces, size, i));
         }
     }
 }
@@ -58,28 +48,28 @@ pub fn came_at<'a>(ids: &[u8], own: &'a [u8], aside: &'a [u8], size: usize, i: u
 }
 
 /// Adds to `out`, octet by octet, the sum of the symbols that came, each times its coefficient.
-fn add_all(coefficients: &[u8], ids: &[u8], row: &[u8], aside: &[u8], out: &mut [u8])
+fn add_all<P: Piece>(coefficients: &[u8], ids: &[u8], pieces: &[P], aside: &[u8], out: &mut [u8])
     requires count { length coefficients.now ≡ length ids.now }
-    requires row { length row.now ≡ length ids.now * length out.old }
-    requires room { length row.now ≤ length aside.now }
-    ensures { (symbols : List ℕ) → LieIn (length out.old) ids.now symbols row.now aside.now
+    requires symbols { P.are_symbols (length ids.now) (length out.old) pieces.now }
+    requires room { length ids.now * length out.old ≤ length aside.now }
+    ensures { (symbols : List ℕ) → LieIn (length out.old) ids.now symbols (P.octets pieces.now) aside.now
         → EachIndex out.new (λ t.
         let octets = column (length coefficients.now) (length out.old) symbols t in
         slice_index out.new t ≡ bit_xor (slice_index out.old t) (combined coefficients.now octets)) }
 {
     let size = out.len();
     for (i, coefficient) in coefficients.iter().enumerate() {
-        let own = symbol_at(row, size, i);
+        let own = P::symbol(pieces, size, i);
         add_scaled(out, came_at(ids, own, aside, size, i), *coefficient);
     }
 }
 
 /// Puts symbol `j` of the block into `out`, as `recover` does, from the symbols that came where they lie.
-fn recover_from(
+fn recover_from<P: Piece>(
     ids: &[u8],
     places: &[u8],
     weights: &[u8],
-    row: &[u8],
+    pieces: &[P],
     aside: &[u8],
     j: u8,
     coefficients: &mut [u8],
@@ -89,55 +79,58 @@ fn recover_from(
     requires few { length ids.now ≤ 255 }
     requires places { places.now ≡ map power ids.now }
     requires weighted { AreWeights places.now weights.now }
-    requires row { length row.now ≡ length ids.now * length out.old }
-    requires aside { length row.now ≤ length aside.now }
+    requires symbols { P.are_symbols (length ids.now) (length out.old) pieces.now }
+    requires aside { length ids.now * length out.old ≤ length aside.now }
     requires below { j < 255 }
     requires room { length coefficients.old ≡ length ids.now }
-    ensures { (symbols : List ℕ) → AreOctets symbols → LieIn (length out.old) ids.now symbols row.now aside.now
+    ensures { (symbols : List ℕ) → AreOctets symbols → LieIn (length out.old) ids.now symbols (P.octets pieces.now) aside.now
         → EachIndex out.new (λ t.
         let values = column (length ids.now) (length out.old) symbols t in
         slice_index out.new t ≡ interpolated (map power ids.now) values (power j)) }
 {
     let size = out.len();
     match position_of(ids, j) {
-        Some(i) => out.copy_from_slice(came_at(ids, symbol_at(row, size, i), aside, size, i)),
+        // Most symbols do come, and a sum costs a pass over all k of them.
+        Some(i) => out.copy_from_slice(came_at(ids, P::symbol(pieces, size, i), aside, size, i)),
         None => {
             put_coefficients(places, weights, place_of(j), coefficients);
             out.fill(0);
-            add_all(coefficients, ids, row, aside, out);
+            add_all(coefficients, ids, pieces, aside, out);
         }
     }
 }
 
-/// Puts the source symbols of the block into those places of its row that have another symbol.
-pub fn put_lacking(
+/// Puts the source symbols of the block into those places that have another symbol.
+pub fn put_lacking<P: Piece>(
     ids: &[u8],
     places: &[u8],
     weights: &[u8],
     size: usize,
     aside: &[u8],
     coefficients: &mut [u8],
-    row: &mut [u8],
+    pieces: &mut [P],
 )
     requires ids { AreIds (length ids.now) 255 ids.now }
     requires few { length ids.now ≤ 255 }
     requires places { places.now ≡ map power ids.now }
     requires weighted { AreWeights places.now weights.now }
     requires short { size ≤ symbol_room }
-    requires row { length row.old ≡ length ids.now * size }
-    requires aside { length row.old ≤ length aside.now }
-    requires lie { LieIn size ids.now row.old row.old aside.now }
+    requires symbols { P.are_symbols (length ids.now) size pieces.old }
+    requires octets { AreOctets (P.octets pieces.old) }
+    requires aside { length ids.now * size ≤ length aside.now }
+    requires lie { LieIn size ids.now (P.octets pieces.old) (P.octets pieces.old) aside.now }
     requires room { length coefficients.old ≡ length ids.now }
-    ensures { AreSources (length ids.now) size ids.now row.old row.new }
+    ensures sources { AreSources (length ids.now) size ids.now (P.octets pieces.old) (P.octets pieces.new) }
+    ensures symbols { P.are_symbols (length ids.now) size pieces.new }
 {
-    // The sum reads the row, so the symbol is made beside it and then copied. On the stack, so that solving takes no memory.
+    // The sum reads the pieces, so the symbol is made beside them and then copied. On the stack, so that solving takes no memory.
     let mut room = [0; SYMBOL_ROOM];
     let symbol = &mut room[..size];
     for j in 0..ids.len() as u8 {
         let i = usize::from(j);
         if ids[i] != j {
-            recover_from(ids, places, weights, row, aside, j, coefficients, symbol);
-            put_symbol(row, size, i, symbol);
+            recover_from(ids, places, weights, pieces, aside, j, coefficients, symbol);
+            P::put(pieces, size, i, symbol);
         }
     }
 }

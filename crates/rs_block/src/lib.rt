@@ -7,9 +7,9 @@
 
 mod encode;
 mod in_place;
-mod in_rows;
 mod interpolation;
 pub mod laws;
+mod piece;
 mod row;
 mod solve;
 mod weights;

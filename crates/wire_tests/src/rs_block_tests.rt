@@ -44,23 +44,6 @@ fn encoded(
     Ok(symbols)
 }
 
-/// The source symbols from the symbols with these ids.
-fn solved(
-    rt: &impl Abort,
-    alloc: Global,
-    size: usize,
-    ids: &[u8],
-    symbols: &[u8],
-) -> Result<Vec<u8>, Fail> {
-    assert!(rt; 1 <= ids.len() && ids.len() < 256 && 1 <= size && size <= 1408);
-    assert!(rt; are_ids(ids));
-    assert_eq!(rt; symbols.len(), ids.len() * size);
-    let mut solver = Solver::new(alloc, ids.len() as u8, size)?;
-    let mut out = vec![in alloc; 0; ids.len() * size]?;
-    solver.solve(ids, symbols, &mut out);
-    Ok(out)
-}
-
 /// The source symbols from the symbols with these ids, solved in the row in which they lie.
 fn solved_in(
     rt: &impl Abort,
@@ -168,7 +151,7 @@ fn symbols_of_short_codes_are_those_of_the_rows(rt: HostRuntime) -> Result<(), F
 #[test]
 fn a_short_block_is_solved(rt: HostRuntime) -> Result<(), Fail> {
     let alloc = rt.alloc();
-    let sources = solved(&rt, alloc, 1, &[2, 3], &[0x04, 0x08])?;
+    let sources = solved_in(&rt, alloc, 1, &[2, 3], &[0x04, 0x08])?;
     assert!(rt; sources.as_slice() == [0x01, 0x02].as_slice());
     for (ids, symbols) in [
         ([0, 1, 2], [0x01, 0x04, 0x10]),
@@ -263,8 +246,8 @@ fn as_they_lie(
     Ok((places, row))
 }
 
-/// Whether the symbols whose bits are set in the mask give the source octets, solved into another row, in their own one, and in rows of
-/// their own.
+/// Whether the symbols whose bits are set in the mask give the source octets, solved in a row in the order of their ids, in one as they
+/// come to lie, and in rows of their own.
 fn are_solved_from(
     rt: &impl Abort,
     alloc: Global,
@@ -282,10 +265,10 @@ fn are_solved_from(
         }
     }
     let (places, row) = as_they_lie(rt, alloc, &ids, &given)?;
-    let into = solved(rt, alloc, 1, &ids, &given)?;
+    let rising = solved_in(rt, alloc, 1, &ids, &given)?;
     let within = solved_in(rt, alloc, 1, &places, &row)?;
     let apart = solved_in_rows(rt, alloc, &places, &row)?;
-    Ok(into.as_slice() == source && within.as_slice() == source && apart.as_slice() == source)
+    Ok(rising.as_slice() == source && within.as_slice() == source && apart.as_slice() == source)
 }
 
 #[test]
@@ -317,7 +300,7 @@ fn the_largest_code_is_solved_from_its_last_symbols(rt: HostRuntime) -> Result<(
         ids.push(id)?;
     }
     assert!(rt; symbols.len() == 16_320);
-    let sources = solved(&rt, alloc, 64, &ids, &symbols[3520..])?;
+    let sources = solved_in(&rt, alloc, 64, &ids, &symbols[3520..])?;
     assert!(rt; sources.as_slice() == source.as_slice());
     Ok(())
 }

@@ -1,6 +1,6 @@
 use Rattle.std.proofs.Common.{◌∙◌, ap, arith, length}
 use Rattle.rs_block.proofs.InPlace.{others_stay}
-use Rattle.rs_block.proofs.in_place.put_symbol.Goals as goal
+use Rattle.rs_block.proofs.piece.put_symbol.Goals as goal
 
 pub returns-clause-others : goal.returns-clause-others
 returns-clause-others c = λ m t differ lt.
