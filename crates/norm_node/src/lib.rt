@@ -1,8 +1,8 @@
-//! One node of a session in a process of its own (RFC 5740 section 5), over a network that brings it to the others.
+//! A receiver alone, and the hub between nodes, each over a network that brings it to the others (RFC 5740 section 5).
 //!
-//! [`run_receiver`] makes all turns of a [`ReceiverRun`], which takes datagrams (`taking`), tells what is handed up (`handing`, with
+//! [`run_receiver`] makes all turns of a [`ReceiverRun`], which takes datagrams (`taking`), prints what is handed up (`handing`, with
 //! the name of a file from `naming`), and sends what its receiver answers (`answering`); a turn is these, one after the other
-//! (`turning`).
+//! (`turning`). [`run_hub`] sends each datagram on.
 #![tactic(auto)]
 
 mod answering;

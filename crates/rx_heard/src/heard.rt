@@ -15,8 +15,8 @@ use norm_base::Memory;
 use std::alloc::Global;
 use std::marker::Model;
 
-/// The most spans of symbols, the most spans of infos and the most counts that are kept of what was heard. Our own choice: what more is
-/// asked for is not heard, and no memory is wanted for it.
+/// The most spans of symbols, the most spans of infos and the most counts that are kept of what was heard.
+// Our own choice. Beyond it a message is not heard, and no memory is wanted for it: at worst the receiver asks for what others asked for.
 const MOST_HEARD: usize = 4096;
 
 /// From one position to another, both included.
@@ -87,6 +87,7 @@ fn put_span(spans: &mut Vec<Span>, span: Span)
         if other.ends_before(&more) {
             place += 1;
         } else if more.ends_before(&other) {
+            // The clause says that there is room.
             spans.insert(place, more).unwrap();
             return;
         } else {
@@ -244,6 +245,7 @@ impl Model for Heard {
 
     ghost view = { λ h. record { symbols = h.symbols.items; infos = h.infos.items; counts = h.counts.items } };
 
+    // If two spans shared a position, or did not rise, the search by halves would miss what was heard.
     ghost invariant = { λ h. IsOrderly (record { symbols = h.symbols.items; infos = h.infos.items; counts = h.counts.items }) };
 }
 

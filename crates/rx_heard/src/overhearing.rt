@@ -19,6 +19,7 @@ use norm_ext::items::{ends_of, has_flag, position_of, split_item, split_pair};
 use norm_ext::{Form, Request, Requests};
 
 /// The greatest number of a symbol that a message names.
+// RFC 5510 section 5.1: 8 bits name a symbol. Encoding symbols go up to 254, so a span up to it reaches the end of any block.
 const LAST_SYMBOL: u8 = 255;
 
 /// How much of what a request names counts: the symbols themselves, their blocks, or their objects.

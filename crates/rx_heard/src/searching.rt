@@ -12,6 +12,7 @@ use crate::heard::{Count, Heard, Span};
 use fec_plan::{LAST_BLOCK, Point, Position};
 
 /// A block of an object of which nothing is known may have so many symbols.
+// One more than the greatest number of a symbol: without a plan nothing says how many symbols a block has.
 const WIDEST: u16 = 256;
 
 /// The first of these spans that does not end before a position, or how many they are.
