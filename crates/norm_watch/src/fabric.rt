@@ -9,6 +9,10 @@ use crate::silence::Silence;
 use crate::stray::Strays;
 use crate::tally::Tally;
 use norm_base::{Datagram, Fabric, FabricFault, FabricKind, Local, NodeId, Profile};
+use norm_ext::MessageType;
+use norm_ext::flags::REPAIR;
+use norm_ext::items::has_flag;
+use norm_ext::places::FLAGS_AT;
 use norm_udp::PassesOver;
 use std::fmt;
 use std::time::{Clock, Duration};
@@ -20,10 +24,6 @@ const PAUSE: u64 = 1;
 /// The clock is read at one take in this many. If nothing comes each sleeps a millisecond, so that they are well under a second.
 // Our own choice. While datagrams come a read of the clock at each would show in the rate.
 const TAKES: u32 = 64;
-
-/// The place of a datagram's first octet of a header, and of its flags.
-// RFC 5740 section 4.2.1.
-const FLAGS: usize = 12;
 
 /// What a node is.
 #[derive(Clone, Copy)]
@@ -136,12 +136,13 @@ fn moment<R: Clock>(rt: &R) -> Duration {
 
 /// Whether a datagram is of an object, and repairs: INFO or DATA with the flag of a repair (RFC 5740 section 4.2.1).
 fn is_repair(datagram: &[u8]) -> bool {
-    if datagram.len() <= FLAGS {
+    if datagram.len() <= FLAGS_AT {
         return false;
     }
-    // By two octets and not by a reading of the message: it is asked of each datagram.
-    let kind = datagram[0] & 15;
-    (kind == 1 || kind == 2) && datagram[FLAGS] & 1 == 1
+    // By two octets and not by a reading of the message: it is asked of each datagram. The first has the version, and then the type.
+    let kind = MessageType::of(datagram[0] % 16);
+    matches!(kind, Some(MessageType::Info | MessageType::Data))
+        && has_flag(datagram[FLAGS_AT], REPAIR)
 }
 
 /// Whether a node counts repairs as it takes them. A receiver does, which offers none; the hub offers each that it takes, and where all members are
