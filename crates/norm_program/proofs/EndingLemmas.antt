@@ -11,7 +11,7 @@ use Rattle.norm_program.specs.Asked.{Asked, is_alone}
 use Rattle.norm_program.specs.Boarded.{RunsScript, StopsScript, span}
 use Rattle.norm_program.specs.Ends.{Called, outside, EndsScript, EndsEarly, Prepared, IsReadEnding, IsTextEnding, IsLastEnding, IsAbsentEnding, IsStoppedEnding, IsInput, RanSession, StoppedSession}
 use Rattle.norm_program.specs.declared.status.Ending.{Ending}
-use Rattle.norm_program.specs.declared.status.Ending.TheVariants.{Done, Datagram, Memory, Words, Refused, Line, Profile, Read, Write, Fabric, Files, Absent, Spent}
+use Rattle.norm_program.specs.declared.status.Ending.TheVariants.{Done, Memory, Refused, Read, Write, Absent, Spent}
 
 -- Each part that ends the program early, or at last, in plain variables: the input before and after (i, j), the output's pieces (u, v, w),
 -- the counts of failed reads (r, s) and writes (k, l, t), and what only a session calls (c, d).
@@ -25,17 +25,7 @@ read_ends Memory a i j u w r s k t h = λ called. record {
   writes = h.2;
 }
 read_ends Read a i j u w r s k t h = λ called. record { cause = h.0; called = refl; output = h.1 }
-read_ends Done a i j u w r s k t h = absurd h
-read_ends Words a i j u w r s k t h = absurd h
-read_ends Datagram a i j u w r s k t h = absurd h
-read_ends (Line number why) a i j u w r s k t h = absurd h
-read_ends (Profile why) a i j u w r s k t h = absurd h
-read_ends (Refused refusal) a i j u w r s k t h = absurd h
-read_ends Write a i j u w r s k t h = absurd h
-read_ends Fabric a i j u w r s k t h = absurd h
-read_ends Files a i j u w r s k t h = absurd h
-read_ends (Absent name) a i j u w r s k t h = absurd h
-read_ends Spent a i j u w r s k t h = absurd h
+read_ends _ a i j u w r s k t h = absurd h
 
 -- the text is no script
 pub text_ends : (ending : Ending) (a : Asked) (text : List ℕ) (i j : Option (List ℕ)) (u w : Pieces) (r s k t : ℕ)
@@ -53,17 +43,7 @@ text_ends (Refused refusal) a text i j u w r s k t input quiet h = λ called. re
   output = h.1;
   undisturbed = record { reads = quiet; calls = refl; files = refl };
 }
-text_ends Done a text i j u w r s k t input quiet h = absurd h
-text_ends Words a text i j u w r s k t input quiet h = absurd h
-text_ends Datagram a text i j u w r s k t input quiet h = absurd h
-text_ends (Line number why) a text i j u w r s k t input quiet h = absurd h
-text_ends (Profile why) a text i j u w r s k t input quiet h = absurd h
-text_ends Read a text i j u w r s k t input quiet h = absurd h
-text_ends Write a text i j u w r s k t input quiet h = absurd h
-text_ends Fabric a text i j u w r s k t input quiet h = absurd h
-text_ends Files a text i j u w r s k t input quiet h = absurd h
-text_ends (Absent name) a text i j u w r s k t input quiet h = absurd h
-text_ends Spent a text i j u w r s k t input quiet h = absurd h
+text_ends _ a text i j u w r s k t input quiet h = absurd h
 
 pub text_ended : {T : Type 0} → (result : Result T Ending) (a : Asked) (text : List ℕ) (i j : Option (List ℕ)) (u w : Pieces) (r s k t : ℕ)
     → IsInput text i j → s ≡ r → IfErr result (λ ending. IsTextEnding a ending text u w k t)
@@ -116,16 +96,7 @@ last_ends Write a script journal whole i j u v w r s k l t c d p reads runs caus
       session = inr (record { unsaid = v; session = subst P h.0 (ran_session a script journal whole i j u v w r s k t c d p runs); output = h.1 });
       undisturbed = record { reads = reads; calls = ap (λ n. n.network) cause; files = ap (λ n. n.files) cause };
     }
-last_ends Words a script journal whole i j u v w r s k l t c d p reads runs cause h = absurd h
-last_ends Datagram a script journal whole i j u v w r s k l t c d p reads runs cause h = absurd h
-last_ends (Line number why) a script journal whole i j u v w r s k l t c d p reads runs cause h = absurd h
-last_ends (Profile why) a script journal whole i j u v w r s k l t c d p reads runs cause h = absurd h
-last_ends (Refused refusal) a script journal whole i j u v w r s k l t c d p reads runs cause h = absurd h
-last_ends Read a script journal whole i j u v w r s k l t c d p reads runs cause h = absurd h
-last_ends Memory a script journal whole i j u v w r s k l t c d p reads runs cause h = absurd h
-last_ends Fabric a script journal whole i j u v w r s k l t c d p reads runs cause h = absurd h
-last_ends Files a script journal whole i j u v w r s k l t c d p reads runs cause h = absurd h
-last_ends (Absent name) a script journal whole i j u v w r s k l t c d p reads runs cause h = absurd h
+last_ends _ a script journal whole i j u v w r s k l t c d p reads runs cause h = absurd h
 
 stopped_session : (stop : SessionFault) (a : Asked) (script : Commands) (i j : Option (List ℕ)) (u v w : Pieces)
     (r s k t : ℕ) (c d : Called) → Prepared a script i j → Stopped (is_alone a) stop script c d u v
@@ -159,17 +130,7 @@ absent_ends Memory name a script i j u v w r s k l t c d p reads stops cause h =
   undisturbed = record { reads = reads; calls = ap (λ n. n.network) cause; files = ap (λ n. n.files) cause };
   writes = h.1 ∙ ap (λ n. n.output) cause;
 }
-absent_ends Done name a script i j u v w r s k l t c d p reads stops cause h = absurd h
-absent_ends Words name a script i j u v w r s k l t c d p reads stops cause h = absurd h
-absent_ends Datagram name a script i j u v w r s k l t c d p reads stops cause h = absurd h
-absent_ends (Line number why) name a script i j u v w r s k l t c d p reads stops cause h = absurd h
-absent_ends (Profile why) name a script i j u v w r s k l t c d p reads stops cause h = absurd h
-absent_ends (Refused refusal) name a script i j u v w r s k l t c d p reads stops cause h = absurd h
-absent_ends Read name a script i j u v w r s k l t c d p reads stops cause h = absurd h
-absent_ends Write name a script i j u v w r s k l t c d p reads stops cause h = absurd h
-absent_ends Fabric name a script i j u v w r s k l t c d p reads stops cause h = absurd h
-absent_ends Files name a script i j u v w r s k l t c d p reads stops cause h = absurd h
-absent_ends Spent name a script i j u v w r s k l t c d p reads stops cause h = absurd h
+absent_ends _ name a script i j u v w r s k l t c d p reads stops cause h = absurd h
 
 -- a fault stopped the session
 pub stopped_ends : (T : Type 0) (stop : SessionFault) (ending : Ending) (a : Asked) (script : Commands) (i j : Option (List ℕ))

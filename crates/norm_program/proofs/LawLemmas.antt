@@ -20,7 +20,7 @@ use Rattle.norm_program.specs.NodeEnds.{EndsUnloaded, EndsUnder, EndsBroken, Bro
 use Rattle.norm_program.specs.ShowEnds.{ShowEnds}
 use Rattle.norm_program.specs.StatusOf.{status_of}
 use Rattle.norm_program.specs.declared.status.Ending.{Ending}
-use Rattle.norm_program.specs.declared.status.Ending.TheVariants.{Done, Datagram, Memory, Words, Refused, Line, Profile, Read, Write, Fabric, Files, Absent, Spent}
+use Rattle.norm_program.specs.declared.status.Ending.TheVariants.{Done, Datagram, Memory, Refused, Line, Profile, Read, Write, Fabric, Files, Absent, Spent}
 
 -- what an ending shows of the counts of failed calls, and of the line of a file that is not there
 abbrev Shows : Ending → Outside → Outside → Type 0
@@ -35,112 +35,56 @@ Shows _ before after = ⊤
 
 script_shows : (a : Asked) (ending : Ending) (before after : Outside) → EndsScript a ending before after → Shows ending before after
 script_shows a Done before after h = tt
-script_shows a Datagram before after h = tt
 script_shows a Memory before after h = tt
-script_shows a Words before after h = tt
 script_shows a (Refused refusal) before after h = tt
-script_shows a (Line n why) before after h = tt
-script_shows a (Profile why) before after h = tt
 script_shows a Read before after h = h.cause
 script_shows a Write before after h = h.cause
 script_shows a Fabric before after h = h.cause
 script_shows a Files before after h = h.cause
 script_shows a (Absent name) before after h = (h.unsaid, h.output)
 script_shows a Spent before after h = tt
+script_shows a _ before after h = absurd h
 
 show_shows : (ending : Ending) (before after : Outside) → ShowEnds ending before after → Shows ending before after
 show_shows Done before after h = tt
 show_shows Datagram before after h = tt
 show_shows Memory before after h = tt
-show_shows Words before after h = tt
-show_shows (Refused refusal) before after h = tt
 show_shows (Line n why) before after h = tt
-show_shows (Profile why) before after h = tt
 show_shows Read before after h = h.cause
 show_shows Write before after h = h.cause
-show_shows Fabric before after h = absurd h
-show_shows Files before after h = absurd h
-show_shows (Absent name) before after h = absurd h
-show_shows Spent before after h = tt
+show_shows _ before after h = absurd h
 
 generate_shows : (m : ℕ) (ending : Ending) (before after : Outside) → GenerateEnds m ending before after → Shows ending before after
 generate_shows m Done before after h = tt
-generate_shows m Datagram before after h = tt
-generate_shows m Memory before after h = tt
-generate_shows m Words before after h = tt
-generate_shows m (Refused refusal) before after h = tt
-generate_shows m (Line n why) before after h = tt
-generate_shows m (Profile why) before after h = tt
-generate_shows m Read before after h = absurd h
 generate_shows m Write before after h = h.cause
-generate_shows m Fabric before after h = absurd h
-generate_shows m Files before after h = absurd h
-generate_shows m (Absent name) before after h = absurd h
-generate_shows m Spent before after h = tt
+generate_shows m _ before after h = absurd h
 
 broken_shows : (Stops : SessionFault → Outside → Type 0) (ending : Ending) (before after : Outside) → EndsBroken Stops ending before after
     → Shows ending before after
-broken_shows Stops Done before after h = tt
-broken_shows Stops Datagram before after h = tt
 broken_shows Stops Memory before after h = tt
-broken_shows Stops Words before after h = tt
-broken_shows Stops (Refused refusal) before after h = tt
-broken_shows Stops (Line n why) before after h = tt
-broken_shows Stops (Profile why) before after h = tt
-broken_shows Stops Read before after h = absurd h
 broken_shows Stops Write before after h = h.cause
 broken_shows Stops Fabric before after h = h.cause
 broken_shows Stops Files before after h = h.cause
-broken_shows Stops (Absent name) before after h = absurd h
-broken_shows Stops Spent before after h = tt
+broken_shows Stops _ before after h = absurd h
 
 receiver_shows : (node : ℕ) (p : Settings) (ending : Ending) (before after : Outside) → EndsReceiver node p ending before after
     → Shows ending before after
 receiver_shows node p Done before after h = tt
-receiver_shows node p Datagram before after h = tt
-receiver_shows node p Memory before after h = tt
-receiver_shows node p Words before after h = tt
-receiver_shows node p (Refused refusal) before after h = tt
-receiver_shows node p (Line n why) before after h = tt
 receiver_shows node p (Profile why) before after h = tt
-receiver_shows node p Read before after h = broken_shows (BrokenReceiver p node before) Read before after h
-receiver_shows node p Write before after h = broken_shows (BrokenReceiver p node before) Write before after h
-receiver_shows node p Fabric before after h = broken_shows (BrokenReceiver p node before) Fabric before after h
-receiver_shows node p Files before after h = broken_shows (BrokenReceiver p node before) Files before after h
-receiver_shows node p (Absent name) before after h = broken_shows (BrokenReceiver p node before) (Absent name) before after h
-receiver_shows node p Spent before after h = tt
+receiver_shows node p ending before after h = broken_shows (BrokenReceiver p node before) ending before after h
 
 hub_shows : (p : Settings) (ending : Ending) (before after : Outside) → EndsHub p ending before after → Shows ending before after
 hub_shows p Done before after h = tt
-hub_shows p Datagram before after h = tt
-hub_shows p Memory before after h = tt
-hub_shows p Words before after h = tt
-hub_shows p (Refused refusal) before after h = tt
-hub_shows p (Line n why) before after h = tt
-hub_shows p (Profile why) before after h = tt
-hub_shows p Read before after h = broken_shows (BrokenHub p before) Read before after h
-hub_shows p Write before after h = broken_shows (BrokenHub p before) Write before after h
-hub_shows p Fabric before after h = broken_shows (BrokenHub p before) Fabric before after h
-hub_shows p Files before after h = broken_shows (BrokenHub p before) Files before after h
-hub_shows p (Absent name) before after h = broken_shows (BrokenHub p before) (Absent name) before after h
-hub_shows p Spent before after h = tt
+hub_shows p ending before after h = broken_shows (BrokenHub p before) ending before after h
 
 unloaded_shows : (path : List ℕ) (ending : Ending) (before after : Outside) → EndsUnloaded path ending before after → Shows ending before after
-unloaded_shows path Done before after h = tt
-unloaded_shows path Datagram before after h = tt
 unloaded_shows path Memory before after h = tt
-unloaded_shows path Words before after h = tt
-unloaded_shows path (Refused refusal) before after h = tt
-unloaded_shows path (Line n why) before after h = tt
 unloaded_shows path (Profile why) before after h = tt
-unloaded_shows path Read before after h = absurd h
-unloaded_shows path Write before after h = absurd h
-unloaded_shows path Fabric before after h = absurd h
 unloaded_shows path Files before after h = h.cause
 unloaded_shows path (Absent name) before after h =
     let P : List ℕ → Type 0 = λ x. Says before.written after.written before.write_faults after.write_faults (absent_line x) in
     (before.written, subst P (sym h.0) h.1.output)
-unloaded_shows path Spent before after h = tt
+unloaded_shows path _ before after h = absurd h
 
 under_shows : (path : List ℕ) (Ends : Settings → Ending → Outside → Outside → Type 0) (ending : Ending) (before after : Outside)
     → ((p : Settings) → Ends p ending before after → Shows ending before after) → EndsUnder path Ends ending before after
@@ -185,51 +129,18 @@ rose n m more none = omega (arith, more, none.same, none.below)
 
 not_four : (ending : Ending) (before after : Outside) → Shows ending before after → NoneFailed before.read_faults after.read_faults
     → status_of ending ≡ 4 → ⊥
-not_four Done before after h none is = omega (arith, is)
-not_four Datagram before after h none is = omega (arith, is)
-not_four Memory before after h none is = omega (arith, is)
-not_four Words before after h none is = omega (arith, is)
-not_four (Refused refusal) before after h none is = omega (arith, is)
-not_four (Line n why) before after h none is = omega (arith, is)
-not_four (Profile why) before after h none is = omega (arith, is)
 not_four Read before after h none is = rose before.read_faults after.read_faults h none
-not_four Write before after h none is = omega (arith, is)
-not_four Fabric before after h none is = omega (arith, is)
-not_four Files before after h none is = omega (arith, is)
-not_four (Absent name) before after h none is = omega (arith, is)
-not_four Spent before after h none is = omega (arith, is)
+not_four _ before after h none is = omega (arith, is)
 
 not_five : (ending : Ending) (before after : Outside) → Shows ending before after → NoneFailed before.write_faults after.write_faults
     → status_of ending ≡ 5 → ⊥
-not_five Done before after h none is = omega (arith, is)
-not_five Datagram before after h none is = omega (arith, is)
-not_five Memory before after h none is = omega (arith, is)
-not_five Words before after h none is = omega (arith, is)
-not_five (Refused refusal) before after h none is = omega (arith, is)
-not_five (Line n why) before after h none is = omega (arith, is)
-not_five (Profile why) before after h none is = omega (arith, is)
-not_five Read before after h none is = omega (arith, is)
 not_five Write before after h none is = rose before.write_faults after.write_faults h none
-not_five Fabric before after h none is = omega (arith, is)
-not_five Files before after h none is = omega (arith, is)
-not_five (Absent name) before after h none is = omega (arith, is)
-not_five Spent before after h none is = omega (arith, is)
+not_five _ before after h none is = omega (arith, is)
 
 not_six : (ending : Ending) (before after : Outside) → Shows ending before after → NoneFailed before.called.network_faults after.called.network_faults
     → status_of ending ≡ 6 → ⊥
-not_six Done before after h none is = omega (arith, is)
-not_six Datagram before after h none is = omega (arith, is)
-not_six Memory before after h none is = omega (arith, is)
-not_six Words before after h none is = omega (arith, is)
-not_six (Refused refusal) before after h none is = omega (arith, is)
-not_six (Line n why) before after h none is = omega (arith, is)
-not_six (Profile why) before after h none is = omega (arith, is)
-not_six Read before after h none is = omega (arith, is)
-not_six Write before after h none is = omega (arith, is)
 not_six Fabric before after h none is = rose before.called.network_faults after.called.network_faults h none
-not_six Files before after h none is = omega (arith, is)
-not_six (Absent name) before after h none is = omega (arith, is)
-not_six Spent before after h none is = omega (arith, is)
+not_six _ before after h none is = omega (arith, is)
 
 -- a line that was said where no write failed is the last piece
 said : (unsaid written : Pieces) (before now : ℕ) (line : List ℕ) → NoneFailed before now → Says unsaid written before now line
@@ -240,23 +151,13 @@ said unsaid written before now line none (inr h) = absurd (rose before now h.1 n
 names_absent : (ending : Ending) (before after : Outside) → Shows ending before after
     → NoneFailed before.called.file_faults after.called.file_faults → NoneFailed before.write_faults after.write_faults
     → status_of ending ≡ 7 → NamesAbsent after
-names_absent Done before after h files writes is = absurd (omega (arith, is))
-names_absent Datagram before after h files writes is = absurd (omega (arith, is))
-names_absent Memory before after h files writes is = absurd (omega (arith, is))
-names_absent Words before after h files writes is = absurd (omega (arith, is))
-names_absent (Refused refusal) before after h files writes is = absurd (omega (arith, is))
-names_absent (Line n why) before after h files writes is = absurd (omega (arith, is))
-names_absent (Profile why) before after h files writes is = absurd (omega (arith, is))
-names_absent Read before after h files writes is = absurd (omega (arith, is))
-names_absent Write before after h files writes is = absurd (omega (arith, is))
-names_absent Fabric before after h files writes is = absurd (omega (arith, is))
 names_absent Files before after h files writes is = absurd (rose before.called.file_faults after.called.file_faults h files)
 names_absent (Absent name) before after h files writes is = record {
   name = name;
   unsaid = h.0;
   output = said h.0 after.written before.write_faults after.write_faults (absent_line name) writes h.1;
 }
-names_absent Spent before after h files writes is = absurd (omega (arith, is))
+names_absent _ before after h files writes is = absurd (omega (arith, is))
 
 pub four_is_of_reads : FourIsOfReads
 four_is_of_reads status words before after ends none is =

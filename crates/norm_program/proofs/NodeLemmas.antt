@@ -19,7 +19,7 @@ use Rattle.norm_turns.specs.declared.fault.SessionFault.TheVariants as fault
 use Rattle.norm_program.specs.Ends.{Called, Outside, outside, called_as, IsAbsentEnding, IsStoppedEnding}
 use Rattle.norm_program.specs.NodeEnds.{EndsUnloaded, IsUnloadedEnding, IsLoading, EndsUnder, EndsBroken, BrokenReceiver, BrokenHub, EndsReceiver, EndsHub, seen, heard}
 use Rattle.norm_program.specs.declared.status.Ending.{Ending}
-use Rattle.norm_program.specs.declared.status.Ending.TheVariants.{Done, Datagram, Memory, Words, Refused, Line, Profile, Read, Write, Fabric, Files, Absent, Spent}
+use Rattle.norm_program.specs.declared.status.Ending.TheVariants.{Done, Memory, Profile, Absent}
 use Rattle.norm_program.proofs.EndingLemmas.{counts}
 
 -- In plain variables: the input (i) and the count of failed reads (r), the output's pieces before, when a run stopped and after (u, v, w) with the
@@ -47,17 +47,7 @@ absent_profile Memory path i u w r k t n f m q x y cause count h = record {
   unbegun = record { input = refl; reads = refl; files = refl };
   undisturbed = record { reads = refl; calls = refl; files = count };
 }
-absent_profile Done path i u w r k t n f m q x y cause count h = absurd h
-absent_profile Datagram path i u w r k t n f m q x y cause count h = absurd h
-absent_profile Words path i u w r k t n f m q x y cause count h = absurd h
-absent_profile (Refused refusal) path i u w r k t n f m q x y cause count h = absurd h
-absent_profile (Line number why) path i u w r k t n f m q x y cause count h = absurd h
-absent_profile (Profile why) path i u w r k t n f m q x y cause count h = absurd h
-absent_profile Read path i u w r k t n f m q x y cause count h = absurd h
-absent_profile Write path i u w r k t n f m q x y cause count h = absurd h
-absent_profile Fabric path i u w r k t n f m q x y cause count h = absurd h
-absent_profile Files path i u w r k t n f m q x y cause count h = absurd h
-absent_profile Spent path i u w r k t n f m q x y cause count h = absurd h
+absent_profile _ path i u w r k t n f m q x y cause count h = absurd h
 
 -- by why there is none
 unloaded_by : (failed : LoadFault) (ending : Ending) (path : List ℕ) (i : Option (List ℕ)) (u w : Pieces) (r k t : ℕ) (n : Network) (f : Told) (m : Option (List ℕ)) (q x y : ℕ)
@@ -173,18 +163,8 @@ receiver_present (fault.Absent name) p node before after (inr broken) = absurd b
 receiver_broken : (ending : Ending) (node : ℕ) (p : Settings) (before after : Outside) → EndsBroken (BrokenReceiver p node before) ending before after
     → EndsReceiver node p ending before after
 receiver_broken Done node p before after h = absurd h
-receiver_broken Datagram node p before after h = absurd h
-receiver_broken Memory node p before after h = h
-receiver_broken Words node p before after h = absurd h
-receiver_broken (Refused refusal) node p before after h = absurd h
-receiver_broken (Line number why) node p before after h = absurd h
 receiver_broken (Profile why) node p before after h = absurd h
-receiver_broken Read node p before after h = absurd h
-receiver_broken Write node p before after h = h
-receiver_broken Fabric node p before after h = h
-receiver_broken Files node p before after h = h
-receiver_broken (Absent name) node p before after h = absurd h
-receiver_broken Spent node p before after h = absurd h
+receiver_broken _ node p before after h = h
 
 pub receiver_stopped : (T : Type 0) (stop : SessionFault) (ending : Ending) (node : ℕ) (p : Settings) (i : Option (List ℕ)) (u v w : Pieces)
     (r k l t : ℕ) (c d : Called) → is_receiver p node ≡ true → StopsReceiver stop p node (seen (outside i u r k c)) (seen (outside i v r l d))
@@ -219,18 +199,7 @@ hub_present (fault.Absent name) p before after (inr broken) = absurd broken.stop
 -- of a hub that a fault broke off
 hub_broken : (ending : Ending) (p : Settings) (before after : Outside) → EndsBroken (BrokenHub p before) ending before after → EndsHub p ending before after
 hub_broken Done p before after h = absurd h
-hub_broken Datagram p before after h = h
-hub_broken Memory p before after h = h
-hub_broken Words p before after h = h
-hub_broken (Refused refusal) p before after h = h
-hub_broken (Line number why) p before after h = h
-hub_broken (Profile why) p before after h = h
-hub_broken Read p before after h = h
-hub_broken Write p before after h = h
-hub_broken Fabric p before after h = h
-hub_broken Files p before after h = h
-hub_broken (Absent name) p before after h = h
-hub_broken Spent p before after h = h
+hub_broken _ p before after h = h
 
 -- with files that nobody calls (f), and the counts of failed calls of the network (q, s) and of the files (x)
 pub hub_stopped : (T : Type 0) (stop : SessionFault) (ending : Ending) (p : Settings) (i : Option (List ℕ)) (u w : Pieces) (r k t : ℕ) (n o : Network) (f : Told)

@@ -62,8 +62,10 @@ EndsUnread NoMemory status before after = (status ≡ status_of Memory) × (afte
 
 -- The files have what they had, but where a receiver puts those that it hands up: what it puts is said by its run.
 abbrev pub KeepsFiles : Option NodeTask → (before after : Told) → Type 0
+KeepsFiles None before after = after ≡ before
+KeepsFiles (Some (Send path instance)) before after = after ≡ before
 KeepsFiles (Some (Receive path node)) before after = ⊤
-KeepsFiles _ before after = after ≡ before
+KeepsFiles (Some (Hub path)) before after = after ≡ before
 
 -- the path of the profile that is asked for
 abbrev pub path_asked : Option NodeTask → Option (List ℕ)

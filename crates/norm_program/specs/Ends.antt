@@ -13,7 +13,7 @@ use Rattle.norm_turns.specs.declared.fault.SessionFault.TheVariants as fault
 use Rattle.norm_program.specs.Asked.{Asked, is_alone, IsAsked, IsRefusedLine}
 use Rattle.norm_program.specs.Boarded.{RunsScript, Span, StopsScript, span}
 use Rattle.norm_program.specs.declared.status.Ending.{Ending}
-use Rattle.norm_program.specs.declared.status.Ending.TheVariants.{Done, Datagram, Memory, Words, Refused, Line, Profile, Read, Write, Fabric, Files, Absent, Spent}
+use Rattle.norm_program.specs.declared.status.Ending.TheVariants.{Done, Memory, Refused, Read, Write, Fabric, Files, Absent, Spent}
 
 abbrev pub usage_line : List ℕ
 usage_line = codes "usage: normd session | show | generate N | send PROFILE | recv PROFILE NODE | hub PROFILE\n"
@@ -182,10 +182,7 @@ EndsScript a Write before after = FailedWrite a before after
 EndsScript a Fabric before after = FailedNetwork a before after
 EndsScript a Files before after = FailedFiles a before after
 EndsScript a (Absent name) before after = AbsentFile a name before after
-EndsScript a Words before after = ⊥
-EndsScript a Datagram before after = ⊥
-EndsScript a (Line n why) before after = ⊥
-EndsScript a (Profile why) before after = ⊥
+EndsScript a _ before after = ⊥
 
 abbrev pub called_as : (network : Network) (files : Told) (moments : Option (List ℕ)) (network_faults file_faults : ℕ) → Called
 called_as network files moments network_faults file_faults = record {

@@ -7,7 +7,7 @@ use Rattle.norm_show.specs.declared.fault.NoDatagram.{NoDatagram}
 use Rattle.norm_show.specs.declared.fault.ShowFault.TheVariants as fault
 use Rattle.norm_program.specs.Ends.{Outside, Says, refused_line}
 use Rattle.norm_program.specs.declared.status.Ending.{Ending}
-use Rattle.norm_program.specs.declared.status.Ending.TheVariants.{Done, Datagram, Memory, Words, Refused, Line, Profile, Read, Write, Fabric, Files, Absent, Spent}
+use Rattle.norm_program.specs.declared.status.Ending.TheVariants.{Done, Datagram, Memory, Line, Read, Write}
 
 -- nothing was called that only nodes call: no network, no files and no clock
 abbrev pub Alone : Outside → Outside → Type 0
@@ -57,13 +57,7 @@ ShowEnds (Line n why) before after = ShownToLine n why before after
 ShowEnds Read before after = ShownToFault before after
 ShowEnds Write before after = ShownInPart before after
 ShowEnds Memory before after = ShownSome before after
-ShowEnds Words before after = ⊥
-ShowEnds (Refused refusal) before after = ⊥
-ShowEnds Fabric before after = ⊥
-ShowEnds Files before after = ⊥
-ShowEnds (Absent name) before after = ⊥
-ShowEnds (Profile why) before after = ⊥
-ShowEnds Spent before after = ⊥
+ShowEnds _ before after = ⊥
 
 -- how a line that spells no datagram ends the program: it is said, or there was no memory for that
 abbrev pub IsLineEnding : Ending → ℕ → NoDatagram → (unwritten written : Pieces) → (before now : ℕ) → Type 0
