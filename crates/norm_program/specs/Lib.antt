@@ -3,6 +3,7 @@ pub mod Reasons
 pub mod Asked
 pub mod Boarded
 pub mod Ends
+pub mod Lending
 pub mod ShowEnds
 pub mod GenerateEnds
 pub mod NodeEnds

@@ -4,12 +4,14 @@ ghost use Rattle.std.specs.Prelude.{◌≡◌, map, string_bytes, Some, IfSome, 
 ghost use Rattle.std.specs.Process.{exit_status};
 ghost use Rattle.norm_program.specs.Commands.{EndsNode, EndsTask, EndsOther, EndsBy, EndsWith, EndsUnread, KeepsFiles};
 ghost use Rattle.norm_program.specs.Ends.{outside, called_as};
+ghost use Rattle.norm_program.specs.Lending.{GivesBack};
 ghost use Rattle.norm_words.specs.Fits.{FitsNode, FitsTask};
 ghost use Rattle.norm_words.specs.NodeTasks.{node_task_of};
 
 use crate::generate::write_script;
 use crate::hub::end_hub;
 use crate::last_line::say;
+use crate::lent::Lent;
 use crate::reason::{explain, explain_no_text};
 use crate::recv::end_receive;
 use crate::send::end_send;
@@ -33,26 +35,16 @@ fn end_task<R: Threads + Wait + Sync, S: Source, K: Sink, F: Fabric, D: Files, C
     rt: &R,
     alloc: Global,
     task: Task,
-    input: &mut S,
-    output: &mut K,
-    fabric: &mut F,
-    files: &mut D,
-    clock: &mut C,
+    lent: &mut Lent<'_, S, K, F, D, C>,
 ) -> Ending
     requires { FitsTask task }
-    ensures ends { EndsTask task result
-        (outside (S.left input.old) (K.pieces output.old) (S.fault_count input.old) (K.fault_count output.old)
-        (called_as (F.told fabric.old) (D.contents files.old) (C.moments clock.old) (F.fault_count fabric.old) (D.fault_count files.old)))
-        (outside (S.left input.new) (K.pieces output.new) (S.fault_count input.new) (K.fault_count output.new)
-        (called_as (F.told fabric.new) (D.contents files.new) (C.moments clock.new) (F.fault_count fabric.new) (D.fault_count files.new))) }
-    ensures files { D.contents files.new ≡ D.contents files.old }
+    ensures ends { GivesBack S.Source K.Sink F.Fabric D.Files C.Clock (EndsTask task result) lent.old lent.new }
+    ensures files { D.contents lent.new.files.now ≡ D.contents lent.old.files.now }
 {
     match task {
-        Task::Session(options) => {
-            run_input(rt, alloc, options, input, output, fabric, files, clock)
-        }
-        Task::Show => show(alloc, input, output),
-        Task::Generate(number) => write_script(number, output),
+        Task::Session(options) => run_input(rt, alloc, options, lent),
+        Task::Show => show(alloc, lent.input, lent.output),
+        Task::Generate(number) => write_script(number, lent.output),
     }
 }
 
@@ -61,28 +53,16 @@ fn end_node<R: Threads + Wait + Sync, S: Source, K: Sink, F: Fabric, D: Files, C
     rt: &R,
     alloc: Global,
     task: NodeTask,
-    input: &mut S,
-    output: &mut K,
-    fabric: &mut F,
-    files: &mut D,
-    clock: &mut C,
+    lent: &mut Lent<'_, S, K, F, D, C>,
 ) -> Ending
     requires { FitsNode task }
-    ensures ends { EndsNode (Some task) result
-        (outside (S.left input.old) (K.pieces output.old) (S.fault_count input.old) (K.fault_count output.old)
-        (called_as (F.told fabric.old) (D.contents files.old) (C.moments clock.old) (F.fault_count fabric.old) (D.fault_count files.old)))
-        (outside (S.left input.new) (K.pieces output.new) (S.fault_count input.new) (K.fault_count output.new)
-        (called_as (F.told fabric.new) (D.contents files.new) (C.moments clock.new) (F.fault_count fabric.new) (D.fault_count files.new))) }
-    ensures files { KeepsFiles (Some task) (D.contents files.old) (D.contents files.new) }
+    ensures ends { GivesBack S.Source K.Sink F.Fabric D.Files C.Clock (EndsNode (Some task) result) lent.old lent.new }
+    ensures files { KeepsFiles (Some task) (D.contents lent.old.files.now) (D.contents lent.new.files.now) }
 {
     match task {
-        NodeTask::Send { profile, instance } => end_send(
-            rt, alloc, profile, instance, input, output, fabric, files, clock,
-        ),
-        NodeTask::Receive(path, node) => {
-            end_receive(alloc, path, node, output, fabric, files, clock)
-        }
-        NodeTask::Hub(path) => end_hub(alloc, path, output, fabric, files, clock),
+        NodeTask::Send { profile, instance } => end_send(rt, alloc, profile, instance, lent),
+        NodeTask::Receive(path, node) => end_receive(alloc, path, node, lent),
+        NodeTask::Hub(path) => end_hub(alloc, path, lent),
     }
 }
 
@@ -91,24 +71,16 @@ fn end_other<R: Threads + Wait + Sync, S: Source, K: Sink, F: Fabric, D: Files, 
     rt: &R,
     alloc: Global,
     task: Option<NodeTask>,
-    input: &mut S,
-    output: &mut K,
-    fabric: &mut F,
-    files: &mut D,
-    clock: &mut C,
+    lent: &mut Lent<'_, S, K, F, D, C>,
 ) -> Ending
     requires { IfSome task FitsNode }
-    ensures ends { EndsNode task result
-        (outside (S.left input.old) (K.pieces output.old) (S.fault_count input.old) (K.fault_count output.old)
-        (called_as (F.told fabric.old) (D.contents files.old) (C.moments clock.old) (F.fault_count fabric.old) (D.fault_count files.old)))
-        (outside (S.left input.new) (K.pieces output.new) (S.fault_count input.new) (K.fault_count output.new)
-        (called_as (F.told fabric.new) (D.contents files.new) (C.moments clock.new) (F.fault_count fabric.new) (D.fault_count files.new))) }
-    ensures files { KeepsFiles task (D.contents files.old) (D.contents files.new) }
+    ensures ends { GivesBack S.Source K.Sink F.Fabric D.Files C.Clock (EndsNode task result) lent.old lent.new }
+    ensures files { KeepsFiles task (D.contents lent.old.files.now) (D.contents lent.new.files.now) }
 {
     match task {
-        Some(task) => end_node(rt, alloc, task, input, output, fabric, files, clock),
+        Some(task) => end_node(rt, alloc, task, lent),
         None => {
-            say(output, USAGE);
+            say(lent.output, USAGE);
             Ending::Words
         }
     }
@@ -119,21 +91,13 @@ fn end_others<R: Threads + Wait + Sync, S: Source, K: Sink, F: Fabric, D: Files,
     rt: &R,
     alloc: Global,
     words: &Vec<String>,
-    input: &mut S,
-    output: &mut K,
-    fabric: &mut F,
-    files: &mut D,
-    clock: &mut C,
+    lent: &mut Lent<'_, S, K, F, D, C>,
 ) -> Ending
-    ensures ends { EndsOther result (map string_bytes words.now.items)
-        (outside (S.left input.old) (K.pieces output.old) (S.fault_count input.old) (K.fault_count output.old)
-        (called_as (F.told fabric.old) (D.contents files.old) (C.moments clock.old) (F.fault_count fabric.old) (D.fault_count files.old)))
-        (outside (S.left input.new) (K.pieces output.new) (S.fault_count input.new) (K.fault_count output.new)
-        (called_as (F.told fabric.new) (D.contents files.new) (C.moments clock.new) (F.fault_count fabric.new) (D.fault_count files.new))) }
-    ensures files { KeepsFiles (node_task_of (map string_bytes words.now.items)) (D.contents files.old) (D.contents files.new) }
+    ensures ends { GivesBack S.Source K.Sink F.Fabric D.Files C.Clock (EndsOther result (map string_bytes words.now.items)) lent.old lent.new }
+    ensures files { KeepsFiles (node_task_of (map string_bytes words.now.items)) (D.contents lent.old.files.now) (D.contents lent.new.files.now) }
 {
     match node_task_of(alloc, words) {
-        Ok(task) => end_other(rt, alloc, task, input, output, fabric, files, clock),
+        Ok(task) => end_other(rt, alloc, task, lent),
         Err(Memory) => Ending::Memory,
     }
 }
@@ -144,22 +108,14 @@ fn end_of<R: Threads + Wait + Sync, S: Source, K: Sink, F: Fabric, D: Files, C: 
     rt: &R,
     alloc: Global,
     words: &Vec<String>,
-    input: &mut S,
-    output: &mut K,
-    fabric: &mut F,
-    files: &mut D,
-    clock: &mut C,
+    lent: &mut Lent<'_, S, K, F, D, C>,
 ) -> Ending
-    ensures ends { EndsBy result (map string_bytes words.now.items)
-        (outside (S.left input.old) (K.pieces output.old) (S.fault_count input.old) (K.fault_count output.old)
-        (called_as (F.told fabric.old) (D.contents files.old) (C.moments clock.old) (F.fault_count fabric.old) (D.fault_count files.old)))
-        (outside (S.left input.new) (K.pieces output.new) (S.fault_count input.new) (K.fault_count output.new)
-        (called_as (F.told fabric.new) (D.contents files.new) (C.moments clock.new) (F.fault_count fabric.new) (D.fault_count files.new))) }
-    ensures files { KeepsFiles (node_task_of (map string_bytes words.now.items)) (D.contents files.old) (D.contents files.new) }
+    ensures ends { GivesBack S.Source K.Sink F.Fabric D.Files C.Clock (EndsBy result (map string_bytes words.now.items)) lent.old lent.new }
+    ensures files { KeepsFiles (node_task_of (map string_bytes words.now.items)) (D.contents lent.old.files.now) (D.contents lent.new.files.now) }
 {
     match task_of(alloc, words) {
-        Ok(Some(task)) => end_task(rt, alloc, task, input, output, fabric, files, clock),
-        Ok(None) => end_others(rt, alloc, words, input, output, fabric, files, clock),
+        Ok(Some(task)) => end_task(rt, alloc, task, lent),
+        Ok(None) => end_others(rt, alloc, words, lent),
         Err(Memory) => Ending::Memory,
     }
 }
@@ -183,7 +139,8 @@ pub fn norm_main<R: Threads + Wait + Sync, S: Source, K: Sink, F: Fabric, D: Fil
         (called_as (F.told fabric.new) (D.contents files.new) (C.moments clock.new) (F.fault_count fabric.new) (D.fault_count files.new))) }
     ensures files { KeepsFiles (node_task_of (map string_bytes words.now.items)) (D.contents files.old) (D.contents files.new) }
 {
-    end_of(rt, alloc, words, input, output, fabric, files, clock).status()
+    let mut lent = Lent::of(input, output, fabric, files, clock);
+    end_of(rt, alloc, words, &mut lent).status()
 }
 
 /// The program as a process: the words after its name, or why there are none, and the objects that it
@@ -220,7 +177,8 @@ pub fn run<R: Threads + Wait + Sync + Eprint, S: Source, K: Sink, F: Fabric, D: 
             return ExitCode::from(Ending::Memory.status());
         }
     };
-    let ending = end_of(rt, alloc, &words, input, output, fabric, files, clock);
+    let mut lent = Lent::of(input, output, fabric, files, clock);
+    let ending = end_of(rt, alloc, &words, &mut lent);
     explain(rt, &ending, &words);
     ExitCode::from(ending.status())
 }

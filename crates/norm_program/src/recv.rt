@@ -1,13 +1,14 @@
 //! `recv`: the receiver of a node of a profile, run alone.
 
-ghost use Rattle.std.specs.Prelude.{◌≡◌, ℕ, List, Option};
-ghost use Rattle.norm_program.specs.Ends.{outside, called_as};
+ghost use Rattle.std.specs.Prelude.{◌≡◌};
+ghost use Rattle.norm_program.specs.Lending.{GivesBack};
 ghost use Rattle.norm_program.specs.NodeEnds.{EndsUnder, EndsReceiver, no_receiver};
 
 use crate::last_line::stop_session;
+use crate::lent::Lent;
 use crate::profiles::{load, refuse_profile};
 use crate::status::{Ending, ProfileFault};
-use norm_base::{Clock, Fabric, Files, NodeId, Profile, Sink, Text};
+use norm_base::{Clock, Fabric, Files, NodeId, Profile, Sink, Source, Text};
 use norm_node::run_receiver;
 use std::alloc::Global;
 
@@ -23,48 +24,42 @@ fn no_receiver(profile: &Profile, node: NodeId) -> ProfileFault
 }
 
 /// How the receiver of a node ends the program; what each ending says is in `EndsReceiver`.
-fn receive<K: Sink, F: Fabric, D: Files, C: Clock>(
+fn receive<S: Source, K: Sink, F: Fabric, D: Files, C: Clock>(
     alloc: Global,
     profile: &Profile,
     node: NodeId,
-    output: &mut K,
-    fabric: &mut F,
-    files: &mut D,
-    clock: &mut C,
+    lent: &mut Lent<'_, S, K, F, D, C>,
 ) -> Ending
-    ensures { (input : Option (List ℕ)) (read_faults : ℕ) → EndsReceiver node profile.now result
-        (outside input (K.pieces output.old) read_faults (K.fault_count output.old)
-        (called_as (F.told fabric.old) (D.contents files.old) (C.moments clock.old) (F.fault_count fabric.old) (D.fault_count files.old)))
-        (outside input (K.pieces output.new) read_faults (K.fault_count output.new)
-        (called_as (F.told fabric.new) (D.contents files.new) (C.moments clock.new) (F.fault_count fabric.new) (D.fault_count files.new))) }
+    ensures { GivesBack S.Source K.Sink F.Fabric D.Files C.Clock (EndsReceiver node profile.now result) lent.old lent.new }
 {
     if !profile.is_receiver(node) {
-        return refuse_profile(no_receiver(profile, node), output);
+        return refuse_profile(no_receiver(profile, node), lent.output);
     }
-    match run_receiver(alloc, profile, node, output, fabric, files, clock) {
+    match run_receiver(
+        alloc,
+        profile,
+        node,
+        lent.output,
+        lent.fabric,
+        lent.files,
+        lent.clock,
+    ) {
         Ok(()) => Ending::Done,
-        Err(fault) => stop_session(alloc, fault, output),
+        Err(fault) => stop_session(alloc, fault, lent.output),
     }
 }
 
 /// How the receiver of a node ends the program, under the profile at a path.
-pub(crate) fn end_receive<K: Sink, F: Fabric, D: Files, C: Clock>(
+pub(crate) fn end_receive<S: Source, K: Sink, F: Fabric, D: Files, C: Clock>(
     alloc: Global,
     path: Text,
     node: NodeId,
-    output: &mut K,
-    fabric: &mut F,
-    files: &mut D,
-    clock: &mut C,
+    lent: &mut Lent<'_, S, K, F, D, C>,
 ) -> Ending
-    ensures { (input : Option (List ℕ)) (read_faults : ℕ) → EndsUnder path (EndsReceiver node) result
-        (outside input (K.pieces output.old) read_faults (K.fault_count output.old)
-        (called_as (F.told fabric.old) (D.contents files.old) (C.moments clock.old) (F.fault_count fabric.old) (D.fault_count files.old)))
-        (outside input (K.pieces output.new) read_faults (K.fault_count output.new)
-        (called_as (F.told fabric.new) (D.contents files.new) (C.moments clock.new) (F.fault_count fabric.new) (D.fault_count files.new))) }
+    ensures { GivesBack S.Source K.Sink F.Fabric D.Files C.Clock (EndsUnder path (EndsReceiver node) result) lent.old lent.new }
 {
-    match load(alloc, path, output, files) {
-        Ok(profile) => receive(alloc, &profile, node, output, fabric, files, clock),
+    match load(alloc, path, lent.output, lent.files) {
+        Ok(profile) => receive(alloc, &profile, node, lent),
         Err(ending) => ending,
     }
 }

@@ -2,13 +2,15 @@
 
 ghost use Rattle.std.specs.Prelude.{◌≡◌};
 ghost use Rattle.norm_program.specs.Asked.{Sender, with_instance};
-ghost use Rattle.norm_program.specs.Ends.{outside, called_as, EndsScript};
+ghost use Rattle.norm_program.specs.Ends.{EndsScript};
+ghost use Rattle.norm_program.specs.Lending.{GivesBack};
 ghost use Rattle.norm_program.specs.NodeEnds.{EndsUnder, EndsSender};
 ghost use Rattle.norm_words.specs.Fits.{FitsInstance};
 
 use crate::boarded::run_send;
 use crate::commands::prepare_commands;
 use crate::last_line::{end_session, stop_session};
+use crate::lent::Lent;
 use crate::profiles::load;
 use crate::status::Ending;
 use norm_base::{Clock, Fabric, Files, Profile, Sink, Source, Text};
@@ -35,26 +37,26 @@ fn send<R: Threads + Wait + Sync, S: Source, K: Sink, F: Fabric, D: Files, C: Cl
     rt: &R,
     alloc: Global,
     profile: &Profile,
-    input: &mut S,
-    output: &mut K,
-    fabric: &mut F,
-    files: &mut D,
-    clock: &mut C,
+    lent: &mut Lent<'_, S, K, F, D, C>,
 ) -> Ending
-    ensures ends { EndsScript (Sender profile.now) result
-        (outside (S.left input.old) (K.pieces output.old) (S.fault_count input.old) (K.fault_count output.old)
-        (called_as (F.told fabric.old) (D.contents files.old) (C.moments clock.old) (F.fault_count fabric.old) (D.fault_count files.old)))
-        (outside (S.left input.new) (K.pieces output.new) (S.fault_count input.new) (K.fault_count output.new)
-        (called_as (F.told fabric.new) (D.contents files.new) (C.moments clock.new) (F.fault_count fabric.new) (D.fault_count files.new))) }
-    ensures files { D.contents files.new ≡ D.contents files.old }
+    ensures ends { GivesBack S.Source K.Sink F.Fabric D.Files C.Clock (EndsScript (Sender profile.now) result) lent.old lent.new }
+    ensures files { D.contents lent.new.files.now ≡ D.contents lent.old.files.now }
 {
-    let script = match prepare_commands(alloc, profile, input, output) {
+    let script = match prepare_commands(alloc, profile, lent.input, lent.output) {
         Ok(script) => script,
         Err(ending) => return ending,
     };
-    match run_send(rt, alloc, &script, output, fabric, files, clock) {
-        Ok(whole) => end_session(whole, output),
-        Err(fault) => stop_session(alloc, fault, output),
+    match run_send(
+        rt,
+        alloc,
+        &script,
+        lent.output,
+        lent.fabric,
+        lent.files,
+        lent.clock,
+    ) {
+        Ok(whole) => end_session(whole, lent.output),
+        Err(fault) => stop_session(alloc, fault, lent.output),
     }
 }
 
@@ -64,24 +66,16 @@ pub(crate) fn end_send<R: Threads + Wait + Sync, S: Source, K: Sink, F: Fabric, 
     alloc: Global,
     path: Text,
     instance: Option<u32>,
-    input: &mut S,
-    output: &mut K,
-    fabric: &mut F,
-    files: &mut D,
-    clock: &mut C,
+    lent: &mut Lent<'_, S, K, F, D, C>,
 ) -> Ending
     requires { FitsInstance instance }
-    ensures ends { EndsUnder path (EndsSender instance) result
-        (outside (S.left input.old) (K.pieces output.old) (S.fault_count input.old) (K.fault_count output.old)
-        (called_as (F.told fabric.old) (D.contents files.old) (C.moments clock.old) (F.fault_count fabric.old) (D.fault_count files.old)))
-        (outside (S.left input.new) (K.pieces output.new) (S.fault_count input.new) (K.fault_count output.new)
-        (called_as (F.told fabric.new) (D.contents files.new) (C.moments clock.new) (F.fault_count fabric.new) (D.fault_count files.new))) }
-    ensures files { D.contents files.new ≡ D.contents files.old }
+    ensures ends { GivesBack S.Source K.Sink F.Fabric D.Files C.Clock (EndsUnder path (EndsSender instance) result) lent.old lent.new }
+    ensures files { D.contents lent.new.files.now ≡ D.contents lent.old.files.now }
 {
-    match load(alloc, path, output, files) {
+    match load(alloc, path, lent.output, lent.files) {
         Ok(loaded) => {
             let profile = with_instance(loaded, instance);
-            send(rt, alloc, &profile, input, output, fabric, files, clock)
+            send(rt, alloc, &profile, lent)
         }
         Err(ending) => ending,
     }

@@ -2,13 +2,15 @@
 
 ghost use Rattle.std.specs.Prelude.{◌≡◌, Ok, IfOk, IfErr, OnOk};
 ghost use Rattle.norm_program.specs.Asked.{Members, profile_with, script_asked, script_with};
-ghost use Rattle.norm_program.specs.Ends.{outside, called_as, Prepared, IsTextEnding, EndsEarly, EndsScript};
+ghost use Rattle.norm_program.specs.Ends.{Prepared, IsTextEnding, EndsEarly, EndsScript};
+ghost use Rattle.norm_program.specs.Lending.{GivesBack};
 ghost use Rattle.norm_script.specs.Scripts.{CanRun};
 ghost use Rattle.norm_words.specs.Fits.{FitsOptions};
 
 use crate::boarded::run_session;
 use crate::input::read_input;
 use crate::last_line::{end_session, refused_line, say, stop_session};
+use crate::lent::Lent;
 use crate::status::Ending;
 use norm_base::{Clock, Fabric, Files, Memory, Profile, Sink, Source};
 use norm_script::{Script, read};
@@ -93,30 +95,25 @@ pub(crate) fn run_input<
     F: Fabric,
     D: Files,
     C: Clock,
->(
-    rt: &R,
-    alloc: Global,
-    options: Options,
-    input: &mut S,
-    output: &mut K,
-    fabric: &mut F,
-    files: &mut D,
-    clock: &mut C,
-) -> Ending
+>(rt: &R, alloc: Global, options: Options, lent: &mut Lent<'_, S, K, F, D, C>) -> Ending
     requires { FitsOptions options }
-    ensures ends { EndsScript (Members options) result
-        (outside (S.left input.old) (K.pieces output.old) (S.fault_count input.old) (K.fault_count output.old)
-        (called_as (F.told fabric.old) (D.contents files.old) (C.moments clock.old) (F.fault_count fabric.old) (D.fault_count files.old)))
-        (outside (S.left input.new) (K.pieces output.new) (S.fault_count input.new) (K.fault_count output.new)
-        (called_as (F.told fabric.new) (D.contents files.new) (C.moments clock.new) (F.fault_count fabric.new) (D.fault_count files.new))) }
-    ensures files { D.contents files.new ≡ D.contents files.old }
+    ensures ends { GivesBack S.Source K.Sink F.Fabric D.Files C.Clock (EndsScript (Members options) result) lent.old lent.new }
+    ensures files { D.contents lent.new.files.now ≡ D.contents lent.old.files.now }
 {
-    let script = match prepare(alloc, options, input, output) {
+    let script = match prepare(alloc, options, lent.input, lent.output) {
         Ok(script) => script,
         Err(ending) => return ending,
     };
-    match run_session(rt, alloc, &script, output, fabric, files, clock) {
-        Ok(ended) => end_session(ended.whole, output),
-        Err(fault) => stop_session(alloc, fault, output),
+    match run_session(
+        rt,
+        alloc,
+        &script,
+        lent.output,
+        lent.fabric,
+        lent.files,
+        lent.clock,
+    ) {
+        Ok(ended) => end_session(ended.whole, lent.output),
+        Err(fault) => stop_session(alloc, fault, lent.output),
     }
 }
