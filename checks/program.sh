@@ -16,7 +16,7 @@ forget() { rm -rf "$XDG_STATE_HOME"; }
 nodes='' sender='' unheard=''
 # shellcheck disable=SC2086 # each is a process of its own
 trap 'kill $nodes $sender $unheard 2>/dev/null; rm -rf "$scratch"' EXIT
-# Sixteen ports for each process, below those that the system gives out itself, and below those of udp_tests.
+# Sixteen ports for each process, below those that the system gives out itself, and below those of tests_fabrics.
 port=$((10000 + $$ % 400 * 16))
 files=$scratch/files
 mkdir "$files" "$files/folder" || exit 1

@@ -9,8 +9,8 @@ use Rattle.norm_base.specs.declared.key.Key.TheVariants as key
 use Rattle.norm_script.specs.Commands.{Commands}
 use Rattle.norm_script.specs.Reading.{script_of}
 use Rattle.norm_script.specs.Scripts.{CanRun}
-use Rattle.norm_words.specs.Fits.{FitsOptions}
-use Rattle.norm_words.specs.declared.tasks.Options.{Options}
+use Rattle.norm_args.specs.Fits.{FitsOptions}
+use Rattle.norm_args.specs.declared.tasks.Options.{Options}
 use Rattle.norm_session.proofs.ScriptLemmas.{runnable}
 use Rattle.norm_program.specs.Asked.{profile_with, script_with, script_asked}
 

@@ -5,12 +5,12 @@ use Rattle.norm_base.specs.Faults.{one_more}
 use Rattle.norm_base.specs.Settings.{Settings}
 use Rattle.norm_base.specs.Told.{Pieces, gained}
 use Rattle.norm_turns.specs.declared.fault.SessionFault.{SessionFault}
-use Rattle.norm_words.specs.NodeTasks.{node_task_of}
-use Rattle.norm_words.specs.Tasks.{task_of}
-use Rattle.norm_words.specs.declared.node_tasks.NodeTask.{NodeTask}
-use Rattle.norm_words.specs.declared.node_tasks.NodeTask.TheVariants.{Send, Receive, Hub}
-use Rattle.norm_words.specs.declared.tasks.Task.{Task}
-use Rattle.norm_words.specs.declared.tasks.Task.TheVariants.{Session, Show, Generate}
+use Rattle.norm_args.specs.NodeTasks.{node_task_of}
+use Rattle.norm_args.specs.Tasks.{task_of}
+use Rattle.norm_args.specs.declared.node_tasks.NodeTask.{NodeTask}
+use Rattle.norm_args.specs.declared.node_tasks.NodeTask.TheVariants.{Send, Receive, Hub}
+use Rattle.norm_args.specs.declared.tasks.Task.{Task}
+use Rattle.norm_args.specs.declared.tasks.Task.TheVariants.{Session, Show, Generate}
 use Rattle.norm_program.specs.Asked.{Asked, Members, Sender, with_instance}
 use Rattle.norm_program.specs.Commands.{EndsNode, EndsTask, EndsAsked, EndsBy}
 use Rattle.norm_program.specs.Ends.{Outside, Says, EndsScript, absent_line}

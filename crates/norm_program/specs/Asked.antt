@@ -8,7 +8,7 @@ use Rattle.norm_script.specs.Commands.{Commands}
 use Rattle.norm_script.specs.Reading.{script_of, commands_of}
 use Rattle.norm_script.specs.Refused.{refused_number}
 use Rattle.norm_script.specs.declared.refusal.Refusal.{Refusal}
-use Rattle.norm_words.specs.declared.tasks.Options.{Options}
+use Rattle.norm_args.specs.declared.tasks.Options.{Options}
 
 -- a profile with what the options give in place of its own
 abbrev pub profile_with : Options → Settings → Settings

@@ -1,12 +1,12 @@
 -- How the program ends: by what its words ask for, or as words that are of no form.
 use Rattle.std.specs.Prelude.{◌≡◌, ◌⊎◌, ⊤, ℕ, List, Option, None, Some}
 use Rattle.norm_journal.specs.Jobs.{Told}
-use Rattle.norm_words.specs.NodeTasks.{node_task_of}
-use Rattle.norm_words.specs.Tasks.{task_of}
-use Rattle.norm_words.specs.declared.node_tasks.NodeTask.{NodeTask}
-use Rattle.norm_words.specs.declared.node_tasks.NodeTask.TheVariants.{Send, Receive, Hub}
-use Rattle.norm_words.specs.declared.tasks.Task.{Task}
-use Rattle.norm_words.specs.declared.tasks.Task.TheVariants.{Session, Show, Generate}
+use Rattle.norm_args.specs.NodeTasks.{node_task_of}
+use Rattle.norm_args.specs.Tasks.{task_of}
+use Rattle.norm_args.specs.declared.node_tasks.NodeTask.{NodeTask}
+use Rattle.norm_args.specs.declared.node_tasks.NodeTask.TheVariants.{Send, Receive, Hub}
+use Rattle.norm_args.specs.declared.tasks.Task.{Task}
+use Rattle.norm_args.specs.declared.tasks.Task.TheVariants.{Session, Show, Generate}
 use Rattle.norm_program.specs.Asked.{Members}
 use Rattle.norm_program.specs.Ends.{Outside, RefusedWords, EndsScript}
 use Rattle.norm_program.specs.GenerateEnds.{GenerateEnds}

@@ -5,7 +5,7 @@ ghost use Rattle.norm_program.specs.Asked.{Sender, with_instance};
 ghost use Rattle.norm_program.specs.Ends.{EndsScript};
 ghost use Rattle.norm_program.specs.Lending.{GivesBack};
 ghost use Rattle.norm_program.specs.NodeEnds.{EndsUnder, EndsSender};
-ghost use Rattle.norm_words.specs.Fits.{FitsInstance};
+ghost use Rattle.norm_args.specs.Fits.{FitsInstance};
 
 use crate::boarded::run_send;
 use crate::commands::prepare_commands;

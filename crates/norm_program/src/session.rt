@@ -5,16 +5,16 @@ ghost use Rattle.norm_program.specs.Asked.{Members, profile_with, script_asked, 
 ghost use Rattle.norm_program.specs.Ends.{Prepared, IsTextEnding, EndsEarly, EndsScript};
 ghost use Rattle.norm_program.specs.Lending.{GivesBack};
 ghost use Rattle.norm_script.specs.Scripts.{CanRun};
-ghost use Rattle.norm_words.specs.Fits.{FitsOptions};
+ghost use Rattle.norm_args.specs.Fits.{FitsOptions};
 
 use crate::boarded::run_session;
 use crate::input::read_input;
 use crate::last_line::{end_session, refused_line, say, stop_session};
 use crate::lent::Lent;
 use crate::status::Ending;
+use norm_args::Options;
 use norm_base::{Clock, Fabric, Files, Memory, Profile, Sink, Source};
 use norm_script::{Script, read};
-use norm_words::Options;
 use std::alloc::Global;
 use std::sync::Wait;
 use std::thread::Threads;

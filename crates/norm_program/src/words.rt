@@ -5,10 +5,10 @@ ghost use Rattle.std.specs.IoError.{error_kind};
 ghost use Rattle.std.specs.declared.io.ErrorKind.TheVariants.{OutOfMemory};
 ghost use Rattle.norm_program.specs.Commands.{path_asked};
 ghost use Rattle.norm_program.specs.declared.words.WordsFault.TheVariants as fault;
-ghost use Rattle.norm_words.specs.NodeTasks.{node_task_of};
+ghost use Rattle.norm_args.specs.NodeTasks.{node_task_of};
 
+use norm_args::{NodeTask, node_task_of};
 use norm_base::{Memory, Text};
-use norm_words::{NodeTask, node_task_of};
 use std::alloc::{AllocFailed, Global};
 use std::rt::Env;
 use std::{env, io};

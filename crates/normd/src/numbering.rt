@@ -1,11 +1,11 @@
 //! The instance of a send: where neither its words nor its profile give one, it is drawn above each that this user's earlier sends took, and put into the
 //! words. One that is given is kept, so that later sends lie above it.
 
+use norm_args::{NodeTask, node_task_of};
 use norm_base::{InstanceId, Memory, Profile};
 use norm_host::{FolderFiles, InstanceFault, InstanceFile, minute_at, state_folder};
 use norm_profile::{Document, LoadFault, load_document};
 use norm_watch::Restarts;
-use norm_words::{NodeTask, node_task_of};
 use std::alloc::Global;
 use std::io;
 use std::time::Clock;

@@ -1,5 +1,0 @@
-use Rattle.std.proofs.Common.{◌≡◌}
-use Rattle.gate_tests.proofs.threads.pull_all.Given as goal
-
-abbrev pub invariant-pulls : goal.invariant-pulls
-invariant-pulls g l = l.seat.gate ≡ l.initial.seat.gate

@@ -1,0 +1,8 @@
+use Rattle.std.proofs.Common.{◌∙◌}
+use Rattle.clap.specs.Words.{found_of}
+use Rattle.clap.proofs.WalkLemmas.{first_value-rows}
+use Rattle.norm_args.proofs.tasks.word_in.Goals as goal
+
+-- what the getter of the matches reads, by their rows
+pub returns : goal.returns
+returns c = c.get_str.ensures ∙ first_value-rows (found_of c.args.matches.now) c.args.name.now

@@ -1,0 +1,28 @@
+-- The numbers of a task are in their ranges.
+use Rattle.std.specs.Prelude.{ℕ, ◌≤◌, Option, IfSome}
+use Rattle.norm_base.specs.Keys.{IsValue}
+use Rattle.norm_base.specs.declared.key.Key.TheVariants as key
+use Rattle.norm_args.specs.declared.node_tasks.NodeTask.{NodeTask}
+use Rattle.norm_args.specs.declared.node_tasks.NodeTask.TheVariants.{Send, Receive, Hub}
+use Rattle.norm_args.specs.declared.tasks.Options.{Options}
+use Rattle.norm_args.specs.declared.tasks.Task.{Task}
+use Rattle.norm_args.specs.declared.tasks.Task.TheVariants.{Session, Show, Generate}
+
+-- what an option gives is one of its key's values
+pub record FitsOptions (o : Options) : Type 0 where
+  pub chance : IfSome o.chance (IsValue key.Chance)
+  pub turns : IfSome o.turns (IsValue key.Turns)
+
+abbrev pub FitsTask : Task → Type 0
+FitsTask (Session options) = FitsOptions options
+FitsTask Show = Unit {0}
+FitsTask (Generate n) = n ≤ 4294967295
+
+-- an instance that is given is one of its key's values
+abbrev pub FitsInstance : Option ℕ → Type 0
+FitsInstance instance = IfSome instance (IsValue key.Instance)
+
+abbrev pub FitsNode : NodeTask → Type 0
+FitsNode (Send profile instance) = FitsInstance instance
+FitsNode (Receive profile node) = Unit {0}
+FitsNode (Hub profile) = Unit {0}

@@ -1,0 +1,95 @@
+//! The forms of the words behind a first word, as commands of `clap`.
+
+ghost use Rattle.std.specs.Prelude.{◌≡◌, true, map, string_bytes, IfOk};
+ghost use Rattle.std.specs.Bool.{Decides};
+ghost use Rattle.std.specs.Option.{option_map};
+ghost use Rattle.clap.specs.Words.{app_of, rows_of, found_of, is_simple_and_free, kind_of};
+ghost use Rattle.norm_args.specs.Forms.{session_form, show_form, generate_form, send_form, recv_form, hub_form, found_in};
+
+use clap::error::ErrorKind;
+use clap::{Arg, ArgMatches, Command, Error};
+use norm_base::Memory;
+use std::alloc::{AllocError, Global};
+
+/// `session [--chance N] [--turns N]`.
+pub(crate) fn session_form<'a>(alloc: Global) -> Result<Command<'a>, AllocError>
+    ensures { IfOk result (λ command. app_of command ≡ session_form) }
+{
+    // Texts to `clap`: numbers are read as in a script, because `clap` would take `+5` and `007`.
+    let chance = Arg::new(alloc, "chance").long("chance");
+    let turns = Arg::new(alloc, "turns").long("turns");
+    let command = Command::new(alloc, "session").arg(chance)?.arg(turns)?;
+    Ok(command)
+}
+
+/// `show`.
+pub(crate) fn show_form<'a>(alloc: Global) -> Command<'a>
+    ensures { app_of result ≡ show_form }
+{
+    Command::new(alloc, "show")
+}
+
+/// `generate N`.
+pub(crate) fn generate_form<'a>(alloc: Global) -> Result<Command<'a>, AllocError>
+    ensures { IfOk result (λ command. app_of command ≡ generate_form) }
+{
+    let number = Arg::new(alloc, "N").required(true);
+    let command = Command::new(alloc, "generate").arg(number)?;
+    Ok(command)
+}
+
+/// `send PROFILE [--instance I]`.
+pub(crate) fn send_form<'a>(alloc: Global) -> Result<Command<'a>, AllocError>
+    ensures { IfOk result (λ command. app_of command ≡ send_form) }
+{
+    let profile = Arg::new(alloc, "PROFILE").required(true);
+    let instance = Arg::new(alloc, "instance").long("instance");
+    let command = Command::new(alloc, "send").arg(profile)?.arg(instance)?;
+    Ok(command)
+}
+
+/// `recv PROFILE NODE`.
+pub(crate) fn recv_form<'a>(alloc: Global) -> Result<Command<'a>, AllocError>
+    ensures { IfOk result (λ command. app_of command ≡ recv_form) }
+{
+    let profile = Arg::new(alloc, "PROFILE").required(true);
+    let node = Arg::new(alloc, "NODE").required(true);
+    let command = Command::new(alloc, "recv").arg(profile)?.arg(node)?;
+    Ok(command)
+}
+
+/// `hub PROFILE`.
+pub(crate) fn hub_form<'a>(alloc: Global) -> Result<Command<'a>, AllocError>
+    ensures { IfOk result (λ command. app_of command ≡ hub_form) }
+{
+    let profile = Arg::new(alloc, "PROFILE").required(true);
+    let command = Command::new(alloc, "hub").arg(profile)?;
+    Ok(command)
+}
+
+/// Whether memory was wanted.
+// `clap` takes memory to refuse, so want of memory may come in place of a refusal.
+fn is_memory(error: &Error) -> bool
+    ensures { Decides result (kind_of error.now ≡ ErrorKind.OutOfMemory) }
+{
+    error.kind() == ErrorKind::OutOfMemory
+}
+
+/// What is found in words of a form, of which the first names it. `None` where they are of another form.
+pub(crate) fn found_in<'a>(
+    form: Command<'a>,
+    words: &'a [String],
+) -> Result<Option<ArgMatches<'a>>, Memory>
+    requires { is_simple_and_free (app_of form) ≡ true }
+    ensures { IfOk result (λ found. option_map (λ m. rows_of (found_of m)) found ≡ found_in (app_of form.entry) (map string_bytes words.now)) }
+{
+    match form.try_get_matches_from(words) {
+        Ok(matches) => Ok(Some(matches)),
+        Err(error) => {
+            if is_memory(&error) {
+                return Err(Memory);
+            }
+            Ok(None)
+        }
+    }
+}

@@ -1,0 +1,161 @@
+//! What the words ask for of one node of a session over a network.
+
+ghost use Rattle.std.specs.Prelude.{◌≡◌, map, string_bytes, IfOk, IfSome};
+ghost use Rattle.std.specs.Option.{option_map};
+ghost use Rattle.clap.specs.Words.{rows_of, found_of};
+ghost use Rattle.norm_args.specs.Fits.{FitsInstance, FitsNode};
+ghost use Rattle.norm_args.specs.NodeTasks.{profile_in, instance_in, node_in, send_of, receive_of, send_in, receive_in, hub_in, node_task_of};
+
+use crate::forms::{found_in, hub_form, recv_form, send_form};
+use crate::tasks::{value_given, word_in};
+use clap::ArgMatches;
+use norm_base::{Key, Memory, NodeId, Text};
+use norm_script::number_within;
+use std::alloc::{AllocError, Global};
+
+/// The least and the greatest number of a node.
+// RFC 5740 section 4.1: 0 and 2^32 - 1 name no member. Whether the profile has the node is seen later.
+const NODES: (u32, u32) = (1, u32::MAX - 1);
+
+/// What the program is asked to do as one node of a session over a network. A profile is named by its path, as the shell gives it.
+#[derive(Debug, Drop)]
+pub enum NodeTask {
+    /// To run the sender, and the producers of the script that the input is. An instance that is given, 0 to 65535, stands in place of
+    /// the profile's.
+    Send {
+        profile: Text,
+        instance: Option<u32>,
+    },
+    /// To run the receiver of this id.
+    Receive(Text, NodeId),
+    /// To hand on what members send.
+    Hub(Text),
+}
+
+/// The path of the profile, kept.
+fn profile_in(alloc: Global, matches: &ArgMatches<'_>) -> Result<Option<Text>, AllocError>
+    ensures { IfOk result (λ profile. profile ≡ profile_in (rows_of (found_of matches.now))) }
+{
+    match word_in(matches, "PROFILE") {
+        Some(word) => Ok(Some(Text::of(String::from_str(alloc, word)?))),
+        None => Ok(None),
+    }
+}
+
+/// The instance that an option gives. `None` if its word is no number of an instance.
+fn instance_in(matches: &ArgMatches<'_>) -> Option<Option<u32>>
+    ensures value { result ≡ instance_in (rows_of (found_of matches.now)) }
+    ensures fits { IfSome result FitsInstance }
+{
+    value_given(Key::Instance, word_in(matches, "instance"))
+}
+
+/// The number of the node.
+fn node_in(matches: &ArgMatches<'_>) -> Option<NodeId>
+    ensures { result ≡ node_in (rows_of (found_of matches.now)) }
+{
+    let word = word_in(matches, "NODE")?;
+    let number = number_within(word.as_bytes(), NODES.0, NODES.1)?;
+    NodeId::of(number)
+}
+
+/// The path, and the instance if one is given. `None` if another word stands in its place.
+fn send_of(profile: Option<Text>, given: Option<Option<u32>>) -> Option<NodeTask>
+    requires { IfSome given FitsInstance }
+    ensures task { result ≡ send_of profile given }
+    ensures fits { IfSome result FitsNode }
+{
+    match profile {
+        Some(profile) => match given {
+            Some(instance) => Some(NodeTask::Send { profile, instance }),
+            None => None,
+        },
+        None => None,
+    }
+}
+
+/// Both words, where the second is the number of a node.
+fn receive_of(profile: Option<Text>, node: Option<NodeId>) -> Option<NodeTask>
+    ensures task { result ≡ receive_of profile node }
+    ensures fits { IfSome result FitsNode }
+{
+    match profile {
+        Some(profile) => match node {
+            Some(node) => Some(NodeTask::Receive(profile, node)),
+            None => None,
+        },
+        None => None,
+    }
+}
+
+/// What words ask for whose first is `send`.
+fn send_in(alloc: Global, words: &[String]) -> Result<Option<NodeTask>, Memory>
+    ensures task { IfOk result (λ task. task ≡ send_in (map string_bytes words.now)) }
+    ensures fits { IfOk result (λ task. IfSome task FitsNode) }
+{
+    let form = send_form(alloc)?;
+    match found_in(form, words)? {
+        Some(matches) => {
+            let profile = profile_in(alloc, &matches)?;
+            Ok(send_of(profile, instance_in(&matches)))
+        }
+        None => Ok(None),
+    }
+}
+
+/// What words ask for whose first is `recv`.
+fn receive_in(alloc: Global, words: &[String]) -> Result<Option<NodeTask>, Memory>
+    ensures task { IfOk result (λ task. task ≡ receive_in (map string_bytes words.now)) }
+    ensures fits { IfOk result (λ task. IfSome task FitsNode) }
+{
+    let form = recv_form(alloc)?;
+    match found_in(form, words)? {
+        Some(matches) => {
+            let profile = profile_in(alloc, &matches)?;
+            Ok(receive_of(profile, node_in(&matches)))
+        }
+        None => Ok(None),
+    }
+}
+
+/// What words ask for whose first is `hub`.
+fn hub_in(alloc: Global, words: &[String]) -> Result<Option<NodeTask>, Memory>
+    ensures task { IfOk result (λ task. task ≡ hub_in (map string_bytes words.now)) }
+    ensures fits { IfOk result (λ task. IfSome task FitsNode) }
+{
+    let form = hub_form(alloc)?;
+    match found_in(form, words)? {
+        Some(matches) => match profile_in(alloc, &matches)? {
+            Some(profile) => Ok(Some(NodeTask::Hub(profile))),
+            None => Ok(None),
+        },
+        None => Ok(None),
+    }
+}
+
+/// What the words behind the program's name ask for of one node: `send PROFILE [--instance I]` with an instance of 0 to 65535, `recv PROFILE
+/// NODE` with a node of 1 to 4294967294, or `hub PROFILE`. `None` where they are of none of these forms, a request for help included.
+///
+/// # Errors
+///
+/// `Memory` where memory runs out.
+#[tactic(auto, unfolding(crate::specs::NodeTasks::node_task_of))]
+pub fn node_task_of(alloc: Global, words: &[String]) -> Result<Option<NodeTask>, Memory>
+    ensures task { IfOk result (λ task. task ≡ node_task_of (map string_bytes words.now)) }
+    ensures fits { IfOk result (λ task. IfSome task FitsNode) }
+{
+    let Some(first) = words.first() else {
+        return Ok(None);
+    };
+    let first = first.as_bytes();
+    if first == b"send".as_slice() {
+        return send_in(alloc, words);
+    }
+    if first == b"recv".as_slice() {
+        return receive_in(alloc, words);
+    }
+    if first == b"hub".as_slice() {
+        return hub_in(alloc, words);
+    }
+    Ok(None)
+}

@@ -1,0 +1,157 @@
+//! What the words ask for.
+
+ghost use Rattle.std.specs.Prelude.{◌≡◌, map, string_bytes, IfOk, IfSome};
+ghost use Rattle.std.specs.Option.{option_map};
+ghost use Rattle.clap.specs.Words.{rows_of, found_of, first_of};
+ghost use Rattle.norm_base.specs.Keys.{IsValue};
+ghost use Rattle.norm_args.specs.Fits.{FitsOptions, FitsTask};
+ghost use Rattle.norm_args.specs.Tasks.{value_given, options_with, options_in, number_in, session_in, show_in, generate_in, task_of};
+
+use crate::forms::{found_in, generate_form, session_form, show_form};
+use clap::ArgMatches;
+use norm_base::{Key, Memory};
+use norm_script::number_within;
+use std::alloc::Global;
+
+/// What the options of a session put in place of its script's keys.
+#[derive(Clone, Copy, Debug)]
+pub struct Options {
+    /// The seed of the network's and the session's draws.
+    pub chance: Option<u32>,
+    /// The last turn.
+    pub turns: Option<u32>,
+}
+
+/// What the program is asked to do.
+#[derive(Clone, Copy, Debug)]
+pub enum Task {
+    /// To run the session of the script that the input is.
+    Session(Options),
+    /// To show the datagrams of the input.
+    Show,
+    /// To write the script that is made of this number.
+    Generate(u32),
+}
+
+/// The value of a key that an option may give. `None` where the option's word is no number that the key may have.
+pub(crate) fn value_given(key: Key, word: Option<&str>) -> Option<Option<u32>>
+    ensures value { result ≡ value_given key (option_map (λ w. w.now) word.entry) }
+    ensures fits { IfSome result (λ given. IfSome given (IsValue key)) }
+{
+    let Some(word) = word else {
+        return Some(None);
+    };
+    let row = key.row();
+    let value = number_within(word.as_bytes(), row.least, row.greatest)?;
+    Some(Some(value))
+}
+
+/// The value of an option, or the word that stands in a place.
+pub(crate) fn word_in<'a>(matches: &ArgMatches<'a>, name: &str) -> Option<&'a str>
+    ensures { option_map (λ w. w.now) result ≡ first_of name.now (rows_of (found_of matches.now)) }
+{
+    matches.get_str(name)
+}
+
+/// Both options, where each is none or a number that its key may have.
+fn options_with(chance: Option<Option<u32>>, turns: Option<Option<u32>>) -> Option<Options>
+    requires chance { IfSome chance (λ given. IfSome given (IsValue Key.Chance)) }
+    requires turns { IfSome turns (λ given. IfSome given (IsValue Key.Turns)) }
+    ensures value { result ≡ options_with chance turns }
+    ensures fits { IfSome result FitsOptions }
+{
+    match chance {
+        Some(chance) => match turns {
+            Some(turns) => Some(Options { chance, turns }),
+            None => None,
+        },
+        None => None,
+    }
+}
+
+/// The options of a session.
+fn options_in(matches: &ArgMatches<'_>) -> Option<Options>
+    ensures value { result ≡ options_in (rows_of (found_of matches.now)) }
+    ensures fits { IfSome result FitsOptions }
+{
+    let chance = value_given(Key::Chance, word_in(matches, "chance"));
+    let turns = value_given(Key::Turns, word_in(matches, "turns"));
+    options_with(chance, turns)
+}
+
+/// The number that a script is made of.
+fn number_in(matches: &ArgMatches<'_>) -> Option<u32>
+    ensures { result ≡ number_in (rows_of (found_of matches.now)) }
+{
+    match word_in(matches, "N") {
+        Some(word) => number_within(word.as_bytes(), 0, u32::MAX),
+        None => None,
+    }
+}
+
+/// What words ask for whose first is `session`.
+fn session_in(alloc: Global, words: &[String]) -> Result<Option<Task>, Memory>
+    ensures task { IfOk result (λ task. task ≡ session_in (map string_bytes words.now)) }
+    ensures fits { IfOk result (λ task. IfSome task FitsTask) }
+{
+    let form = session_form(alloc)?;
+    match found_in(form, words)? {
+        Some(matches) => match options_in(&matches) {
+            Some(options) => Ok(Some(Task::Session(options))),
+            None => Ok(None),
+        },
+        None => Ok(None),
+    }
+}
+
+/// What words ask for whose first is `show`.
+fn show_in(alloc: Global, words: &[String]) -> Result<Option<Task>, Memory>
+    ensures task { IfOk result (λ task. task ≡ show_in (map string_bytes words.now)) }
+    ensures fits { IfOk result (λ task. IfSome task FitsTask) }
+{
+    match found_in(show_form(alloc), words)? {
+        Some(_) => Ok(Some(Task::Show)),
+        None => Ok(None),
+    }
+}
+
+/// What words ask for whose first is `generate`.
+fn generate_in(alloc: Global, words: &[String]) -> Result<Option<Task>, Memory>
+    ensures task { IfOk result (λ task. task ≡ generate_in (map string_bytes words.now)) }
+    ensures fits { IfOk result (λ task. IfSome task FitsTask) }
+{
+    let form = generate_form(alloc)?;
+    match found_in(form, words)? {
+        Some(matches) => match number_in(&matches) {
+            Some(number) => Ok(Some(Task::Generate(number))),
+            None => Ok(None),
+        },
+        None => Ok(None),
+    }
+}
+
+/// What the words behind the program's name ask for. `None` where they are of no form of the program.
+///
+/// # Errors
+///
+/// `Memory` where memory runs out.
+#[tactic(auto, unfolding(crate::specs::Tasks::task_of))]
+pub fn task_of(alloc: Global, words: &[String]) -> Result<Option<Task>, Memory>
+    ensures task { IfOk result (λ task. task ≡ task_of (map string_bytes words.now)) }
+    ensures fits { IfOk result (λ task. IfSome task FitsTask) }
+{
+    let Some(first) = words.first() else {
+        return Ok(None);
+    };
+    let first = first.as_bytes();
+    if first == b"session".as_slice() {
+        return session_in(alloc, words);
+    }
+    if first == b"show".as_slice() {
+        return show_in(alloc, words);
+    }
+    if first == b"generate".as_slice() {
+        return generate_in(alloc, words);
+    }
+    Ok(None)
+}
