@@ -1,4 +1,4 @@
-//! What symbols are kept in: octets behind one another, or a row for each symbol.
+//! Where the octets of symbols are: behind one another, or each symbol in a row of its own.
 
 ghost use Rattle.std.specs.Prelude.{ℕ, List, ◌≡◌, ◌≢◌, ◌<◌, ◌≤◌, ◌*◌, ◌+◌, EachIndex, length, slice_index};
 ghost use Rattle.std.specs.List.{concat};
@@ -8,12 +8,13 @@ use crate::interpolation::symbol_at;
 use crate::row::Row;
 
 /// A piece of what symbols of one size are kept in: an octet of one, or the row of one.
+// The trait is of what lies in a slice, since a type parameter cannot be a slice.
 // Proof: rows count as their octets one after the other, so the lemmas on one long buffer serve both.
 pub trait Piece {
     /// The octets of the symbols, behind one another.
     ghost octets: { List Self → List ℕ };
 
-    /// The pieces of so many symbols of so many octets.
+    /// These pieces are this many symbols of this many octets.
     ghost are_symbols: { ℕ → ℕ → List Self → Type 0 };
 
     /// The octets of symbol `i`.

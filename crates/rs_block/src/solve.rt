@@ -25,6 +25,8 @@ pub struct Solver {
     places: Vec<u8>,
     weights: Vec<u8>,
     row: Vec<u8>,
+    /// The symbols that do not lie at their own places.
+    aside: Vec<u8>,
 }
 
 impl Model for Solver {
@@ -34,7 +36,7 @@ impl Model for Solver {
 
     ghost view = { λ s. record { k = s.k; size = s.size } };
 
-    ghost invariant = { λ s. SolverSound s.k s.size s.places.items s.weights.items s.row.items };
+    ghost invariant = { λ s. SolverSound s.k s.size s.places.items s.weights.items s.row.items s.aside.items };
 }
 
 impl Solver {
@@ -54,24 +56,25 @@ impl Solver {
         let places = room_for(alloc, k).map_err(|_| Memory)?;
         let weights = room_for(alloc, k).map_err(|_| Memory)?;
         let row = room_for(alloc, k).map_err(|_| Memory)?;
+        let aside = vec![in alloc; 0; usize::from(k) * size]?;
         Ok(Solver {
             k,
             size,
             places,
             weights,
             row,
+            aside,
         })
     }
 
     /// Puts the source symbols of a block of at most k of them into their places of the row in which as many of its symbols
     /// lie: `ids` are the ids of these, place by place. A place whose symbol is its own is not written, so a block costs a copy
-    /// of what lies at the others, and a sum for each. `scratch` is room for the row. It takes no memory and cannot fail.
-    pub fn solve_in(&mut self, ids: &[u8], row: &mut [u8], scratch: &mut [u8])
+    /// of what lies at the others, and a sum for each. It takes no memory and cannot fail.
+    pub fn solve_in(&mut self, ids: &[u8], row: &mut [u8])
         requires some { 1 ≤ length ids.now }
         requires few { length ids.now ≤ self.old.k }
         requires ids { AreIds (length ids.now) 255 ids.now }
         requires row { length row.old ≡ length ids.now * self.old.size }
-        requires room { length row.old ≤ length scratch.old }
         ensures sources { AreSources (length ids.now) self.old.size ids.now row.old row.new }
         ensures same { self.new ≡ self.old }
     {
@@ -82,19 +85,18 @@ impl Solver {
             &mut self.places,
             &mut self.weights,
             &mut self.row,
-            scratch,
+            &mut self.aside,
             row,
         );
     }
 
-    /// The same for symbols in rows of their own: puts the source symbols of the block into its rows, row by row. `aside` is room
-    /// for as many symbols, behind one another. A row whose symbol is its own is not written. It takes no memory and cannot fail.
-    pub fn solve_rows(&mut self, ids: &[u8], rows: &mut [Row], aside: &mut [u8])
+    /// The same for symbols in rows of their own: puts the source symbols of the block into its rows, row by row. A row
+    /// whose symbol is its own is not written. It takes no memory and cannot fail.
+    pub fn solve_rows(&mut self, ids: &[u8], rows: &mut [Row])
         requires some { 1 ≤ length ids.now }
         requires few { length ids.now ≤ self.old.k }
         requires ids { AreIds (length ids.now) 255 ids.now }
         requires rows { AreSymbols (length ids.now) self.old.size rows.old }
-        requires room { length ids.now * self.old.size ≤ length aside.old }
         ensures sources { rows.new ≡ solved_sources self.old.size ids.now rows.old }
         ensures symbols { AreSymbols (length ids.now) self.old.size rows.new }
         ensures same { self.new ≡ self.old }
@@ -105,7 +107,7 @@ impl Solver {
             &mut self.places,
             &mut self.weights,
             &mut self.row,
-            aside,
+            &mut self.aside,
             rows,
         );
     }

@@ -186,12 +186,12 @@ sum_least g [] i seat e = absurd (cc)
 sum_least g (x ∷ ring) zero seat e = (let same : g x ≡ g (Some seat) = ap g e in omega (arith, same, sum_by-cons g x ring))
 sum_least g (x ∷ ring) (suc i) seat e = (let rest = sum_least g ring i seat e in omega (arith, rest, sum_by-cons g x ring))
 
-pub may_offer : (f : Front) (i block : ℕ) (solver scratch : SolverState) → IsFront f → HasRoom 1 f → (i ≡ 0 → (point_of_front f).block ≤ block)
-    → solver ≡ record { k = f.profile.b; size = f.profile.e } → scratch ≡ record { k = f.profile.b; size = f.profile.e + 8 }
-    → MatchOption (at_place f.ring.items i) ⊤ (λ (seat : Seat). MayOffer seat block solver scratch)
-may_offer f i block solver scratch front room reached lent streams = go (at_place f.ring.items i) refl
+pub may_offer : (f : Front) (i block : ℕ) (solver stream_solver : SolverState) → IsFront f → HasRoom 1 f → (i ≡ 0 → (point_of_front f).block ≤ block)
+    → solver ≡ record { k = f.profile.b; size = f.profile.e } → stream_solver ≡ record { k = f.profile.b; size = f.profile.e + 8 }
+    → MatchOption (at_place f.ring.items i) ⊤ (λ (seat : Seat). MayOffer seat block solver stream_solver)
+may_offer f i block solver stream_solver front room reached lent streams = go (at_place f.ring.items i) refl
   where
-    go : (found : Option Seat) → at_place f.ring.items i ≡ found → MatchOption found ⊤ (λ (seat : Seat). MayOffer seat block solver scratch)
+    go : (found : Option Seat) → at_place f.ring.items i ≡ found → MatchOption found ⊤ (λ (seat : Seat). MayOffer seat block solver stream_solver)
     go None e = tt
     go (Some seat) e =
         let is = front.seats i seat e in

@@ -6,11 +6,11 @@ use Rattle.rx_hold.specs.EntryHold.{EntryHold}
 use Rattle.rx_hold.specs.FrontSound.{IsFront, front_view}
 use Rattle.rx_hold.specs.declared.hold.Hold.TheInside.{Inside}
 
--- besides what its front keeps, there is room to solve the blocks of either kind
+-- besides what its front keeps, there is a solver of the blocks of either kind
 pub record IsSoundHold (h : Inside) : Type 0 where
   pub front : IsFront h.front
-  pub room : h.room ≡ record { k = h.front.profile.b; size = h.front.profile.e }
-  pub scratch : h.scratch ≡ record { k = h.front.profile.b; size = h.front.profile.e + 8 }
+  pub solver : h.solver ≡ record { k = h.front.profile.b; size = h.front.profile.e }
+  pub stream_solver : h.stream_solver ≡ record { k = h.front.profile.b; size = h.front.profile.e + 8 }
 
 abbrev pub hold_view : Inside → EntryHold
 hold_view h = front_view h.front

@@ -67,12 +67,12 @@ counted true put.Away = 0
 counted true put.Unfit = 0
 counted false word = 0
 
--- A symbol of a block may be offered, where there is such room to solve blocks of data and files, and of streams.
-pub record MayOffer (seat : Seat) (block : ℕ) (room scratch : SolverState) : Type 0 where
+-- A symbol of a block may be offered, with such solvers of blocks of data and files, and of streams.
+pub record MayOffer (seat : Seat) (block : ℕ) (solver stream_solver : SolverState) : Type 0 where
   pub kind : IsOfKind seat.entry
   pub reached : (entry_of seat.entry).point.block ≤ block
-  pub lent : room ≡ record { k = (entry_of seat.entry).plan.fti.b; size = (entry_of seat.entry).plan.fti.e }
-  pub streams : scratch ≡ record { k = (entry_of seat.entry).plan.fti.b; size = (entry_of seat.entry).plan.fti.e + 8 }
+  pub lent : solver ≡ record { k = (entry_of seat.entry).plan.fti.b; size = (entry_of seat.entry).plan.fti.e }
+  pub streams : stream_solver ≡ record { k = (entry_of seat.entry).plan.fti.b; size = (entry_of seat.entry).plan.fti.e + 8 }
   pub count : seat.waiting + 1 < 2 ^ 64
 
 -- a symbol was offered that got this word

@@ -20,8 +20,9 @@ use fec_plan::{PayloadId, Plan};
 use norm_base::{Memory, Octets};
 use norm_ext::Fti;
 use norm_receive_rules::Put;
-use rx_object::{Object, Room};
-use rx_stream::{Scratch, Stream};
+use rs_block::Solver;
+use rx_object::Object;
+use rx_stream::Stream;
 
 /// What is held of data or a file, or of a stream.
 #[derive(Debug, Drop)]
@@ -148,7 +149,7 @@ impl Entry {
     }
 
     /// A symbol comes, of a block that was not handed up whole: it is kept where it is news, and a block of which none is
-    /// lacking then is solved: of data or a file in `room`, and of a stream in `scratch`.
+    /// lacking then is solved: of data or a file by `solver`, and of a stream by `stream_solver`.
     ///
     /// # Errors
     ///
@@ -157,24 +158,24 @@ impl Entry {
         &mut self,
         id: PayloadId,
         payload: &[u8],
-        room: &mut Room,
-        scratch: &mut Scratch,
+        solver: &mut Solver,
+        stream_solver: &mut Solver,
     ) -> Result<Put, Memory>
         requires kind { IsOfKind self.old }
         requires reached { (entry_of self.old).point.block ≤ id.block }
-        requires room { room.old ≡ record { k = (entry_of self.old).plan.fti.b; size = (entry_of self.old).plan.fti.e } }
-        requires scratch { scratch.old ≡ record { k = (entry_of self.old).plan.fti.b; size = (entry_of self.old).plan.fti.e + 8 } }
+        requires solver { solver.old ≡ record { k = (entry_of self.old).plan.fti.b; size = (entry_of self.old).plan.fti.e } }
+        requires stream_solver { stream_solver.old ≡ record { k = (entry_of self.old).plan.fti.b; size = (entry_of self.old).plan.fti.e + 8 } }
         ensures word { IfOk result (λ word. (p : Settings) → IsOfProfile p (entry_of self.old)
             → word ≡ put_by p (alone_in (entry_of self.old)) (entry_of self.old).plan (position (entry_of self.old).plan.index id.block id.symbol) payload.now) }
         ensures state { IfOk result (λ word. entry_of self.new ≡ with_word word id.block id.symbol payload.now (entry_of self.old)) }
         ensures refused { OnErr result (entry_of self.new ≡ entry_of self.old) }
         ensures kind { IsOfKind self.new }
-        ensures room { room.new ≡ room.old }
-        ensures scratch { scratch.new ≡ scratch.old }
+        ensures solver { solver.new ≡ solver.old }
+        ensures stream_solver { stream_solver.new ≡ stream_solver.old }
     {
         match self {
-            Entry::Object(object) => Ok(object.offer(id.block, id.symbol, payload, room)),
-            Entry::Stream(stream) => stream.offer(id.block, id.symbol, payload, scratch),
+            Entry::Object(object) => Ok(object.offer(id.block, id.symbol, payload, solver)),
+            Entry::Stream(stream) => stream.offer(id.block, id.symbol, payload, stream_solver),
         }
     }
 }

@@ -22,8 +22,7 @@ use norm_ext::flags::INFO;
 use norm_ext::items::has_flag;
 use norm_order::Up;
 use norm_receive_rules::{Missing, Put};
-use rx_object::Room;
-use rx_stream::Scratch;
+use rs_block::Solver;
 use std::alloc::Global;
 use std::collections::VecDeque;
 
@@ -200,26 +199,26 @@ impl Front {
         place: usize,
         id: PayloadId,
         payload: &[u8],
-        room: &mut Room,
-        scratch: &mut Scratch,
+        solver: &mut Solver,
+        stream_solver: &mut Solver,
     ) -> Result<Put, Memory>
         requires front { IsFront self.old }
         requires room { HasRoom 1 self.old }
         requires place { place < 256 }
         requires reached { place ≡ 0 → (point_of_front self.old).block ≤ id.block }
-        requires lent { room.old ≡ record { k = self.old.profile.b; size = self.old.profile.e } }
-        requires scratch { scratch.old ≡ record { k = self.old.profile.b; size = self.old.profile.e + 8 } }
+        requires solver { solver.old ≡ record { k = self.old.profile.b; size = self.old.profile.e } }
+        requires stream_solver { stream_solver.old ≡ record { k = self.old.profile.b; size = self.old.profile.e + 8 } }
         ensures sound { IsFront self.new }
         ensures profile { self.new.profile ≡ self.old.profile }
         ensures state { IfOk result (λ word. (s : Holding) → StandsFor (front_view self.old) s
             → (word ≡ put_of self.old.profile s (position (self.old.point + place) id.block id.symbol) payload.now)
             × StandsFor (front_view self.new) (with_symbol word (position (self.old.point + place) id.block id.symbol) payload.now s)) }
         ensures refused { OnErr result (front_view self.new ≡ front_view self.old) }
-        ensures lent { room.new ≡ room.old }
-        ensures scratch { scratch.new ≡ scratch.old }
+        ensures solver { solver.new ≡ solver.old }
+        ensures stream_solver { stream_solver.new ≡ stream_solver.old }
     {
         let is_stream = is_stream_at(&self.ring, place);
-        let word = offer_at(&mut self.ring, place, id, payload, room, scratch)?;
+        let word = offer_at(&mut self.ring, place, id, payload, solver, stream_solver)?;
         self.waiting += counted(is_stream, word);
         Ok(word)
     }
@@ -319,20 +318,20 @@ impl Front {
         index: u32,
         id: PayloadId,
         payload: &[u8],
-        room: &mut Room,
-        scratch: &mut Scratch,
+        solver: &mut Solver,
+        stream_solver: &mut Solver,
     ) -> Result<Put, Memory>
         requires front { IsFront self.old }
-        requires lent { room.old ≡ record { k = self.old.profile.b; size = self.old.profile.e } }
-        requires scratch { scratch.old ≡ record { k = self.old.profile.b; size = self.old.profile.e + 8 } }
+        requires solver { solver.old ≡ record { k = self.old.profile.b; size = self.old.profile.e } }
+        requires stream_solver { stream_solver.old ≡ record { k = self.old.profile.b; size = self.old.profile.e + 8 } }
         ensures sound { IsFront self.new }
         ensures profile { self.new.profile ≡ self.old.profile }
         ensures state { IfOk result (λ word. (s : Holding) → StandsFor (front_view self.old) s
             → (word ≡ put_of self.old.profile s (position index id.block id.symbol) payload.now)
             × StandsFor (front_view self.new) (with_symbol word (position index id.block id.symbol) payload.now s)) }
         ensures refused { OnErr result (front_view self.new ≡ front_view self.old) }
-        ensures lent { room.new ≡ room.old }
-        ensures scratch { scratch.new ≡ scratch.old }
+        ensures solver { solver.new ≡ solver.old }
+        ensures stream_solver { stream_solver.new ≡ stream_solver.old }
     {
         if index < self.point {
             return Ok(Put::Had);
@@ -347,6 +346,6 @@ impl Front {
         }
         // Before the symbol is kept, so that handing it up takes no memory.
         self.reserve(1)?;
-        self.offer(place, id, payload, room, scratch)
+        self.offer(place, id, payload, solver, stream_solver)
     }
 }

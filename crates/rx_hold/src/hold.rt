@@ -31,8 +31,7 @@ use norm_base::{Memory, Profile};
 use norm_ext::Fti;
 use norm_order::Up;
 use norm_receive_rules::{Fit, Missing, Put};
-use rx_object::Room;
-use rx_stream::Scratch;
+use rs_block::Solver;
 use std::alloc::Global;
 use std::collections::VecDeque;
 use std::marker::Model;
@@ -47,11 +46,11 @@ const SEGMENT_PLACE: usize = 8;
 pub struct Hold {
     alloc: Global,
     front: Front,
-    /// Room to solve the blocks of data and files.
-    room: Room,
-    /// Room to solve those of streams.
-    // Two rooms, because a segment is coded with its place and so has eight octets more than a symbol of data or a file.
-    scratch: Scratch,
+    /// Solves the blocks of data and files.
+    solver: Solver,
+    /// Solves those of streams.
+    // Two solvers, because a segment is coded with its place and so has eight octets more than a symbol of data or a file.
+    stream_solver: Solver,
 }
 
 impl Model for Hold {
@@ -81,8 +80,8 @@ impl Hold {
         let mut ring = VecDeque::with_capacity(alloc, PLACES)?;
         fill(&mut ring);
         let size = usize::from(profile.e);
-        let room = Room::new(alloc, profile.b, size)?;
-        let scratch = Scratch::new(alloc, profile.b, size + SEGMENT_PLACE)?;
+        let solver = Solver::new(alloc, profile.b, size)?;
+        let stream_solver = Solver::new(alloc, profile.b, size + SEGMENT_PLACE)?;
         Ok(Hold {
             alloc,
             front: Front {
@@ -94,8 +93,8 @@ impl Hold {
                 ups: VecDeque::new(alloc),
                 lost: false,
             },
-            room,
-            scratch,
+            solver,
+            stream_solver,
         })
     }
 
@@ -274,8 +273,13 @@ impl Hold {
             × StandsFor self.new (with_symbol word (position index id.block id.symbol) payload.now s)) }
         ensures refused { OnErr result (self.new ≡ self.old) }
     {
-        self.front
-            .put(index, id, payload, &mut self.room, &mut self.scratch)
+        self.front.put(
+            index,
+            id,
+            payload,
+            &mut self.solver,
+            &mut self.stream_solver,
+        )
     }
 
     /// The transmission information of an object, and its flags, come: where they fit and are new, the object is taken up. Data and

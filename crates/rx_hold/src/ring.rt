@@ -10,8 +10,7 @@ use crate::entry::Entry;
 use fec_plan::PayloadId;
 use norm_base::{Memory, Octets};
 use norm_receive_rules::Put;
-use rx_object::Room;
-use rx_stream::Scratch;
+use rs_block::Solver;
 use std::collections::VecDeque;
 
 /// How many objects are taken up from the hand-up point on.
@@ -81,18 +80,18 @@ impl Seat {
         &mut self,
         id: PayloadId,
         payload: &[u8],
-        room: &mut Room,
-        scratch: &mut Scratch,
+        solver: &mut Solver,
+        stream_solver: &mut Solver,
     ) -> Result<Put, Memory>
-        requires { MayOffer self.old id.block room.old scratch.old }
+        requires { MayOffer self.old id.block solver.old stream_solver.old }
         ensures word { IfOk result (λ word. GetsWord (Some self.old) word id.block id.symbol payload.now) }
         ensures offered { IfOk result (λ word. IsOffered word id.block id.symbol payload.now self.old self.new) }
         ensures refused { OnErr result (IsSame self.old self.new) }
-        ensures room { room.new ≡ room.old }
-        ensures scratch { scratch.new ≡ scratch.old }
+        ensures solver { solver.new ≡ solver.old }
+        ensures stream_solver { stream_solver.new ≡ stream_solver.old }
     {
         let is_stream = self.entry.says_stream();
-        let word = self.entry.offer(id, payload, room, scratch)?;
+        let word = self.entry.offer(id, payload, solver, stream_solver)?;
         self.waiting += counted(is_stream, word);
         Ok(word)
     }
@@ -121,20 +120,20 @@ pub fn offer_at(
     place: usize,
     id: PayloadId,
     payload: &[u8],
-    room: &mut Room,
-    scratch: &mut Scratch,
+    solver: &mut Solver,
+    stream_solver: &mut Solver,
 ) -> Result<Put, Memory>
     requires place { place < length ring.old.items }
-    requires may { MatchOption (at_place ring.old.items place) ⊤ (λ seat. MayOffer seat id.block room.old scratch.old) }
+    requires may { MatchOption (at_place ring.old.items place) ⊤ (λ seat. MayOffer seat id.block solver.old stream_solver.old) }
     ensures word { IfOk result (λ word. GetsWord (at_place ring.old.items place) word id.block id.symbol payload.now) }
     ensures items { IfOk result (λ word. Becomes ring.old.items ring.new.items place (IsOffered word id.block id.symbol payload.now)) }
     ensures refused { OnErr result (Becomes ring.old.items ring.new.items place IsSame) }
     ensures capacity { deque_capacity ring.new ≡ deque_capacity ring.old }
-    ensures room { room.new ≡ room.old }
-    ensures scratch { scratch.new ≡ scratch.old }
+    ensures solver { solver.new ≡ solver.old }
+    ensures stream_solver { stream_solver.new ≡ stream_solver.old }
 {
     match &mut ring[place] {
-        Some(seat) => seat.offer(id, payload, room, scratch),
+        Some(seat) => seat.offer(id, payload, solver, stream_solver),
         // Without a plan it is not known how the object is cut.
         None => Ok(Put::Away),
     }

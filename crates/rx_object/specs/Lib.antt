@@ -5,4 +5,3 @@ pub mod Rows
 pub mod RowsSound
 pub mod ObjectState
 pub mod ObjectSound
-pub mod RoomSound

@@ -1,5 +1,5 @@
 -- What an object keeps, and what it is seen as.
-use Rattle.std.specs.Prelude.{ℕ, ◌≡◌, ◌<◌, ◌≤◌, ◌+◌, List, length, false, nat_lt, Option, Some, slice_index}
+use Rattle.std.specs.Prelude.{ℕ, ◌≡◌, ◌<◌, ◌+◌, List, length, false, nat_lt, Option, Some, slice_index}
 use Rattle.fec_plan.specs.Partition.{Cut, blocks, source_symbols}
 use Rattle.norm_receive_rules.specs.Holding.{Plan, new_plan}
 use Rattle.norm_receive_rules.specs.Plans.{cut_of_plan, says_stream}

@@ -8,8 +8,8 @@ ghost use Rattle.rs_block.specs.Codeword.{AreSources};
 ghost use Rattle.norm_order.specs.Symbols.{padded};
 ghost use Rattle.rx_object.specs.Places.{AreApart, free_places, has_id, pieces, symbol_in, with_one};
 
-use crate::room::Room;
 use norm_order::put_padded;
+use rs_block::Solver;
 
 /// The id of a place where no symbol lies.
 // No symbol has this id: a block has at most 255 encoded symbols (RFC 5510 section 8), with the ids 0 to 254.
@@ -69,27 +69,27 @@ fn are_own(ids: &[u8]) -> bool
 }
 
 /// Puts the source symbols of a block of which no place is free into their places.
-fn solve(room: &mut Room, ids: &[u8], row: &mut [u8])
+fn solve(solver: &mut Solver, ids: &[u8], row: &mut [u8])
     requires some { 1 ≤ length ids.now }
-    requires few { length ids.now ≤ room.old.k }
+    requires few { length ids.now ≤ solver.old.k }
     requires apart { AreApart ids.now }
     requires full { free_places ids.now ≡ 0 }
-    requires row { length row.old ≡ length ids.now * room.old.size }
-    ensures sources { AreSources (length ids.now) room.old.size ids.now row.old row.new }
+    requires row { length row.old ≡ length ids.now * solver.old.size }
+    ensures sources { AreSources (length ids.now) solver.old.size ids.now row.old row.new }
     ensures different { AreIds (length ids.now) 255 ids.now }
-    ensures same { room.new ≡ room.old }
+    ensures same { solver.new ≡ solver.old }
 {
     if are_own(ids) {
         return;
     }
-    room.solve_in(ids, row);
+    solver.solve_in(ids, row);
 }
 
 /// Puts a symbol that is new into a block that lacks so many. As the last one that is lacking comes, the block's source
-/// symbols come to lie at their places. There is room to solve blocks of as many source symbols of this size.
+/// symbols come to lie at their places. The solver is for blocks of at least as many source symbols of this size.
 // Proof: what is held is a function of ids, so one more symbol changes one value, and no order of arrival counts.
 pub fn put(
-    room: &mut Room,
+    solver: &mut Solver,
     ids: &mut [u8],
     row: &mut [u8],
     size: usize,
@@ -97,8 +97,8 @@ pub fn put(
     payload: &[u8],
     lacking: u8,
 )
-    requires size { room.old.size ≡ size }
-    requires few { length ids.old ≤ room.old.k }
+    requires size { solver.old.size ≡ size }
+    requires few { length ids.old ≤ solver.old.k }
     requires most { length ids.old ≤ 255 }
     requires id { symbol < 255 }
     requires new { has_id symbol ids.old ≡ false }
@@ -110,11 +110,11 @@ pub fn put(
     ensures symbols { (id : ℕ) → id < 255 → symbol_in size ids.new row.new id ≡ with_one symbol (padded size payload.now) (symbol_in size ids.old row.old) id }
     ensures lacks { free_places ids.old ≡ free_places ids.new + 1 }
     ensures apart { AreApart ids.new }
-    ensures same { room.new ≡ room.old }
+    ensures same { solver.new ≡ solver.old }
 {
     keep(ids, row, size, symbol, payload);
     if lacking > 1 {
         return;
     }
-    solve(room, ids, row);
+    solve(solver, ids, row);
 }

@@ -20,7 +20,6 @@ ghost use Rattle.rx_object.specs.Rows.{block_ids, coded_symbol, with_coded, star
 ghost use Rattle.short_blocks.specs.State.{is_short, settled};
 
 use crate::block::FREE;
-use crate::room::Room;
 use crate::rows::Rows;
 use fec_plan::Plan;
 use norm_base::{Kind, Memory, Octets};
@@ -29,6 +28,7 @@ use norm_ext::flags::{FILE, INFO};
 use norm_ext::items::has_flag;
 use norm_order::Up;
 use norm_receive_rules::Put;
+use rs_block::Solver;
 use short_blocks::Shorts;
 use std::alloc::Global;
 use std::marker::Model;
@@ -263,28 +263,28 @@ impl Object {
     }
 
     /// Keeps a symbol that is not held, of a block that is not done.
-    fn put(&mut self, block: u32, symbol: u8, payload: &[u8], room: &mut Room)
+    fn put(&mut self, block: u32, symbol: u8, payload: &[u8], solver: &mut Solver)
         requires id { symbol < 255 }
         requires new { holds (alone self.old) (position self.old.plan.index block symbol) ≡ false }
         requires lacks { is_done (alone self.old) self.old.plan block ≡ false }
         requires fits { is_payload (cut_of_plan self.old.plan) block symbol payload.now ≡ true }
-        requires room { room.old ≡ record { k = self.old.plan.fti.b; size = self.old.plan.fti.e } }
+        requires solver { solver.old ≡ record { k = self.old.plan.fti.b; size = self.old.plan.fti.e } }
         ensures state { self.new ≡ offered_to put.Kept block symbol payload.now self.old }
-        ensures same { room.new ≡ room.old }
+        ensures same { solver.new ≡ solver.old }
     {
         let lacking = self.lacking(block);
-        self.rows.put(block, symbol, payload, lacking, room);
+        self.rows.put(block, symbol, payload, lacking, solver);
         self.counts[block as usize] += 1;
         note(&mut self.shorts, block, lacking);
     }
 
-    /// A symbol of the object comes: it is kept where it is news, and a block that is done by it is solved in the room that is
-    /// lent. It takes no memory.
-    pub fn offer(&mut self, block: u32, symbol: u8, payload: &[u8], room: &mut Room) -> Put
-        requires room { room.old ≡ record { k = self.old.plan.fti.b; size = self.old.plan.fti.e } }
+    /// A symbol of the object comes: it is kept where it is news, and a block that is done by it is solved by the solver that
+    /// is lent. It takes no memory.
+    pub fn offer(&mut self, block: u32, symbol: u8, payload: &[u8], solver: &mut Solver) -> Put
+        requires solver { solver.old ≡ record { k = self.old.plan.fti.b; size = self.old.plan.fti.e } }
         ensures word { (p : Settings) → result ≡ put_by p (alone self.old) self.old.plan (position self.old.plan.index block symbol) payload.now }
         ensures state { self.new ≡ offered_to result block symbol payload.now self.old }
-        ensures same { room.new ≡ room.old }
+        ensures same { solver.new ≡ solver.old }
     {
         if self.holds(block, symbol) {
             return Put::Had;
@@ -295,7 +295,7 @@ impl Object {
         if !self.fits(block, symbol, payload) {
             return Put::Unfit;
         }
-        self.put(block, symbol, payload, room);
+        self.put(block, symbol, payload, solver);
         Put::Kept
     }
 

@@ -8,9 +8,9 @@ ghost use Rattle.rx_object.specs.Rows.{block_ids, coded_symbol, with_coded, star
 ghost use Rattle.rx_object.specs.RowsSound.{AreRows};
 
 use crate::block::{self, FREE};
-use crate::room::Room;
 use fec_plan::Plan;
 use norm_base::Memory;
+use rs_block::Solver;
 use std::alloc::Global;
 use symbol_mask::IdMask;
 
@@ -62,7 +62,7 @@ fn empty_masks(alloc: Global, count: u32) -> Result<Vec<IdMask>, Memory>
 // Proof: it takes lent slices, so the written parts are known. A method on the vectors would leave take n (new ++ drop ..).
 fn put_at(
     plan: &Plan,
-    room: &mut Room,
+    solver: &mut Solver,
     ids: &mut [u8],
     octets: &mut [u8],
     block: u32,
@@ -75,7 +75,7 @@ fn put_at(
     requires octets { length octets.old ≡ all_symbols plan.now * plan.now.e }
     requires ids { length ids.old ≡ all_symbols plan.now }
     requires most { all_symbols plan.now * plan.now.e ≤ 16778616 }
-    requires room { room.old ≡ record { k = plan.now.b; size = plan.now.e } }
+    requires solver { solver.old ≡ record { k = plan.now.b; size = plan.now.e } }
     requires id { symbol < 255 }
     requires new { has_id symbol (block_ids plan.now ids.old block) ≡ false }
     requires some { 1 ≤ lacking }
@@ -87,14 +87,14 @@ fn put_at(
     ensures others { (b : ℕ) → b ≢ block → block_ids plan.now ids.new b ≡ block_ids plan.now ids.old b }
     ensures lacks { free_places (block_ids plan.now ids.old block) ≡ free_places (block_ids plan.now ids.new block) + 1 }
     ensures apart { AreApart (block_ids plan.now ids.new block) }
-    ensures same { room.new ≡ room.old }
+    ensures same { solver.new ≡ solver.old }
 {
     let size = usize::from(plan.e());
     let start = start_of(plan, block);
     let end = end_of(plan, block);
     let own = &mut ids[start..end];
     let row = &mut octets[start * size..end * size];
-    block::put(room, own, row, size, symbol, payload, lacking);
+    block::put(solver, own, row, size, symbol, payload, lacking);
 }
 
 impl Rows {
@@ -135,7 +135,7 @@ impl Rows {
     }
 
     /// Puts a symbol that is new into a block that lacks so many, and solves the block that is whole by it. It takes no memory.
-    pub fn put(&mut self, block: u32, symbol: u8, payload: &[u8], lacking: u8, room: &mut Room)
+    pub fn put(&mut self, block: u32, symbol: u8, payload: &[u8], lacking: u8, solver: &mut Solver)
         requires rows { AreRows self.old }
         requires block { block < blocks self.old.plan }
         requires id { symbol < 255 }
@@ -144,7 +144,7 @@ impl Rows {
         requires lacks { free_places (block_ids self.old.plan self.old.ids.items block) ≡ lacking }
         requires apart { AreApart (block_ids self.old.plan self.old.ids.items block) }
         requires fits { length payload.now ≤ self.old.plan.e }
-        requires room { room.old ≡ record { k = self.old.plan.b; size = self.old.plan.e } }
+        requires solver { solver.old ≡ record { k = self.old.plan.b; size = self.old.plan.e } }
         ensures plan { self.new.plan ≡ self.old.plan }
         ensures rows { AreRows self.new }
         ensures symbols { (b id : ℕ) → b < blocks self.old.plan → id < 255
@@ -154,11 +154,11 @@ impl Rows {
         ensures lacks { free_places (block_ids self.old.plan self.old.ids.items block)
             ≡ free_places (block_ids self.old.plan self.new.ids.items block) + 1 }
         ensures apart { AreApart (block_ids self.old.plan self.new.ids.items block) }
-        ensures same { room.new ≡ room.old }
+        ensures same { solver.new ≡ solver.old }
     {
         put_at(
             &self.plan,
-            room,
+            solver,
             &mut self.ids,
             &mut self.octets,
             block,

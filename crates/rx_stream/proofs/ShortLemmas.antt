@@ -1,9 +1,9 @@
 -- The blocks of a stream's ring that are not done, as the stream goes on, and what is found of them.
-use Rattle.std.proofs.Common.{◌≡◌, ℕ, ◌+◌, ◌-◌, ◌<◌, ◌≤◌, ◌⊎◌, inl, inr, List, [], ◌∷◌, ◌++◌, length, set, get_or, drop, replicate, cond, Bool, true, false, Option, Some, None, refl, sym, ap, ◌∙◌, subst, arith}
-use Rattle.std.specs.Prelude.{◌==◌, nat_lt, unwrap_or}
+use Rattle.std.proofs.Common.{◌≡◌, ℕ, ◌+◌, ◌-◌, ◌<◌, ◌≤◌, ◌⊎◌, inl, inr, List, [], ◌∷◌, ◌++◌, length, set, get_or, drop, replicate, cond, true, false, Option, Some, None, refl, sym, ap, ◌∙◌, subst, arith}
+use Rattle.std.specs.Prelude.{nat_lt, unwrap_or}
 use Rattle.std.proofs.lemmas.Bool.{cases_eq, cases_lt, eq-eqb, le-ltb, lt-ltb, ltb-false, ltb-true, eqb-false, ne_eqb}
-use Rattle.std.proofs.lemmas.List.{get_or-drop, get_or-replicate, get_or-set_other, get_or-set_same, get_or_append_left, get_or_past, get_or_push, length-drop, length-replicate, length-set, length_push}
-use Rattle.fec_plan.specs.Partition.{Cut, blocks}
+use Rattle.std.proofs.lemmas.List.{get_or-drop, get_or-replicate, get_or-set_other, get_or-set_same, get_or_append_left, get_or_push, length-drop, length-replicate, length-set, length_push}
+use Rattle.fec_plan.specs.Partition.{blocks}
 use Rattle.norm_receive_rules.specs.Holding.{Plan}
 use Rattle.norm_receive_rules.specs.Plans.{cut_of_plan, is_done, lacking, says_stream}
 use Rattle.rx_stream.specs.BlockState.{BlockState, empty_block, lacks}

@@ -1,5 +1,4 @@
 pub mod SameBlock
-pub mod ScratchSound
 pub mod BlockState
 pub mod BlockSound
 pub mod BlockMoves

@@ -11,10 +11,10 @@ ghost use Rattle.rx_stream.specs.BlockState.{empty_block, end_in_block, has_id, 
 ghost use Rattle.rx_stream.specs.BlockMoves.{IsPlace, IsRow, MayCome, with_came};
 ghost use Rattle.rx_stream.specs.BlockSound.{settled};
 
+use crate::moving::solve;
 use crate::row::{coded_row, segment_len};
-use crate::scratch::Scratch;
 use norm_base::Memory;
-use rs_block::Row;
+use rs_block::{Row, Solver};
 use std::alloc::Global;
 use std::marker::Model;
 use std::mem;
@@ -128,16 +128,17 @@ fn are_own(ids: &[u8]) -> bool
 
 /// Solves a block of which none is lacking. Where its own source symbols came nothing is done.
 // Proof: encoding the solved rows gives what came, so solving in place leaves the listed symbols as they were (encoded_again).
-fn settle(k: u8, ids: &[u8], rows: &mut [Row], scratch: &mut Scratch)
-    requires scratch { scratch.old.k ≡ k }
+fn settle(k: u8, ids: &[u8], rows: &mut [Row], solver: &mut Solver)
+    requires some { 1 ≤ k }
+    requires solver { solver.old.k ≡ k }
     requires few { length ids.now ≤ k }
     requires rising { Rises ids.now }
     requires ids { length ids.now ≡ k → AreIds k 255 ids.now }
-    requires rows { length ids.now ≡ k → AreSymbols k scratch.old.size rows.old }
+    requires rows { length ids.now ≡ k → AreSymbols k solver.old.size rows.old }
     requires elements { AllByRecursion AreElements rows.old }
-    ensures rows { rows.new ≡ settled k scratch.old.size ids.now rows.old }
+    ensures rows { rows.new ≡ settled k solver.old.size ids.now rows.old }
     ensures elements { AllByRecursion AreElements rows.new }
-    ensures same { scratch.new ≡ scratch.old }
+    ensures same { solver.new ≡ solver.old }
 {
     if ids.len() < usize::from(k) {
         return;
@@ -146,7 +147,7 @@ fn settle(k: u8, ids: &[u8], rows: &mut [Row], scratch: &mut Scratch)
     if are_own(ids) {
         return;
     }
-    scratch.solve(ids, rows);
+    solve(solver, ids, rows);
 }
 
 impl Block {
@@ -193,17 +194,17 @@ impl Block {
         alloc: Global,
         id: u8,
         payload: &[u8],
-        scratch: &mut Scratch,
+        solver: &mut Solver,
     ) -> Result<(), Memory>
         requires comes { MayCome self.old id payload.now }
-        requires scratch { scratch.old ≡ record { k = self.old.k; size = self.old.size } }
+        requires solver { solver.old ≡ record { k = self.old.k; size = self.old.size } }
         ensures kept { IfOk result (λ _. self.new ≡ with_came id payload.now self.old) }
         ensures refused { OnErr result (self.new ≡ self.old) }
-        ensures same { scratch.new ≡ scratch.old }
+        ensures same { solver.new ≡ solver.old }
     {
         let row = coded_row(alloc, payload, self.size)?;
         keep(&mut self.ids, &mut self.mask, &mut self.rows, id, row)?;
-        settle(self.k, &self.ids, &mut self.rows, scratch);
+        settle(self.k, &self.ids, &mut self.rows, solver);
         Ok(())
     }
 

@@ -23,7 +23,6 @@ ghost use Rattle.rx_stream.specs.StreamMoves.{MayKeep, fits_cut, handed_on, left
 
 use crate::block::Block;
 use crate::row::{coded_row, offset_of, segment_len, segment_of};
-use crate::scratch::Scratch;
 use fec_plan::{MOST_BLOCKS, PLACE, PayloadId, Plan};
 use norm_base::{Memory, Octets};
 use norm_ext::flags::INFO;
@@ -31,7 +30,7 @@ use norm_ext::items::has_flag;
 use norm_ext::{Fti, read_16};
 use norm_order::Up;
 use norm_receive_rules::Put;
-use rs_block::Row;
+use rs_block::{Row, Solver};
 use short_blocks::Shorts;
 use std::alloc::Global;
 use std::collections::VecDeque;
@@ -130,16 +129,16 @@ fn put_at(
     alloc: Global,
     symbol: u8,
     payload: &[u8],
-    scratch: &mut Scratch,
+    solver: &mut Solver,
 ) -> Result<(), Memory>
     requires place { place < length ring.old.items }
     requires comes { (d : BlockState) → MayCome (slice_index_or ring.old.items place d) symbol payload.now }
-    requires scratch { (d : BlockState) → scratch.old ≡ shape_of (slice_index_or ring.old.items place d) }
+    requires solver { (d : BlockState) → solver.old ≡ shape_of (slice_index_or ring.old.items place d) }
     ensures kept { IfOk result (λ _. (d : BlockState) → ring.new.items ≡ slice_set ring.old.items place (with_came symbol payload.now (slice_index_or ring.old.items place d))) }
     ensures refused { OnErr result (ring.new.items ≡ ring.old.items) }
-    ensures same { scratch.new ≡ scratch.old }
+    ensures same { solver.new ≡ solver.old }
 {
-    ring[place].put(alloc, symbol, payload, scratch)
+    ring[place].put(alloc, symbol, payload, solver)
 }
 
 /// A symbol came of the block at a place, which lacked some: it is done where none is lacking now.
@@ -457,17 +456,17 @@ impl Stream {
         block: u32,
         symbol: u8,
         payload: &[u8],
-        scratch: &mut Scratch,
+        solver: &mut Solver,
     ) -> Result<(), Memory>
         requires reached { self.old.point.block ≤ block }
         requires comes { MayKeep self.old block symbol payload.now }
-        requires scratch { scratch.old ≡ record { k = self.old.plan.fti.b; size = self.old.plan.fti.e + 8 } }
+        requires solver { solver.old ≡ record { k = self.old.plan.fti.b; size = self.old.plan.fti.e + 8 } }
         ensures kept { IfOk result (λ _. self.new ≡ record self.old { held = (with_symbol put_word.Kept (position self.old.plan.index block symbol) payload.now (alone self.old)).held }) }
         ensures refused { OnErr result (self.new ≡ self.old) }
-        ensures same { scratch.new ≡ scratch.old }
+        ensures same { solver.new ≡ solver.old }
     {
         let place = place_of(self.first, block);
-        put_at(&mut self.ring, place, self.alloc, symbol, payload, scratch)?;
+        put_at(&mut self.ring, place, self.alloc, symbol, payload, solver)?;
         note(&self.ring, place, &mut self.shorts, block);
         Ok(())
     }
@@ -487,19 +486,19 @@ impl Stream {
         block: u32,
         symbol: u8,
         payload: &[u8],
-        scratch: &mut Scratch,
+        solver: &mut Solver,
     ) -> Result<Put, Memory>
         requires reached { self.old.point.block ≤ block }
-        requires scratch { scratch.old ≡ record { k = self.old.plan.fti.b; size = self.old.plan.fti.e + 8 } }
+        requires solver { solver.old ≡ record { k = self.old.plan.fti.b; size = self.old.plan.fti.e + 8 } }
         ensures word { IfOk result (λ word. (p : Settings) → IsOf p self.old
             → word ≡ put_by p (alone self.old) self.old.plan (position self.old.plan.index block symbol) payload.now) }
         ensures state { IfOk result (λ word. self.new ≡ record self.old { held = (with_symbol word (position self.old.plan.index block symbol) payload.now (alone self.old)).held }) }
         ensures refused { OnErr result (self.new ≡ self.old) }
-        ensures same { scratch.new ≡ scratch.old }
+        ensures same { solver.new ≡ solver.old }
     {
         let word = self.word(block, symbol, payload);
         if word == Put::Kept {
-            self.keep(block, symbol, payload, scratch)?;
+            self.keep(block, symbol, payload, solver)?;
         }
         Ok(word)
     }

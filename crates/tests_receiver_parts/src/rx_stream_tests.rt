@@ -8,7 +8,8 @@ use norm_base::Memory;
 use norm_ext::Fti;
 use norm_order::Up;
 use norm_receive_rules::Put;
-use rx_stream::{Scratch, Stream};
+use rs_block::Solver;
+use rx_stream::Stream;
 use std::alloc::Global;
 use std::process::Abort;
 use std::test::Fail;
@@ -32,18 +33,18 @@ fn known_symbol(symbol: u8) -> [u8; 72] {
 /// A symbol of the first block comes.
 fn come(
     stream: &mut Stream,
-    scratch: &mut Scratch,
+    solver: &mut Solver,
     block: u32,
     symbol: u8,
     payload: &[u8],
 ) -> Result<Put, Memory>
     requires point { stream.old.point.block ≡ 0 }
-    requires scratch { scratch.old ≡ record { k = stream.old.plan.fti.b; size = stream.old.plan.fti.e + 8 } }
+    requires solver { solver.old ≡ record { k = stream.old.plan.fti.b; size = stream.old.plan.fti.e + 8 } }
     ensures point { IfOk result (λ _. stream.new.point ≡ stream.old.point) }
     ensures plan { IfOk result (λ _. stream.new.plan ≡ stream.old.plan) }
-    ensures scratch { scratch.new ≡ scratch.old }
+    ensures solver { solver.new ≡ solver.old }
 {
-    stream.offer(block, symbol, payload, scratch)
+    stream.offer(block, symbol, payload, solver)
 }
 
 /// Whether what is handed up next is the known segment with this number.
@@ -74,11 +75,11 @@ fn give_back(alloc: Global, first: u8, second: u8, third: u8) -> Result<bool, Me
     let Ok(plan) = Plan::stream(64, 3, 5) else {
         return Ok(false);
     };
-    let mut scratch = Scratch::new(alloc, 3, CODED)?;
+    let mut solver = Solver::new(alloc, 3, CODED)?;
     let mut stream = Stream::new(alloc, 7, &fti, 32, &plan, 2)?;
-    come(&mut stream, &mut scratch, 0, first, &known_symbol(first))?;
-    come(&mut stream, &mut scratch, 0, second, &known_symbol(second))?;
-    come(&mut stream, &mut scratch, 0, third, &known_symbol(third))?;
+    come(&mut stream, &mut solver, 0, first, &known_symbol(first))?;
+    come(&mut stream, &mut solver, 0, second, &known_symbol(second))?;
+    come(&mut stream, &mut solver, 0, third, &known_symbol(third))?;
     Ok(
         shows(&mut stream, 0)
             && shows(&mut stream, 1)
@@ -146,12 +147,12 @@ fn word_of(alloc: Global, row: &Row) -> Result<Option<Put>, Memory> {
     payload[1] = len;
     let (payload, _) = payload.as_slice().split_at(octets.min(80));
     let [first, second, third] = before;
-    let mut scratch = Scratch::new(alloc, 3, CODED)?;
+    let mut solver = Solver::new(alloc, 3, CODED)?;
     let mut stream = Stream::new(alloc, 7, &fti, 32, &plan, 2)?;
-    come(&mut stream, &mut scratch, 0, first, &known_symbol(first))?;
-    come(&mut stream, &mut scratch, 0, second, &known_symbol(second))?;
-    come(&mut stream, &mut scratch, 0, third, &known_symbol(third))?;
-    let word = come(&mut stream, &mut scratch, block, symbol, payload)?;
+    come(&mut stream, &mut solver, 0, first, &known_symbol(first))?;
+    come(&mut stream, &mut solver, 0, second, &known_symbol(second))?;
+    come(&mut stream, &mut solver, 0, third, &known_symbol(third))?;
+    let word = come(&mut stream, &mut solver, block, symbol, payload)?;
     Ok(Some(word))
 }
 
@@ -178,22 +179,17 @@ const RUNS: [Run; 5] = [
 ];
 
 /// A segment of so many octets, as it is sent.
-fn comes_with(
-    stream: &mut Stream,
-    scratch: &mut Scratch,
-    symbol: u8,
-    len: u8,
-) -> Result<Put, Memory>
+fn comes_with(stream: &mut Stream, solver: &mut Solver, symbol: u8, len: u8) -> Result<Put, Memory>
     requires point { stream.old.point.block ≡ 0 }
-    requires scratch { scratch.old ≡ record { k = stream.old.plan.fti.b; size = stream.old.plan.fti.e + 8 } }
+    requires solver { solver.old ≡ record { k = stream.old.plan.fti.b; size = stream.old.plan.fti.e + 8 } }
     ensures point { IfOk result (λ _. stream.new.point ≡ stream.old.point) }
     ensures plan { IfOk result (λ _. stream.new.plan ≡ stream.old.plan) }
-    ensures scratch { scratch.new ≡ scratch.old }
+    ensures solver { solver.new ≡ solver.old }
 {
     let mut payload = [0; 72];
     payload[1] = len;
     let (payload, _) = payload.as_slice().split_at((8 + usize::from(len)).min(72));
-    come(stream, scratch, 0, symbol, payload)
+    come(stream, solver, 0, symbol, payload)
 }
 
 /// How many octets are handed up next: 0 where it is an end or nothing.
@@ -217,11 +213,11 @@ fn runs(alloc: Global, row: &Run) -> Result<bool, Memory> {
         return Ok(false);
     };
     let [first, second, third] = segments;
-    let mut scratch = Scratch::new(alloc, 3, CODED)?;
+    let mut solver = Solver::new(alloc, 3, CODED)?;
     let mut stream = Stream::new(alloc, 7, &fti, 32, &plan, 2)?;
-    comes_with(&mut stream, &mut scratch, first.0, first.1)?;
-    comes_with(&mut stream, &mut scratch, second.0, second.1)?;
-    comes_with(&mut stream, &mut scratch, third.0, third.1)?;
+    comes_with(&mut stream, &mut solver, first.0, first.1)?;
+    comes_with(&mut stream, &mut solver, second.0, second.1)?;
+    comes_with(&mut stream, &mut solver, third.0, third.1)?;
     let known = stream.end().map(|id| id.symbol);
     Ok(
         known == end

@@ -57,8 +57,7 @@ fn solved_in(
     assert_eq!(rt; symbols.len(), ids.len() * size);
     let mut solver = Solver::new(alloc, ids.len() as u8, size)?;
     let mut row = symbols.to_vec(alloc)?;
-    let mut scratch = vec![in alloc; 0; symbols.len()]?;
-    solver.solve_in(ids, &mut row, &mut scratch);
+    solver.solve_in(ids, &mut row);
     Ok(row)
 }
 
@@ -85,8 +84,7 @@ fn solved_in_rows(
     assert_eq!(rt; symbols.len(), ids.len());
     let mut solver = Solver::new(alloc, ids.len() as u8, 1)?;
     let mut rows = rows_of(alloc, symbols)?;
-    let mut aside = vec![in alloc; 0; symbols.len()]?;
-    solver.solve_rows(ids, &mut rows, &mut aside);
+    solver.solve_rows(ids, &mut rows);
     let mut sources = Vec::new(alloc);
     for row in &rows {
         sources.extend_from_slice(row.octets())?;

@@ -5,7 +5,7 @@ use Rattle.rx_hold.proofs.ring.offer_at.Goals as goal
 
 pub offer-requires : goal.offer-requires
 offer-requires c =
-    there_has (λ (s : Seat). MayOffer s c.args.id.block c.args.room.now c.args.scratch.now) _ c.in-Some.seat (seat_there c.args.ring.now.items c.args.place c.index_mut.result.now c.in-Some.seat c.requires.place c.index_mut.ensures.value c.in-Some.is) c.requires.may
+    there_has (λ (s : Seat). MayOffer s c.args.id.block c.args.solver.now c.args.stream_solver.now) _ c.in-Some.seat (seat_there c.args.ring.now.items c.args.place c.index_mut.result.now c.in-Some.seat c.requires.place c.index_mut.ensures.value c.in-Some.is) c.requires.may
 
 pub returns-in-None-clause-items : goal.returns-in-None-clause-items
 returns-in-None-clause-items c =

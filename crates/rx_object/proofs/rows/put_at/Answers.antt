@@ -1,4 +1,4 @@
-use Rattle.std.proofs.Common.{◌≡◌, ◌*◌, ◌≤◌, ℕ, arith, sym, subst, ap, ◌∙◌, length}
+use Rattle.std.proofs.Common.{◌≡◌, ◌*◌, ℕ, arith, sym, subst, ap, ◌∙◌}
 use Rattle.fec_plan.specs.Partition.{Cut}
 use Rattle.norm_order.specs.Symbols.{padded}
 use Rattle.rs_block.specs.Solver.{SolverState}
@@ -36,7 +36,7 @@ put-requires-clause-row c =
     ∙ ap (λ n. n * z) (sym (part_long s e c.args.ids.now places))
 
 pub put-requires-clause-size : goal.put-requires-clause-size
-put-requires-clause-size c = ap (λ (r : SolverState). r.size) c.requires.room ∙ sym (c.from-size.ensures ∙ c.e.ensures.exact)
+put-requires-clause-size c = ap (λ (r : SolverState). r.size) c.requires.solver ∙ sym (c.from-size.ensures ∙ c.e.ensures.exact)
 
 pub put-requires-clause-few : goal.put-requires-clause-few
 put-requires-clause-few c =
@@ -45,7 +45,7 @@ put-requires-clause-few c =
     let long = part_long c.start_of-start.result c.end_of-end.result c.args.ids.now within in
     let count = sources_are cut c.args.block c.start_of-start.result c.end_of-end.result c.start_of-start.ensures.exact c.end_of-end.ensures in
     let few = few_sources cut c.args.block c.e.ensures.sound c.requires.object in
-    let room = ap (λ (r : SolverState). r.k) c.requires.room in
+    let room = ap (λ (r : SolverState). r.k) c.requires.solver in
     omega (arith, long, count, few, room)
 
 pub returns-clause-symbols : goal.returns-clause-symbols

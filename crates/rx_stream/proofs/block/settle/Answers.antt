@@ -8,4 +8,4 @@ returns-then-are_own-clause-rows c =
     let few = c.requires.few in
     let full : length c.args.ids.now ≡ c.args.k = omega (arith, le, few) in
     let symbols = c.requires.rows full in
-    own_settled c.args.k c.args.scratch.now.size c.args.ids.now c.args.rows.now le (symbols.count ∙ sym full) c.requires.rising (c.are_own.ensures.0 c.if-are_own.true)
+    own_settled c.args.k c.args.solver.now.size c.args.ids.now c.args.rows.now le (symbols.count ∙ sym full) c.requires.rising (c.are_own.ensures.0 c.if-are_own.true)

@@ -6,7 +6,7 @@ use Rattle.rx_hold.proofs.front.Front.offer.Goals as goal
 
 pub offer_at-requires-clause-may : goal.offer_at-requires-clause-may
 offer_at-requires-clause-may c =
-    may_offer c.args.self.now c.args.place c.args.id.block c.args.room.now c.args.scratch.now c.requires.front c.requires.room c.requires.reached c.requires.lent c.requires.scratch
+    may_offer c.args.self.now c.args.place c.args.id.block c.args.solver.now c.args.stream_solver.now c.requires.front c.requires.room c.requires.reached c.requires.solver c.requires.stream_solver
 
 pub returns-in_err-word-clause-sound : goal.returns-in_err-word-clause-sound
 returns-in_err-word-clause-sound c =

@@ -8,8 +8,8 @@ invariant_of-self c = record {
   front =
       empty_sound _ c.fill.ensures.items (omega (arith, c.fill.ensures.capacity, c.clear.ensures.capacity, c.self.invariant.front.places_room)) refl refl c.self.invariant.front.most
       c.clear-2.ensures.items;
-  room = c.self.invariant.room;
-  scratch = c.self.invariant.scratch;
+  solver = c.self.invariant.solver;
+  stream_solver = c.self.invariant.stream_solver;
 }
 
 pub returns-clause-settled : goal.returns-clause-settled

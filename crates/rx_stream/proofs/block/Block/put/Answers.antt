@@ -12,6 +12,9 @@ use Rattle.rx_stream.proofs.BlockLemmas.{kept_is, full_ids, full_rows, sound_aft
 use Rattle.rx_stream.proofs.Masks.{mask_more}
 use Rattle.rx_stream.proofs.block.Block.put.Goals as goal
 
+pub settle-requires-clause-some : goal.settle-requires-clause-some
+settle-requires-clause-some c = c.self.invariant.sound.some
+
 pub settle-requires-clause-few : goal.settle-requires-clause-few
 settle-requires-clause-few c =
     let h =
@@ -47,7 +50,7 @@ settle-requires-clause-rows c =
     c.self.invariant.sound (subst (λ (b : BlockState). MayCome b c.args.id c.args.payload.now) (sym c.self.view_is) c.requires.comes)
     (elements_of_octets c.args.payload.now (λ i. let byte = c.type_inv.payload i in byte.fits))
     c.in_ok-keep.ensures.place c.in_ok-row.ensures c.in_ok-keep.ensures.ids c.in_ok-keep.ensures.rows in
-    let size : c.args.scratch.now.size ≡ c.self.inside.size = ap (λ (s : SolverState). s.size) c.requires.scratch ∙ sym (ap (λ (b : BlockState). b.size) c.self.view_is) in
+    let size : c.args.solver.now.size ≡ c.self.inside.size = ap (λ (s : SolverState). s.size) c.requires.solver ∙ sym (ap (λ (b : BlockState). b.size) c.self.view_is) in
     λ e. subst (λ n. AreSymbols c.self.inside.k n c.deref_mut.result.now) (sym size)
     (subst (λ (xs : List (List ℕ)). AreSymbols c.self.inside.k c.self.inside.size xs) (sym c.deref_mut.ensures.value)
     (full_rows c.self.inside.k c.self.inside.size c.args.id c.args.payload.now c.self.inside.ids.items c.keep.new.ids.items c.self.inside.rows.items c.keep.new.rows.items h (sym (ap length c.deref.ensures.value) ∙ e)))
@@ -68,7 +71,7 @@ invariant_of-self-2 c =
     c.self.invariant.sound (subst (λ (b : BlockState). MayCome b c.args.id c.args.payload.now) (sym c.self.view_is) c.requires.comes)
     (elements_of_octets c.args.payload.now (λ i. let byte = c.type_inv.payload i in byte.fits))
     c.in_ok-keep.ensures.place c.in_ok-row.ensures c.in_ok-keep.ensures.ids c.in_ok-keep.ensures.rows in
-    let size : c.args.scratch.now.size ≡ c.self.inside.size = ap (λ (s : SolverState). s.size) c.requires.scratch ∙ sym (ap (λ (b : BlockState). b.size) c.self.view_is) in
+    let size : c.args.solver.now.size ≡ c.self.inside.size = ap (λ (s : SolverState). s.size) c.requires.solver ∙ sym (ap (λ (b : BlockState). b.size) c.self.view_is) in
     let is : c.settle.new.rows ≡ settled c.self.inside.k c.self.inside.size c.keep.new.ids.items c.keep.new.rows.items =
     c.settle.ensures.rows
     ∙ ap (λ n. settled c.self.inside.k n c.deref.result.now c.deref_mut.result.now) size
@@ -91,7 +94,7 @@ returns-clause-kept c =
     c.self.invariant.sound (subst (λ (b : BlockState). MayCome b c.args.id c.args.payload.now) (sym c.self.view_is) c.requires.comes)
     (elements_of_octets c.args.payload.now (λ i. let byte = c.type_inv.payload i in byte.fits))
     c.in_ok-keep.ensures.place c.in_ok-row.ensures c.in_ok-keep.ensures.ids c.in_ok-keep.ensures.rows in
-    let size : c.args.scratch.now.size ≡ c.self.inside.size = ap (λ (s : SolverState). s.size) c.requires.scratch ∙ sym (ap (λ (b : BlockState). b.size) c.self.view_is) in
+    let size : c.args.solver.now.size ≡ c.self.inside.size = ap (λ (s : SolverState). s.size) c.requires.solver ∙ sym (ap (λ (b : BlockState). b.size) c.self.view_is) in
     let is : c.settle.new.rows ≡ settled c.self.inside.k c.self.inside.size c.keep.new.ids.items c.keep.new.rows.items =
     c.settle.ensures.rows
     ∙ ap (λ n. settled c.self.inside.k n c.deref.result.now c.deref_mut.result.now) size

@@ -1,7 +1,6 @@
-use Rattle.std.proofs.Common.{◌≡◌, ◌+◌, ◌-◌, ◌<◌, ◌≤◌, ℕ, length, get_or, cond, false, true, Option, Some, None, sym, ap, subst, ◌∙◌, arith}
+use Rattle.std.proofs.Common.{ℕ, cond, Option, Some, None, sym, ap, subst, ◌∙◌, arith}
 use Rattle.std.specs.Prelude.{nat_lt, unwrap_or}
-use Rattle.fec_plan.specs.Partition.{Cut, blocks, stream_cut}
-use Rattle.norm_receive_rules.specs.Plans.{cut_of_plan, is_done}
+use Rattle.fec_plan.specs.Partition.{blocks}
 use Rattle.norm_receive_rules.specs.Short.{IsShortFrom}
 use Rattle.rx_stream.specs.StreamState.{StreamState, alone}
 use Rattle.rx_stream.specs.StreamSound.{stream_of}

@@ -1,4 +1,4 @@
-use Rattle.std.proofs.Common.{◌≡◌, ◌<◌, ◌+◌, ℕ, List, [], ◌∷◌, ◌++◌, length, get_or, take, drop, true, false, ◌-◌, ◌≤◌, sym, ap, subst, ◌∙◌, arith, rules, Some, None, Option, Bor}
+use Rattle.std.proofs.Common.{◌≡◌, ◌<◌, ◌+◌, ℕ, List, [], ◌∷◌, ◌++◌, length, get_or, take, drop, true, false, ◌-◌, sym, ap, subst, ◌∙◌, arith, rules, Some, None, Option, Bor}
 use Rattle.std.specs.Prelude.{min, is_some, option_copied, IfSome}
 use Rattle.std.specs.Option.{IsSome}
 use Rattle.std.proofs.lemmas.Bool.{le-ltb}

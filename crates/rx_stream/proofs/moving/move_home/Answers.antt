@@ -1,6 +1,6 @@
 use Rattle.std.proofs.Common.{arith}
 use Rattle.rx_stream.proofs.Solving.{same_kept, same_swapped}
-use Rattle.rx_stream.proofs.scratch.move_home.Goals as goal
+use Rattle.rx_stream.proofs.moving.move_home.Goals as goal
 
 pub returns-then-place-ids : goal.returns-then-place-ids
 returns-then-place-ids c = λ k size most are symbols. same_kept k size c.args.ids.now c.args.rows.now are symbols

@@ -1,6 +1,6 @@
 use Rattle.rx_stream.specs.SameBlock.{SameBlock}
 use Rattle.rx_stream.proofs.Solving.{same_kept, same_on}
-use Rattle.rx_stream.proofs.scratch.move_all_home.Goals as goal
+use Rattle.rx_stream.proofs.moving.move_all_home.Goals as goal
 
 pub loop-behind-init : goal.loop-behind-init
 loop-behind-init c = λ k size most are symbols. same_kept k size c.args.ids.now c.args.rows.now are symbols

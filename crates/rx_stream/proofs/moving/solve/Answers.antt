@@ -1,7 +1,7 @@
 use Rattle.std.proofs.Common.{ap, subst, sym, ◌∙◌}
 use Rattle.gf_field.specs.Symbol.{AreIds, AreSymbols, solved_sources}
 use Rattle.rx_stream.specs.SameBlock.{SameBlock}
-use Rattle.rx_stream.proofs.scratch.solve_in_rows.Goals as goal
+use Rattle.rx_stream.proofs.moving.solve.Goals as goal
 
 pub solve_rows-requires-clause-ids : goal.solve_rows-requires-clause-ids
 solve_rows-requires-clause-ids c =
