@@ -92,6 +92,7 @@ pub fn fti_words(fti: &Fti) -> [u8; 12]
 }
 
 /// Adds the extension's twelve octets.
+// Nothing calls it so far. It stays for programs over this crate that write extensions by themselves.
 pub fn write_fti(fti: &Fti, out: &mut Datagram)
     requires { length out.old + 12 ≤ datagram_room }
     ensures { out.new ≡ out.old ++ extension_octets (fti_extension fti.now) }

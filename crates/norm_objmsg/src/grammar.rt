@@ -117,6 +117,7 @@ pub fn read_data(bytes: &[u8]) -> Result<DataMsg<'_>, Refusal>
 
 /// The segment that a stream's payload has. `None` exactly where there are fewer than 8 octets, or fewer behind these
 /// than the payload says.
+// Nothing calls it so far: a receiver hands up the octets of a coded row. It stays for programs that read single datagrams.
 pub fn read_part(payload: &[u8]) -> Option<StreamPart<'_>>
     ensures { option_map part_of result ≡ segment_in payload.now }
 {

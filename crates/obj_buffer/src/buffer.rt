@@ -19,6 +19,7 @@ use std::marker::Model;
 
 /// A data object or a file with its info, whole in memory, and the codes of its blocks.
 // The octets are padded with zeros to whole symbols, as the code sees them. With anything else there parity would not be that of the object.
+// Only tests call it so far. It stays for programs over this crate: a sender keeps its objects in a ring.
 #[derive(Debug, Drop)]
 pub struct ObjectBuf {
     plan: Plan,

@@ -37,6 +37,7 @@ impl Model for Board {
 }
 
 /// What one thread reads a board with. It never waits, and what it saw or was told of it sees again.
+// Only tests make one so far. It stays for programs whose producers ask what became of their marks.
 #[derive(Drop)]
 pub struct BoardReader {
     pub(crate) words: Arc<Words, Global>,
