@@ -111,9 +111,17 @@ fn place_of(profile: &Profile, local: &Local) -> u32 {
     }
 }
 
+/// Whether a network is one of sockets.
+fn is_of_sockets(fabric: FabricKind) -> bool {
+    match fabric {
+        FabricKind::Direct | FabricKind::Chance => false,
+        FabricKind::Udp => true,
+    }
+}
+
 /// The node that a process is over sockets. `None` in memory, and if all members are in it.
 fn node_of(profile: &Profile, local: &Local) -> Option<Node> {
-    if profile.fabric != FabricKind::Udp {
+    if !is_of_sockets(profile.fabric) {
         return None;
     }
     let role = role_of(profile, local)?;
