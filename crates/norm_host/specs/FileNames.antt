@@ -1,6 +1,6 @@
-use Rattle.std.specs.Prelude.{ℕ, ◌==◌, ◌&&◌, ◌||◌, nat_le, not, List, ◌∷◌, ◌++◌, length, codes, Bool, false, slice_index, Option, Some, None, if◌then◌else◌}
+use Rattle.std.specs.Prelude.{ℕ, ◌==◌, ◌&&◌, ◌||◌, nat_le, not, List, ◌∷◌, ◌++◌, length, codes, Bool, slice_index, Option, Some, None, if◌then◌else◌}
 use Rattle.std.specs.Cmp.Lexicographic.{pointwise}
-use Rattle.std.specs.List.{list_all}
+use Rattle.std.specs.List.{list_all, list_any}
 
 -- The names of files, as a script may give them.
 
@@ -26,12 +26,11 @@ path_in folder name = folder ++ 47 ∷ name
 abbrev pub path_beside : List ℕ → List ℕ → List ℕ
 path_beside folder name = folder ++ 47 ∷ 46 ∷ name ++ codes ".part"
 
--- a name is the path that was told, octet for octet
-abbrev pub is_told : Option (List ℕ) → List ℕ → Bool
-is_told None name = false
-is_told (Some told) name = pointwise ◌==◌ told name
+-- a name is one of the paths that were told, octet for octet
+abbrev pub is_told : List (List ℕ) → List ℕ → Bool
+is_told told name = list_any (λ path. pointwise ◌==◌ path name) told
 
--- the path at which a name is read: the one that was told, as it stands; else that of a file in the folder, if it is the name of one
-abbrev pub path_read : List ℕ → Option (List ℕ) → List ℕ → Option (List ℕ)
+-- the path at which a name is read: one that was told, as it stands; else that of a file in the folder, if it is the name of one
+abbrev pub path_read : List ℕ → List (List ℕ) → List ℕ → Option (List ℕ)
 path_read folder told name =
     if is_told told name then Some name else (if is_file_name name then Some (path_in folder name) else None)

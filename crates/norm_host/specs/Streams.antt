@@ -1,5 +1,4 @@
-use Rattle.std.specs.Prelude.{ℕ, Bool, List, Option, is_some, string_bytes}
-use Rattle.std.specs.Option.{option_map}
+use Rattle.std.specs.Prelude.{ℕ, Bool, List, map, is_some, string_bytes}
 use Rattle.norm_host.specs.declared.folder.FolderFiles.{FolderFiles}
 use Rattle.norm_host.specs.declared.instance_file.InstanceFile.{InstanceFile}
 use Rattle.norm_host.specs.declared.std_source.StdSource.{StdSource}
@@ -19,9 +18,9 @@ writer_of s = s.writer
 abbrev pub folder_of : {F : Type 0} → FolderFiles F → List ℕ
 folder_of f = string_bytes f.folder
 
--- the path that files were told to read as it stands
-abbrev pub told_to : {F : Type 0} → FolderFiles F → Option (List ℕ)
-told_to f = option_map string_bytes f.told
+-- the paths that files were told to read as they stand, in the order in which they were told
+abbrev pub told_to : {F : Type 0} → FolderFiles F → List (List ℕ)
+told_to f = map string_bytes f.told.items
 
 -- the next call of files fails, by what they were told
 abbrev pub is_stopped : {F : Type 0} → FolderFiles F → Bool

@@ -1,6 +1,6 @@
 //! The files of one folder.
 
-ghost use Rattle.std.specs.Prelude.{◌≡◌, ◌↔◌, ◌+◌, ◌<◌, ◌≤◌, None, Some, Ok, IsTrue, IsOk, IfSome, length, string_bytes, IfOk, IfErr, OnOk, OnErr, is_err, true, false};
+ghost use Rattle.std.specs.Prelude.{◌≡◌, ◌↔◌, ◌+◌, ◌<◌, ◌≤◌, ◌++◌, [], ◌∷◌, None, Some, Ok, IsTrue, IsOk, IfSome, length, map, string_bytes, IfOk, IfErr, OnOk, OnErr, is_err, true, false};
 ghost use Rattle.std.specs.Fs.{metadata_len, file_type, IsFile};
 ghost use Rattle.std.specs.Io.Seek.{MovesTo};
 ghost use Rattle.std.specs.IoError.{error_kind};
@@ -64,6 +64,18 @@ fn path_beside(alloc: Global, folder: &str, name: &str) -> Result<String, AllocE
     path.push_str(name)?;
     path.push_str(".part")?;
     Ok(path)
+}
+
+/// Whether a name is one of these paths, octet for octet.
+fn is_one_of(paths: &[String], name: &str) -> bool
+    ensures { result ≡ is_told (map string_bytes paths.now) name.now }
+{
+    for path in paths {
+        if path.as_bytes() == name.as_bytes() {
+            return true;
+        }
+    }
+    false
 }
 
 /// How many octets a plain file has, as its metadata say. Any other file is as a folder.
@@ -159,7 +171,7 @@ impl Said {
     }
 }
 
-/// The files of one folder, and one path that is read as it stands, where it was told one. Any other name that is none of a file there, also
+/// The files of one folder, and the paths that it was told, each of which is read as it stands. Any other name that is none of a file there, also
 /// one with a slash or that begins with a `.`, is absent, and put nowhere. A file that is put is written beside its name and renamed, so that
 /// nobody sees a part of it. A read of 0 octets, and want of memory, are faults. It tells nothing of what the files hold. A read keeps up to
 /// 262,144 octets of the file for the reads behind it, until a length is asked for or a file is put. A length that is asked for again and again, with
@@ -169,7 +181,7 @@ pub struct FolderFiles<F> {
     files: F,
     alloc: Global,
     folder: String,
-    told: Option<String>,
+    told: Vec<String>,
     ahead: Option<Ahead>,
     said: Option<Said>,
     stopped: Option<InstanceFault>,
@@ -181,14 +193,14 @@ impl<F: fs::Files + Drop> FolderFiles<F> {
     /// The files of this folder.
     pub fn of(alloc: Global, files: F, folder: &str) -> Result<FolderFiles<F>, Memory>
         ensures folder { IfOk result (λ made. folder_of made ≡ folder.now) }
-        ensures told { IfOk result (λ made. told_to made ≡ None) }
+        ensures told { IfOk result (λ made. told_to made ≡ []) }
         ensures goes { IfOk result (λ made. is_stopped made ≡ false) }
     {
         Ok(FolderFiles {
             files,
             alloc,
             folder: String::from_str(alloc, folder)?,
-            told: None,
+            told: Vec::new(alloc),
             ahead: None,
             said: None,
             stopped: None,
@@ -197,7 +209,7 @@ impl<F: fs::Files + Drop> FolderFiles<F> {
         })
     }
 
-    /// Tells it a path that is read as it stands, in place of one that it was told before.
+    /// Tells it one more path that is read as it stands.
     ///
     /// # Errors
     ///
@@ -205,12 +217,13 @@ impl<F: fs::Files + Drop> FolderFiles<F> {
     // The program's one function is over files by name, and a path as the shell gives it is no such name. So it is told here before the program
     // runs.
     pub fn tell(&mut self, path: &str) -> Result<(), Memory>
-        ensures told { OnOk result (told_to self.new ≡ Some path.now) }
+        ensures told { OnOk result (told_to self.new ≡ told_to self.old ++ path.now ∷ []) }
         ensures kept { OnErr result (told_to self.new ≡ told_to self.old) }
         ensures folder { folder_of self.new ≡ folder_of self.old }
         ensures stopped { is_stopped self.new ≡ is_stopped self.old }
     {
-        self.told = Some(String::from_str(self.alloc, path)?);
+        let path = String::from_str(self.alloc, path)?;
+        self.told.push(path)?;
         Ok(())
     }
 
@@ -259,17 +272,14 @@ impl<F: fs::Files + Drop> FolderFiles<F> {
         Ok(path_in(self.alloc, &self.folder, name)?)
     }
 
-    /// Whether a name is the path that it was told.
+    /// Whether a name is one of the paths that it was told.
     fn is_told(&self, name: &str) -> bool
         ensures { result ≡ is_told (told_to self.now) name.now }
     {
-        match &self.told {
-            Some(path) => path.as_bytes() == name.as_bytes(),
-            None => false,
-        }
+        is_one_of(&self.told, name)
     }
 
-    /// The path at which a name is read: the one that it was told, as it stands, and else that of a file in the folder.
+    /// The path at which a name is read: one that it was told, as it stands, and else that of a file in the folder.
     fn path_read(&self, name: &str) -> io::Result<String>
         ensures path { IfOk result (λ path. path_read (string_bytes self.now.folder) (told_to self.now) name.now ≡ Some (string_bytes path)) }
         ensures absent { IfErr result (λ error. (error_kind error ≡ NotFound) ↔ (path_read (string_bytes self.now.folder) (told_to self.now) name.now ≡ None)) }
