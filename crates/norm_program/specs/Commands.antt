@@ -1,5 +1,5 @@
 -- How the program ends: by what its words ask for, or as words that are of no form.
-use Rattle.std.specs.Prelude.{◌≡◌, ◌⊎◌, ⊤, ℕ, List, Option, None, Some}
+use Rattle.std.specs.Prelude.{◌≡◌, ◌⊎◌, ⊤, ℕ, List, [], ◌∷◌, Option, None, Some}
 use Rattle.norm_journal.specs.Jobs.{Told}
 use Rattle.norm_args.specs.NodeTasks.{node_task_of}
 use Rattle.norm_args.specs.Tasks.{task_of}
@@ -67,9 +67,9 @@ KeepsFiles (Some (Send path instance)) before after = after ≡ before
 KeepsFiles (Some (Receive path node)) before after = ⊤
 KeepsFiles (Some (Hub path)) before after = after ≡ before
 
--- the path of the profile that is asked for
-abbrev pub path_asked : Option NodeTask → Option (List ℕ)
-path_asked None = None
-path_asked (Some (Send path instance)) = Some path
-path_asked (Some (Receive path node)) = Some path
-path_asked (Some (Hub path)) = Some path
+-- the paths of the profiles that are asked for
+abbrev pub paths_asked : Option NodeTask → List (List ℕ)
+paths_asked None = []
+paths_asked (Some (Send path instance)) = path ∷ []
+paths_asked (Some (Receive path node)) = path ∷ []
+paths_asked (Some (Hub path)) = path ∷ []

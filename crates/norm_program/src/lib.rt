@@ -26,4 +26,4 @@ mod words;
 pub use crate::program::{norm_main, run};
 pub use crate::reason::{needed, say_cause};
 pub use crate::status::{Ending, ProfileFault, Status};
-pub use crate::words::{WordsFault, arguments, path_asked};
+pub use crate::words::{WordsFault, arguments, paths_asked};

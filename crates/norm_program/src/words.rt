@@ -1,9 +1,9 @@
 //! The words of the command line.
 
-ghost use Rattle.std.specs.Prelude.{◌≡◌, ◌↔◌, drop, map, string_bytes, IfOk};
+ghost use Rattle.std.specs.Prelude.{◌≡◌, ◌↔◌, [], ◌∷◌, drop, map, string_bytes, IfOk};
 ghost use Rattle.std.specs.IoError.{error_kind};
 ghost use Rattle.std.specs.declared.io.ErrorKind.TheVariants.{OutOfMemory};
-ghost use Rattle.norm_program.specs.Commands.{path_asked};
+ghost use Rattle.norm_program.specs.Commands.{paths_asked};
 ghost use Rattle.norm_program.specs.declared.words.WordsFault.TheVariants as fault;
 ghost use Rattle.norm_args.specs.NodeTasks.{node_task_of};
 
@@ -60,26 +60,36 @@ fn drop_first(words: &mut Vec<String>)
     }
 }
 
-/// The path of the profile that a node's task names.
-fn path_of(task: Option<NodeTask>) -> Option<Text>
-    ensures { result ≡ path_asked task }
+/// One path.
+fn one_path(alloc: Global, path: Text) -> Result<Vec<Text>, Memory>
+    ensures { IfOk result (λ paths. paths.items ≡ path ∷ []) }
+{
+    let mut paths = Vec::new(alloc);
+    paths.push(path)?;
+    Ok(paths)
+}
+
+/// The paths of the profiles that a node's task names.
+fn paths_of(alloc: Global, task: Option<NodeTask>) -> Result<Vec<Text>, Memory>
+    ensures { IfOk result (λ paths. paths.items ≡ paths_asked task) }
 {
     match task {
-        Some(NodeTask::Send { profile, .. }) => Some(profile),
-        Some(NodeTask::Receive(path, _)) => Some(path),
-        Some(NodeTask::Hub(path)) => Some(path),
-        None => None,
+        Some(NodeTask::Send { profile, .. }) => one_path(alloc, profile),
+        Some(NodeTask::Receive(path, _)) => one_path(alloc, path),
+        Some(NodeTask::Hub(path)) => one_path(alloc, path),
+        None => Ok(Vec::new(alloc)),
     }
 }
 
-/// The path of the profile that the words ask for, where they ask for a node's run: it is a path as the shell gives it, which the
+/// The paths of the profiles that the words ask for, if they ask for a node's run: each is a path as the shell gives it, which the
 /// files are to be told, and no name in their folder.
 ///
 /// # Errors
 ///
-/// `Memory` where memory runs out.
-pub fn path_asked(alloc: Global, words: &[String]) -> Result<Option<Text>, Memory>
-    ensures { IfOk result (λ path. path ≡ path_asked (node_task_of (map string_bytes words.now))) }
+/// `Memory` if memory runs out.
+pub fn paths_asked(alloc: Global, words: &[String]) -> Result<Vec<Text>, Memory>
+    ensures { IfOk result (λ paths. paths.items ≡ paths_asked (node_task_of (map string_bytes words.now))) }
 {
-    Ok(path_of(node_task_of(alloc, words)?))
+    let task = node_task_of(alloc, words)?;
+    paths_of(alloc, task)
 }

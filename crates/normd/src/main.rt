@@ -6,7 +6,7 @@ mod numbering;
 use crate::numbering::{Numbers, number};
 use norm_base::Memory;
 use norm_host::{FolderFiles, HostClock, HostFabric, StdSink, StdSource};
-use norm_program::{WordsFault, arguments, needed, path_asked, run, say_cause};
+use norm_program::{WordsFault, arguments, needed, paths_asked, run, say_cause};
 use norm_watch::{Tally, WatchedFabric, WatchedSink, asked_in, end_progress};
 use std::alloc::Global;
 use std::io;
@@ -29,14 +29,14 @@ fn keep_what_is_freed(alloc: Global) -> Result<(), Memory> {
     Ok(())
 }
 
-/// Tells the files the path of the profile that the words ask for, where they ask for one.
+/// Tells the files the paths of the profiles that the words ask for.
 fn tell(
     alloc: Global,
     words: &Result<Vec<String>, WordsFault>,
     files: &mut FolderFiles<HostRuntime>,
 ) -> Result<(), Memory> {
     if let Ok(words) = words {
-        if let Some(path) = path_asked(alloc, words)? {
+        for path in paths_asked(alloc, words)? {
             files.tell(&path.into_inner())?;
         }
     }
@@ -81,7 +81,7 @@ fn network<R: Net + Threads + Wait + Clock + Copy + Send + Drop + 'static>(
     Ok(fabric)
 }
 
-/// Makes the real objects, and runs the program on them. Its files are those of the folder that it runs in, and the profile that it is
+/// Makes the real objects, and runs the program on them. Its files are those of the folder that it runs in, and each profile that it is
 /// given the path of.
 fn main(rt: HostRuntime) -> ExitCode {
     let alloc = rt.alloc();
