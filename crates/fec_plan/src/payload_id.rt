@@ -7,7 +7,7 @@ use std::marker::Model;
 
 /// The FEC Payload ID of FEC Encoding ID 5: the source block number, below 16,777,216, and the encoding
 /// symbol id.
-// The block fits 24 bits always. One that did not would leave no bits for the symbol as the id is written.
+// The block fits 24 bits always. With one that did not, the id would overflow the 32 bits in which it is written.
 #[derive(Clone, Copy, Debug, PartialEq, Eq)]
 pub struct PayloadId {
     pub block: u32,

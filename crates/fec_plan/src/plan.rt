@@ -15,7 +15,7 @@ pub const MOST_BLOCKS: u32 = 16_777_216;
 pub const LAST_BLOCK: u32 = MOST_BLOCKS - 1;
 
 /// The least octets of a symbol.
-// Our own choice: with less, most of a datagram would be headers (32 octets of NORM, 28 of UDP and IP). A plan with less is refused.
+// Our own choice: with less, about half of a datagram or more would be headers (32 octets of NORM, 28 of UDP and IP). A plan with less is refused.
 pub const LEAST_SYMBOL: u16 = 64;
 
 /// The most octets of a symbol.
@@ -50,7 +50,7 @@ pub enum PlanFault {
 
 /// How an object of `l` octets, or a stream, is cut into symbols of `e` octets and blocks of at most `b`
 /// source symbols, with `max_n` encoding symbols for a block of `b`.
-// Only a sound cut is ever made. With a length or a `b` of 0 every count of blocks would divide by 0.
+// Only a sound cut is ever made. An `e` or a `b` of 0 would divide by 0 as blocks are counted, and an `l` of 0 as their sizes are computed.
 #[derive(Clone, Copy, Debug, PartialEq, Eq)]
 pub struct Plan {
     l: Option<u64>,

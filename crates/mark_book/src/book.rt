@@ -104,11 +104,12 @@ impl Book {
     pub fn ack(&mut self, node: NodeId, at: Position)
         ensures { (p : Settings) (s : SenderState) → Stands p self.old s → Stands p self.new (credited node at s) }
     {
-        // What is no news is passed over before anything else, since receivers confirm a position again in each round of flushes.
+        // What is no news is passed over before anything else: a member that is flushed again before its answer came confirms twice.
         if !self.listings.rises(node, at) {
             return;
         }
         self.listings.raise(node, at);
+        // Proof: untold nodes differ and are all listed, so there is room for each (length-le_from_is_member).
         put_node(&mut self.untold, node);
         self.watermarks.settle(&self.listings);
     }
@@ -211,7 +212,7 @@ impl Book {
         ensures { (p : Settings) (s : SenderState) → Stands p self.old s → Stands p self.new (struck_off node s) }
     {
         self.listings.strike(node);
-        // A rise of one that is no member would otherwise be told after its strike.
+        // A rise of one that is no member would otherwise be reported after its strike.
         take_node(&mut self.untold, node);
         self.watermarks.settle(&self.listings);
     }

@@ -42,7 +42,6 @@ impl Model for Listings {
 
 impl Listings {
     /// These nodes, each once, where it first stands, and listed past nothing.
-    // Proof: members differ and are all listed, so length-le_from_is_member counts them.
     pub fn begun(alloc: Global, nodes: &[NodeId]) -> Result<Listings, AllocError>
         ensures { IfOk result (λ listings. listings ≡ unlisted (once_each nodes.now)) }
     {

@@ -12,7 +12,7 @@ use norm_send_rules::Outcome;
 use std::marker::Model;
 
 /// An open watermark: its number and its position.
-// The number comes with its position. Asked for by the number, a position would have an answer for numbers that no watermark has.
+// The number comes with its position. A position that is asked for by the number needs an answer for numbers that no watermark has.
 #[derive(Clone, Copy, Debug, PartialEq, Eq)]
 pub struct OpenWatermark {
     pub mark: u32,

@@ -500,7 +500,7 @@ impl Collection {
 
     /// Takes the requests of a NACK, as far as the window has what they ask for, into what the open round asks for. What
     /// names no index to the window's sender asks for nothing.
-    // Proof: a request counts the window's objects as whole, as the last source symbol is the last object's. Marks then decide every test of the
+    // Proof: for a request that comes now, the order as it came (as_it_came) is the order as it stands. Marks then decide every test of the
     // rules.
     pub fn add(&mut self, profile: &Profile, requests: Requests<'_>)
         ensures added { HasAdded (map (named profile.now (known_of self.old)) requests.entry) self.old self.new }

@@ -23,8 +23,8 @@ use symbol_mask::Mask;
 /// The slots of an object, of which so many source symbols are closed, that the open round asks for. A run of whole blocks is kept as its end alone, at the block with which
 /// it begins, and filled as the round closes; all other slots are kept in a set. The first `whole` blocks are whole. Where `complete` is set,
 /// all closed source symbols are among them.
-// All blocks of a run are whole, so a run needs no look at what is closed. A run over a block that is not would ask for symbols that do not exist
-// yet.
+// All blocks of a run are whole. A run is filled only as the round closes, so over a block that still grows it would ask for symbols too that
+// were closed after the request.
 #[derive(Debug, Drop)]
 pub struct Coverage {
     plan: Plan,

@@ -68,7 +68,7 @@ fn gives_something(request: &Request<'_>) -> bool
 }
 
 /// The first point that some items name, by flags.
-// Proof: the least index is a fold, so the loop needs one line of an invariant.
+// Proof: the least point is a fold, so the loop's invariant is short.
 fn least_of_items(profile: &Profile, known: u32, flags: u8, items: &[u8]) -> Option<Point>
     ensures { result ≡ least_with None (firsts flags (items_spans profile.now known (items_named items.now))) }
 {

@@ -28,8 +28,8 @@ use symbol_mask::Mask;
 /// An object of the window: how many of its source symbols are closed, the first block that is kept, which of its slots are wanted, and how
 /// many, and which were sent. Of the open round the slots that it asks for, of each block the greatest count, and whether it asks for
 /// anything. All sets, the counts and what is asked for are numbered from the first kept block on.
-// An object in no round has no slots and counts (`is_asked`), and every set has a slot for each block that has room. Otherwise a closing would
-// pass an object over that asks for something, or a slot would lie past its set.
+// An object of which the round asks for nothing (`is_asked`) has no asked slots and no counts, and every set has 256 slots for each block that has
+// room. Otherwise a closing would pass over an object of which something is asked for, or a slot would lie past its set.
 #[derive(Debug, Drop)]
 pub struct Marks {
     plan: Plan,
@@ -227,7 +227,7 @@ impl Marks {
         self.sent.rises();
         self.asked.rises();
         let count = block - self.first;
-        // 256 slots a block are four words of 64 bits, so the sets move by whole words.
+        // 256 slots a block are four 64-bit words, so the sets move by whole ones.
         let words = 4 * count as usize;
         // Counted before the sets move: `wanted` is exactly the number of wants, or a union would be idle with one left, or busy with none.
         let gone = self.wants.take_below(BLOCK * count as usize + 1);
@@ -258,7 +258,7 @@ impl Marks {
     }
 
     /// Nothing is done: it says what holds of each object, for the invariant of a collection.
-    // Held of an object as it changes, and not of all of them as a NACK comes: NACKs come more often.
+    // Called for an object as it changes, so that a NACK need not go over all objects of the window.
     pub fn hold(&self)
         ensures { IsPlanned self.now }
     {
@@ -460,7 +460,7 @@ impl Marks {
         ensures { self.new ≡ record self.old { counts = set self.old.counts block (max (slice_index self.old.counts block) lacking) } }
     {
         let place = (block - self.first) as usize;
-        // Parity repairs whatever was lost, so what the receiver needs that lacks most is enough for all (RFC 5740 section 5.4).
+        // Parity repairs any loss, so as many symbols as the receiver needs that lacks most are enough for all (RFC 5740 section 5.4).
         let most = greater(self.counts[place], lacking);
         self.counts[place] = most;
         self.is_asked = true;

@@ -29,7 +29,7 @@ fn count_fresh(sent: &Mask, block: u32, from: u8, to: u8) -> u8
 }
 
 /// Asks for so many of a block's symbols from one up to another that were never sent, the lowest first.
-// Proof: the invariant is that what is left, put into what is here, is all put into what was there.
+// Proof: the invariant: to put what is left to ask for into the set as it is gives the same as to put all of it into the set as it was.
 fn ask_fresh(asked: &mut Mask, sent: &Mask, block: u32, from: u8, to: u8, count: u8)
     requires asked { symbol_slot block to ≤ asked.old.size }
     requires sent { symbol_slot block to ≤ sent.now.size }

@@ -64,8 +64,8 @@ impl Union {
 
     /// Takes one more object into the window, of which nothing is wanted and nothing was sent, and makes all the room
     /// that it needs. Its index is the one behind the last object's. Want of memory leaves the union as it was.
-    // Two calls, `admit` and `admit_stream`, because an object comes whole, with a number of blocks, all of it closed, and perhaps an info. Of a
-    // stream none of that is known.
+    // Two calls, `admit` and `admit_stream`, because an object comes whole, with a number of blocks, all of it closed, and perhaps an info. A
+    // stream has no info and no number of blocks, and nothing of it is closed yet.
     pub fn admit(&mut self, index: u32, plan: &Plan, info: bool) -> Result<(), Memory>
         requires { index ≡ self.old.kept.first + length self.old.kept.objects }
         ensures exact { IfOk result (λ _. self.new ≡ record self.old { kept = with_object (admitted plan.now info) self.old.kept }) }

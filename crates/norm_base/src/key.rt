@@ -140,7 +140,7 @@ impl Key {
             // RFC 5740 sections 4.1 and 4.2.1: instances and object transport ids have 16 bits.
             Key::Instance => numbers("instance", 0, 65_535, 1),
             Key::First => numbers("first", 0, 65_535, 0),
-            // RFC 5740 section 4.1: 0 and 2^32 - 1 name no member. Below them is room for 16 receivers behind the sender.
+            // RFC 5740 section 4.1: 0 and 2^32 - 1 name no member. Behind the greatest sender 16 numbers are left for receivers.
             Key::Sender => numbers("sender", 1, 4_294_967_278, 1),
             // Our own choice, as most that follows. A flush names all that have to confirm, and each watermark is settled by a look at all
             // members.
@@ -153,7 +153,7 @@ impl Key {
             Key::Auto => numbers("auto", 0, 255, 0),
             // A receiver has as many places for objects from the hand-up point on.
             Key::Window => numbers("window", 1, 256, 256),
-            // 2^24: a window lies in one ring, and a receiver takes an object's memory with its plan.
+            // 2^24: the objects of a window lie in one ring, and a receiver takes an object's memory with its plan.
             Key::Octets => numbers("octets", 1, 16_777_216, 16_777_216),
             // At least two, since a write may begin in the middle of a block and has to fit behind it.
             Key::Blocks => numbers("blocks", 2, 256, 16),

@@ -10,7 +10,7 @@ use norm_base::Datagram;
 use std::marker::Model;
 
 /// The extension's type.
-// RFC 5740 section 4.2.1, EXT_FTI.
+// RFC 5740 section 4.1, EXT_FTI.
 pub const FTI_TYPE: u8 = 64;
 /// Its length in words.
 // Our own layout, after RFC 5510 section 5.2.4.1: 48 bits of L, 16 of E, 8 of B and 8 of max_n behind type and length.

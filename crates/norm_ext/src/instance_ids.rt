@@ -6,7 +6,8 @@ ghost use Rattle.norm_ext.specs.InstanceIds.{is_above, rise};
 use norm_base::{ID_COUNT, InstanceId};
 
 /// How far an id lies above another at most: less than half of all ids.
-// Our own choice: half of all ids lie above each one, going round, as with sequence numbers. A restart beyond it is refused with `IdUsed`.
+// Our own choice, as with sequence numbers: of two ids never more than one lies above the other, going round. A sender refuses a restart that is
+// further above its first instance with `IdUsed`.
 pub const MOST_RISE: u32 = 32_767;
 
 /// Returns how far an id lies above another, going round.

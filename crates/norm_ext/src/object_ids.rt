@@ -10,7 +10,8 @@ use norm_base::{ID_COUNT, Profile};
 // RFC 5740 section 4.2.1: an object transport id has 16 bits.
 const ALL_IDS: u64 = ID_COUNT as u64;
 /// How far below what is known an id still names an index.
-// Our own choice: half of all ids name indices below what is known, half above. What lies further away would be taken for another object.
+// Our own choice: half of all ids name indices below what is known, the others what is known and indices above. What lies further away would be
+// taken for another object.
 const BELOW: u64 = 32_768;
 /// The greatest index of an object.
 // Our own choice: the index behind it still has 32 bits. An object more is refused with `IdsSpent`.

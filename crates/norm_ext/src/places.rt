@@ -23,7 +23,8 @@ pub const COMMON: usize = 8;
 pub const COMMON_WORDS: u8 = 2;
 
 /// The place of the instance, but in feedback.
-// From here to `NAME_AT`: the sender's messages, RFC 5740 sections 4.2.1 to 4.2.3. An acknowledgement's type and id stand among them.
+// From here to `NAME_AT`: the sender's messages, RFC 5740 sections 4.2.1 to 4.2.3. Feedback has an acknowledgement's type and id at the same
+// octets.
 pub const INSTANCE_AT: usize = 8;
 /// The place of the round trip time.
 pub const GRTT_AT: usize = 10;
@@ -46,14 +47,14 @@ pub const ACK_ID_AT: usize = 15;
 /// The place of a symbol's name.
 pub const NAME_AT: usize = 16;
 /// The place of the sender in feedback.
-// From here on feedback, in a layout of our own after RFC 5740 sections 4.3.1 and 4.3.2: it names the sender that it is for, and then that
+// These two are of feedback, in a layout of our own after RFC 5740 sections 4.3.1 and 4.3.2: it names the sender that it is for, and then that
 // sender's instance.
 pub const SENDER_AT: usize = 8;
 /// The place of the instance in feedback.
 pub const FEEDBACK_INSTANCE_AT: usize = 12;
 
 /// The words of an INFO's header without extensions, and its octets.
-// A header that says fewer words is refused, so each field of a message can be read without a further look at its length.
+// These and the next: a header that says fewer words is refused, so each field can be read without a further look at the length.
 pub const INFO_WORDS: u8 = 4;
 
 pub const INFO: usize = 16;
@@ -70,7 +71,7 @@ pub const NAMING_WORDS: u8 = 5;
 
 pub const NAMING: usize = 20;
 /// The words of the header of feedback without extensions, and its octets.
-// Both kinds of feedback end with the RFC's time stamp of two words. Without congestion control it stays 0.
+// The headers of NACK and ACK end with the RFC's time stamp of 64 bits. Without congestion control it is written as 0.
 pub const FEEDBACK_WORDS: u8 = 6;
 
 pub const FEEDBACK: usize = 24;

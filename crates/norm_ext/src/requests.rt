@@ -14,7 +14,7 @@ use crate::refusal::Refusal;
 use std::marker::Model;
 
 /// A request: its form, its flags, and the octets of its items.
-// The items stay octets, with their reserved ones, since a list of requests is written as it is lent.
+// The items stay octets, with their reserved ones: a message that is written takes its list of requests as it is lent.
 #[derive(Clone, Copy, Debug)]
 pub struct Request<'a> {
     pub form: Form,

@@ -6,7 +6,7 @@ use norm_base::{InstanceId, NodeId};
 
 /// Returns whether feedback that names `sender` and `instance` is for the sender with the number `node`, whose current
 /// instance is `current`. Feedback for an earlier instance speaks of objects that are gone.
-// Told by both, because every member hears the feedback for every sender, and an instance id says nothing without its sender.
+// Both are compared, because every member hears the feedback for every sender, and an instance id says nothing without its sender.
 pub fn is_for(sender: NodeId, instance: InstanceId, node: u32, current: InstanceId) -> bool
     ensures { result ≡ (sender == node && instance == current) }
 {

@@ -37,7 +37,7 @@ fn is_file_name(name: &[u8]) -> bool
     ensures { result ≡ is_file_name name.now }
 {
     // The names of scripts, and nothing else: a name with a slash or a leading dot could lead out of the folder. A symbolic link in it is the
-    // user's own, and is followed.
+    // user's own: a read follows it, and a put takes its place.
     if name.is_empty() || name.len() > 64 || name[0] == b'.' {
         return false;
     }
@@ -110,7 +110,7 @@ fn fault_of(error: &io::Error) -> FileFault
 }
 
 /// The most octets of a file that are read ahead: a file that is sent is asked for a symbol at a time.
-// Our own choice, 256 KiB: a file is asked for a symbol at a time, and opened, measured and read anew each time without this.
+// Our own choice, 256 KiB. Without this a file would be opened, measured and read anew for each symbol.
 const AHEAD: usize = 262_144;
 
 /// Octets of a file that were read ahead, from an offset on.
@@ -144,8 +144,8 @@ impl Ahead {
 }
 
 /// How often in a row a file's length is answered as the system said it: while a file's command waits, its length is asked for in each turn.
-// Our own choice. A file that changes while its command waits is offered with its old length 64 times at most: one that grew is then cut there,
-// and one that shrank is a fault.
+// Our own choice. After a file changed while its command waits, its old length is answered 64 times at most. If the file is sent by that length,
+// one that grew is cut there, and one that shrank is a fault.
 const AS_SAID: u32 = 64;
 
 /// A file's length as the system said it, and how often it may be answered once more.
@@ -214,8 +214,7 @@ impl<F: fs::Files + Drop> FolderFiles<F> {
     /// # Errors
     ///
     /// `Memory` where memory runs out.
-    // The program's one function is over files by name, and a path as the shell gives it is no such name. So it is told here before the program
-    // runs.
+    // `norm_main` reads files by name, and a path as the shell gives it may be no name of a file here. So `main` calls this before it.
     pub fn tell(&mut self, path: &str) -> Result<(), Memory>
         ensures told { OnOk result (told_to self.new ≡ told_to self.old ++ path.now ∷ []) }
         ensures kept { OnErr result (told_to self.new ≡ told_to self.old) }

@@ -42,7 +42,7 @@ impl<C: time::Clock> HostClock<C> {
     {
         let start = self.start.unwrap_or(reading);
         self.start = Some(start);
-        // A clock that falls behind its first reading must not make a moment of 2^64.
+        // A clock that falls behind its first reading must not make a moment near 2^64.
         reading.saturating_sub(start)
     }
 

@@ -18,7 +18,7 @@ use std::os::unix::fs::{DirBuilderExt, OpenOptionsExt};
 use std::rt::Env;
 
 /// One octet more than the longest line of a number has: so a longer file is seen to be longer.
-// A number of 16 bits has five digits and a line feed. A file that fills this is no line of one.
+// A number of 16 bits has at most five digits, and then comes a line feed. A file that fills this is no such line.
 const ROOM: usize = 7;
 
 /// Who may use the folder, and a file in it: its user alone.
@@ -44,7 +44,7 @@ fn below(path: Option<String>, name: &str) -> Result<Option<String>, AllocError>
     let Some(mut path) = path else {
         return Ok(None);
     };
-    // The XDG specification says that a relative path is to be ignored.
+    // The XDG specification has a relative path in its variables ignored. One in $HOME is ignored too.
     if !is_absolute(path.as_bytes()) {
         return Ok(None);
     }

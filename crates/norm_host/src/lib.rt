@@ -4,8 +4,8 @@
 mod folder;
 mod folder_cause;
 mod host_clock;
-// Sockets are in norm_udp and are not published again here: the program meets them through `HostFabric`, and a change of a file's or a stream's
-// adapter proves nothing of them again.
+// Sockets are in norm_udp, so that after a change of a file's or a stream's adapter nothing of them is proved again. They are not published again
+// here: the program meets them through `HostFabric`.
 mod host_fabric;
 mod instance_fault;
 mod instance_file;

@@ -58,7 +58,7 @@ impl<W: Write> Sink for StdSink<W> {
             self.keep(error);
             return Err(Failed);
         }
-        // At each line, so that whoever reads the output along sees it, and a fault is told at the line that it is of.
+        // Flushed at each write, so that whoever follows the output sees it at once, and a fault is reported at the line that failed.
         if let Err(error) = self.writer.flush() {
             self.keep(error);
             return Err(Failed);

@@ -9,7 +9,7 @@ use norm_base::{Cause, Failed, Source};
 use std::io::{self, ErrorKind, Read};
 
 /// The octets that a source gives at most.
-// Our own choice, so that a count of octets always fits. No input comes to it; beyond it a read fails.
+// Our own choice, so that a count of octets always fits. No input is that long; beyond it a read fails.
 const MOST: u64 = (1 << 63) - 1;
 
 /// A reader of std as a source. It tells nothing of what is left, but what the reader tells goes on: a

@@ -20,8 +20,8 @@ pub enum Event {
     },
     /// A command was offered to the sender. Where it had to wait it is offered again in each turn. Its job comes with the
     /// first offer; that of a file with the offer that accepts it.
-    // A command that waits is offered in each turn, and would else stand in the journal with all its octets each time. A file's octets come with
-    // the offer that accepts it, because a sender refuses by name and length alone.
+    // A command that waits is offered in each turn, and would otherwise stand in the journal with all its octets each time. A file's octets come
+    // with the offer that accepts it, because a sender refuses by name and length alone.
     Job {
         by: Origin,
         job: Option<Job>,
@@ -45,7 +45,7 @@ pub enum Event {
         bytes: Octets,
     },
     /// A datagram was taken from the network, and delivered where the run has that node.
-    // Free to the judge, also octets that nobody offered: whether takes are honest is said by a word of its own. A run of a sender alone has no
+    // The judge accepts any, also octets that nobody offered: whether takes are honest is a definition of its own. A run of a sender alone has no
     // receivers, so what it takes for another node is delivered to nobody.
     Took {
         to: NodeId,
@@ -62,7 +62,7 @@ pub enum Event {
     /// The sender told a change.
     News(News),
     /// The run ended, and its summary was made.
-    // The summary is an event, so that every printed line is that of one. A file that is not there is none: the journal stops after the pull of
-    // its command, and nothing else may come there.
+    // The summary is an event, so that every printed line of a journal is that of one. A file that is not there is no event: the journal stops
+    // after the pull of its command.
     End,
 }

@@ -60,7 +60,7 @@ pub fn begins_lawfully()
 {}
 
 /// A sender goes by a file's name and its length alone.
-// Proof: files are told with zeros of their length, so the rules need no second function by lengths.
+// Proof: the rules are given zeros of the file's length (file_of_length), so they need no second function by lengths.
 #[tactic(auto, using(crate::proofs::LengthLemmas::files_by_length))]
 pub fn files_go_by_length()
     ensures { FilesGoByLength }
@@ -125,7 +125,7 @@ pub fn ends_last()
 {}
 
 /// The judge accepts an event with a state exactly where the event may come, and leads there.
-// Proof: relation and judge are one record of both directions (Exactly); as an abbrev it left P undetermined.
+// Proof: relation and judge are one record of both directions (Exactly). An abbrev would leave its P undetermined.
 #[tactic(auto, using(crate::proofs::FollowLemmas::judges_what_follows))]
 pub fn judges_what_follows()
     ensures { JudgesWhatFollows }

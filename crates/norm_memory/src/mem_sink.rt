@@ -13,7 +13,7 @@ use std::marker::Model;
 
 /// Octets in memory, where the calls with the listed numbers fail and leave all as it was. So does a
 /// call that finds no memory.
-// The ends rise and none is past the octets, so that the pieces in a row are all that was written.
+// The ends never fall, and the last one is the end of the octets, so that the pieces in their order are all octets.
 #[derive(Debug, Drop)]
 pub struct MemSink {
     octets: Vec<u8>,
@@ -87,8 +87,8 @@ impl Sink for MemSink {
             self.calls.fail();
             return Err(Failed);
         }
-        // `write` has no answer for want of memory, so it counts as a failed call. Nothing was written then, and an empty front is no piece: a
-        // list of pieces that grows without end would need memory too.
+        // `write` has no answer for want of memory, so it counts as a failed call. Nothing was written then, so no piece is added: that would need
+        // memory too.
         if self.add(bytes).is_err() {
             self.calls.fail();
             return Err(Failed);

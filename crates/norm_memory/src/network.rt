@@ -125,7 +125,7 @@ impl MemNetwork {
         ensures ok { OnOk result (self.new ≡ started self.old profile.now local) }
         ensures err { OnErr result (self.new ≡ self.old) }
     {
-        // Both takes of memory before the first change, so that a failed start leaves the session before as it was.
+        // What needs memory comes first, so that a failed start leaves the session before as it was.
         let members = session_members(self.alloc, profile)?;
         self.starts.push((*profile, local))?;
         self.members = members;

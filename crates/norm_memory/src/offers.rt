@@ -16,7 +16,7 @@ struct Offer {
 }
 
 /// Datagrams of at most 1,500 octets with the members that offered them. The octets stand in one row.
-// One row in place of a vector for each, so that an offer takes memory only as the row grows.
+// One vector for all octets and none for each datagram, so that an offer takes memory only as the vectors grow.
 #[derive(Debug, Drop)]
 pub(crate) struct Offers {
     octets: Vec<u8>,

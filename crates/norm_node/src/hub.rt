@@ -135,6 +135,7 @@ impl HubRun {
 /// # Errors
 ///
 /// `Fabric` where a call of the network failed, or `Memory`.
+// It answers nothing more: a run is all turns of the profile, and what it passed on stands in the network (`RunsHub`).
 pub fn run_hub<F: Fabric, C: Clock>(
     alloc: Global,
     profile: &Profile,

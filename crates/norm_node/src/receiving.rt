@@ -17,6 +17,8 @@ use std::alloc::Global;
 /// # Errors
 ///
 /// `Write`, `Fabric` or `Files` where a call of the output, the network or the files failed, or `Memory`.
+// It answers nothing more: a run is all turns of the profile, and what it did stands in the network, the lines and the files (`RunsReceiver`).
+// Whether all was done only the sender knows.
 pub fn run_receiver<K: Sink, F: Fabric, D: Files, C: Clock>(
     alloc: Global,
     profile: &Profile,

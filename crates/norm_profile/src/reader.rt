@@ -76,7 +76,7 @@ fn given_in(alloc: Global, table: &Table) -> Result<Result<Given, ProfileRefusal
 {
     let mut given = Given::new();
     for (name, value) in table.iter() {
-        // A key that is misspelt would otherwise leave its default in force, and nobody would be told.
+        // A key that is misspelt would otherwise leave its default in force, and nobody would notice.
         let Some(key) = Key::named(name.as_bytes()) else {
             return Ok(Err(no_key(alloc, name)?));
         };

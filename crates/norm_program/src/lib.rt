@@ -1,8 +1,8 @@
 //! The program as a library: what its words ask for and how that ends it (`program`), each command (`session`, `show`, `generate`, `send`,
 //! `recv`, `hub`), the outside that it lends them as one value (`lent`), its words (`words`; what they ask for says `norm_args`), its
-//! input (`input`), the last line that it writes (`last_line`) and the statuses (`status`). `normd` makes the real objects, reads the words by `arguments`, and ends with what `run` answers;
-//! `run` does for its words what `norm_main` does, which programs and tests call over objects of their own. What stands on
-//! standard error is in `reason`.
+//! input (`input`), the last line that it writes (`last_line`) and the statuses (`status`). `normd` makes the real objects, reads the words
+//! by `arguments`, and ends with what `run` answers; `run` does for its words what `norm_main` does, which programs and tests call over
+//! objects of their own. What stands on standard error is in `reason`.
 #![tactic(auto)]
 
 mod boarded;

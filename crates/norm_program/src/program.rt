@@ -27,6 +27,7 @@ use std::sync::Wait;
 use std::thread::Threads;
 
 /// What is written where the words are no command.
+// One line for all wrong words, which a clause fixes (`usage_line`). What is wrong with them goes to standard error.
 const USAGE: &[u8] =
     b"usage: normd session | show | generate N | send PROFILE | recv PROFILE NODE | hub PROFILE\n";
 

@@ -14,24 +14,30 @@ use std::fmt;
 use std::process::ExitCode;
 
 /// The program's name and version.
+// No command asks for it, so it stands beside the usage line. On standard error, because a clause fixes all that the output gets then.
 const VERSION: &str = "normd 0.1.0";
 
 /// What `session` takes.
+// Why words are refused is not kept, so each of these says all that its command takes. The bounds are those of `chance` and `turns`.
 const SESSION_TAKES: &str =
     "session takes --chance N, from 0 to 4294967295, and --turns N, from 1 to 4000000, each at most once, and no other word";
 
 /// What `generate` takes.
+// The bounds are those of 32 bits, of which `generate` takes every number.
 const GENERATE_TAKES: &str = "generate takes one word, a number from 0 to 4294967295";
 
 /// What `send` takes.
+// The bounds are those of the key `instance`.
 const SEND_TAKES: &str =
     "send takes one word, the path of a profile, and --instance I, from 0 to 65535, at most once";
 
 /// What `recv` takes.
+// The bounds are those of a node's id (RFC 5740 section 4.1). Whether the profile has the node is seen only after the profile is loaded.
 const RECV_TAKES: &str =
     "recv takes two words, the path of a profile and a node, from 1 to 4294967294";
 
 /// What `hub` takes.
+// Not as for `show`, which names the word that is too many: `hub` is refused without a path too, and then no word could be named.
 const HUB_TAKES: &str = "hub takes one word, the path of a profile";
 
 /// Why a command that stands alone is refused with these words behind it.
@@ -115,7 +121,7 @@ pub(crate) struct Reason<'a> {
     pub words: &'a [String],
 }
 
-// Proof: a value that prints itself takes no memory, so want of memory can be said too.
+// A value that prints itself takes no memory, so want of memory can be said too.
 impl fmt::Display for Reason<'_> {
     ghost output = { λ r. reason_of r.ending.now (map string_bytes r.words.now) };
 

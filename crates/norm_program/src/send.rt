@@ -33,6 +33,7 @@ fn with_instance(profile: Profile, instance: Option<u32>) -> Profile
 }
 
 /// How the sender of a profile ends the program, run alone over the script that the input is; what each ending says is in `EndsScript`.
+// A sender alone is one more case of a session (`Asked`), so that what each ending says is written once for both.
 fn send<R: Threads + Wait + Sync, S: Source, K: Sink, F: Fabric, D: Files, C: Clock>(
     rt: &R,
     alloc: Global,

@@ -20,6 +20,7 @@ use std::sync::Wait;
 use std::thread::Threads;
 
 /// A profile with what the options give in place of its own.
+// The options stand in the profile that is run, so that the clauses of a session speak of one profile and know of no options.
 fn profile_with(profile: Profile, options: Options) -> Profile
     requires { FitsOptions options }
     ensures { result ≡ profile_with options profile }

@@ -18,6 +18,7 @@ fn refuse_line<K: Sink>(alloc: Global, number: u64, why: NoDatagram, output: &mu
             say(output, line.as_bytes());
             Ending::Line { number, why }
         }
+        // There is no memory to name the refused line. The status is 1, and the lines before it stand.
         Err(_) => Ending::Memory,
     }
 }

@@ -126,7 +126,7 @@ impl Parts {
                 };
                 self.deliver_said(&command_naming(head, *object), &said, now, draw)
             }
-            // This sender never says so, because members hear each other. It is heeded, since others may.
+            // NORM_CMD(REPAIR_ADV). Our sender never sends it, because members hear each other's NACKs. Other implementations may.
             CommandMsg::RepairAdv { head, requests, .. } => self.hear_adv(head, requests),
             _ => Ok(()),
         }

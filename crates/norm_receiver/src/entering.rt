@@ -28,7 +28,7 @@ pub(crate) struct Naming {
 
 impl Parts {
     /// What a receiver is as an instance begins, beside what it is now.
-    // A whole new state beside the old one, because the message that begins an instance may want memory. If it does, this one stays as it was.
+    // A whole new state beside the old one: if memory runs out in the message that begins an instance, this one stays as it was.
     fn entering(&self, instance: InstanceId) -> Result<Parts, Memory>
         ensures profile { IfOk result (λ next. next.profile ≡ self.now.profile) }
         ensures state { IfOk result (λ next. (s : ReceiverState) → Stands (kept_of self.now) s → Stands (kept_of next) (enters instance s)) }

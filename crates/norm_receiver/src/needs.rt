@@ -64,7 +64,7 @@ fn blocks_flushed(flush: &Option<Position>, index: u32, all: u32) -> u32
     ensures most { result ≤ all }
 {
     match flush {
-        // A flush goes up to the last source symbol of an object, so its block was sent too. Of the block of the farthest point more may still
+        // Within data or a file, a flush names the last source symbol, so its block was sent too. Of the block of the farthest point more may still
         // come.
         Some(at) => blocks_before(index, all, at.index, u64::from(at.block) + 1),
         None => 0,

@@ -179,8 +179,8 @@ impl Numbers {
     pub(crate) fn backing_off(&self, profile: &Profile, now: Moment, draw: u32) -> Numbers
         ensures { result ≡ record self.now { backoff = Some (moment_after now (draw % (profile.now.k * profile.now.grtt + 1))) } }
     {
-        // Uniform over K round trips, by a draw that is handed in: our own choice. RFC 5401 section 3.2.2 has a truncated exponential for large
-        // groups.
+        // Uniform over K round trips, by a draw that is handed in: our own choice. RFC 5401 section 3.2.2 has a truncated exponential distribution,
+        // by the size of the group.
         let most = u64::from(profile.k) * u64::from(profile.grtt) + 1;
         Numbers {
             backoff: Some(moment_after(now, u64::from(draw) % most)),

@@ -11,7 +11,8 @@ use rx_hold::Hold;
 #[derive(Debug, Drop)]
 pub(crate) struct Parts {
     pub profile: Profile,
-    // What is held and what is known are two records of the rules, and two fields here. Both are swapped whole as an instance begins.
+    // `hold` is what the rules call `holding`. `heard` and `numbers` are the rest of their state. As an instance begins all three are begun anew,
+    // except the node and its sequence number.
     pub hold: Hold,
     pub heard: Heard,
     pub numbers: Numbers,

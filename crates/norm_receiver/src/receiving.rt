@@ -176,7 +176,8 @@ fn keep_told(
     let Err(fault) = keep(hold, index, brought) else {
         return Ok(());
     };
-    // The plan came with the symbol that found no memory. If it stayed, the datagram would have changed something, and could not count as lost.
+    // The plan came with the info or symbol that found no memory. If it stayed, the datagram would have changed something, and could not count as
+    // lost.
     if word == Fit::Taken {
         hold.untake(index);
     }

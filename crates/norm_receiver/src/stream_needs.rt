@@ -85,7 +85,7 @@ fn block_seen(hold: &Hold, index: u32) -> u32
     ensures seen { (s : Holding) → HoldStands hold.now s → HasSeenBlocks s → IfSome (plan_of s index) (λ found. says_stream found.flags ≡ true → result ≡ found.seen) }
 {
     match hold.seen(index) {
-        // The greatest block stands in the stream and not in the numbers: nothing is seen of a stream without a plan.
+        // The greatest block stands in the stream and not in the numbers: no block is seen of a stream without a plan.
         Some(block) => block.min(LAST_BLOCK),
         None => 0,
     }
@@ -210,8 +210,8 @@ fn rest_from(end: &Option<Position>, behind: bool, least: u32) -> Option<u32>
     if !behind {
         return None;
     }
-    // Block 16,777,215 is done and no end came: no request can name more of the stream. It waits for a squelch, and what comes after it is asked
-    // for all the same. This is the one state in which something is needed and nothing of the object at the hand-up point can be.
+    // Block 16,777,215 is done and no end came: no request can name more of the stream. It waits for a squelch, and what comes after it is asked for
+    // all the same. Only then may something be needed without anything of the object at the hand-up point (`FrontLaws`).
     if least > LAST_BLOCK {
         return None;
     }

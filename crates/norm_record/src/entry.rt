@@ -11,7 +11,7 @@ use norm_base::{Moment, NodeId, Octets, Origin, Sent};
 use norm_send_rules::{Job, News, Outcome, Receipt, SendFault};
 
 /// An event without its octets: these stand at its place among what is kept.
-// The octets stand elsewhere, so an entry has a few words: a session has many times more events than different datagrams.
+// An entry is small, because a session has many times more events than different datagrams.
 #[derive(Clone, Copy)]
 pub(crate) enum Entry {
     /// The turn at this place.

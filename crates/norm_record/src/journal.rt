@@ -157,7 +157,7 @@ impl Journal {
     pub fn push_turn(&mut self, t: u32, now: Moment) -> Result<(), Memory>
         ensures { Adds self.old self.new result (event.Turn t now) }
     {
-        // 32 bits keep an entry small. Beyond them the journal answers `Memory`, which so many entries would want anyway.
+        // 32 bits keep an entry small. Beyond them the journal answers `Memory`, and so many entries hardly fit a memory anyway.
         let Ok(at) = u32::try_from(self.turns.len()) else {
             return Err(Memory);
         };
@@ -227,7 +227,7 @@ impl Journal {
         ensures { Adds self.old self.new result (event.Took to octets.now) }
     {
         self.entries.reserve(1)?;
-        // A take gives what was offered before, if the network is honest. Then its octets are there, and nothing is copied.
+        // If the network is honest, a take gives what was offered before. Then its octets are mostly kept already, and nothing is copied.
         if let Some(at) = self.offers.find(octets) {
             self.entries.push_reserved(Entry::Took { to, at });
             return Ok(());

@@ -11,7 +11,7 @@ use std::collections::HashMap;
 use std::marker::Model;
 
 /// Offered datagrams, seen as the list of them. Of each name the last place is known.
-// For each name the map has the last place. With an older one a take of a repeated sequence number would be kept twice.
+// The last one: with an older one, a datagram whose sequence number was used before would be kept once more as it is taken.
 #[derive(Drop)]
 pub(crate) struct Offers {
     row: Row,

@@ -14,7 +14,7 @@ pub(crate) struct Piece {
 }
 
 /// Pieces of octets, seen as the list of them.
-// Each piece lies within the octets, and together they are all of them: so the count of octets is that of what is kept.
+// Each piece lies within the octets, and together they have as many: so the count of octets is that of what is kept.
 #[derive(Drop)]
 pub(crate) struct Row {
     octets: Vec<u8>,

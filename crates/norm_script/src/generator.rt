@@ -16,7 +16,6 @@ use norm_base::{Failed, Sink};
 const SETTINGS: u32 = 11;
 
 /// All lines: those, and a hundred commands of each of three producers.
-// 11 settings, and three times 100 commands.
 const ROWS: u32 = 311;
 
 /// A line with its line feed.

@@ -13,7 +13,7 @@ use norm_base::{Key, Memory, NodeId, Octets};
 use std::alloc::Global;
 
 /// The most octets of a line.
-// Our own choice: contents of 16,384 digits and the words before them. With an info both are shorter. A longer line is refused with `LongLine`,
+// Our own choice: contents of 16,384 digits and the words before them. An info has to fit the same line. A longer line is refused with `LongLine`,
 // unread.
 const MOST_OCTETS: usize = 16_500;
 

@@ -17,8 +17,8 @@ use norm_base::{Memory, Profile};
 use std::alloc::Global;
 
 /// The most commands of a script.
-// Our own choice. Far below the 32,768 objects within which every id is unambiguous, so that no session can have a datagram that comes too late.
-// One more is refused with `ManyCommands`.
+// Our own choice. Far below the 32,768 objects within which every id is unambiguous, so that no datagram of a session comes so late that its id
+// means another object. One more command is refused with `ManyCommands`.
 const MOST_COMMANDS: usize = 4096;
 
 /// How many of these commands a producer has.
@@ -158,7 +158,7 @@ pub fn read_script(alloc: Global, text: &[u8]) -> Result<Script, ScriptFault>
 }
 
 /// Reads a script for a profile that is given: no line of it sets a key.
-// It answers the line alone. Why the line has no meaning is found by a second reading, since only people are told it.
+// It answers the line alone. Why the line has no meaning is found by a second reading, since only people need to know it.
 pub fn read_commands(alloc: Global, text: &[u8], profile: &Profile) -> Result<Script, ScriptFault>
     ensures { MatchResult result (λ script. commands_of profile.now text.now ≡ Ok script) (IsRefused (commands_of profile.now text.now)) }
 {

@@ -196,7 +196,7 @@ impl Parts {
         ensures obeys { Obeys (kept_of self.old) (kept_of self.new) job result }
     {
         hold_range(&self.profile);
-        // Proof: each arm ensures Obeys of its own command, so the match wants no answer.
+        // Proof: each arm ensures Obeys of its own command, so the match needs no answer.
         match job {
             Job::Data { info, bytes } => self.enqueue_data(info, bytes),
             Job::File { name, bytes } => self.enqueue_file(name, bytes),

@@ -78,7 +78,7 @@ impl Parts {
                 Ok(())
             }
             Err(refusal) => {
-                // `begin` of the window may still want memory. Then nothing is dropped, and the union takes its part back.
+                // `begin` of the window may still run out of memory. Then nothing is dropped, and the union takes its part back.
                 self.union.withdraw();
                 Err(refusal)
             }

@@ -17,7 +17,8 @@ use mark_book::keeps_oldest;
 use norm_base::{Datagram, Moment, Sent};
 
 /// So many flushes are sent of a watermark that nothing else goes on for.
-// NORM_ROBUST_FACTOR of RFC 5740, 20 by default. After this many without a new want the watermark expires: those that are left do not answer.
+// NORM_ROBUST_FACTOR of RFC 5740, 20 by default. After this many without a new want the watermark expires, as soon as no round is open: members
+// that are left are taken to be silent.
 const MOST_FLUSHES: u32 = 20;
 
 impl Parts {

@@ -94,7 +94,7 @@ impl Parts {
         ensures profile { self.new.profile ≡ self.old.profile }
         ensures stands { SenderMoves (kept_of self.old) (kept_of self.new) (λ p s. nack_heard p s now (nack_message msg.now)) }
     {
-        // A struck receiver may still ask, since it may hand up what it gets. It only confirms nothing any more.
+        // A struck receiver may still ask: others that heard its NACK hold theirs back. Only its acknowledgements count no more.
         if !self.profile.is_receiver(msg.source) {
             return;
         }

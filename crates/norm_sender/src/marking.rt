@@ -74,7 +74,7 @@ impl Parts {
         if let Some(fault) = self.book.quorum_fault(quorum) {
             return Err(fault);
         }
-        // Where the order would end is asked before the stream is cut: what wants memory comes first, and want of memory then leaves all as it
+        // Where the order would end is asked before the stream is cut: what takes memory comes first, and want of memory then leaves all as it
         // was.
         let Some(at) = self.window.end_cut() else {
             self.cut();

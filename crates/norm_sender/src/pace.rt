@@ -59,8 +59,8 @@ impl Pace {
     }
 
     /// The numbers as another instance begins.
-    // The count of flushes falls to 0 for order alone. No datagram goes by it: a restart cuts all watermarks, and the next one that becomes the
-    // oldest sets it to 0 anyway. The sequence goes on, since receivers know it across instances.
+    // No datagram depends on the count of flushes becoming 0: a restart cuts all watermarks, and the next one that becomes the oldest sets it to
+    // 0 anyway. The sequence number goes on: it counts the datagrams of this node, whatever their instance.
     pub(crate) fn begun_anew(&self, instance: InstanceId) -> Pace
         ensures { (s : SenderState) → self.now ≡ pace_of s → result ≡ pace_of (begun_anew instance s) }
     {
@@ -189,7 +189,7 @@ impl Pace {
         ensures { result ≡ next_flush self.now.last_flush grtt now }
     {
         match self.last_flush {
-            // RFC 5740 section 5.5.3: a round trip for the flush, and one for the answers.
+            // RFC 5740 section 5.5.3: two round trips, so that answers to one flush come before the next one goes.
             Some(last) => moment_after(last, 2 * u64::from(grtt)).0 <= now.0,
             None => true,
         }

@@ -158,7 +158,7 @@ impl Sender {
         ensures back { IfErr result (λ refusal. GivesBack job refusal) }
         ensures memory { answer_of result ≡ Err send_fault.Memory → self.new ≡ self.old }
     {
-        // Both are part of the event in the rules, by which the clause speaks of a run. A sender keeps nothing of them.
+        // Both are part of the event in the rules, and `by` is named by the clause. A sender keeps nothing of them.
         let _ = (by, now);
         self.parts.command(job)
     }
@@ -169,8 +169,8 @@ impl Sender {
     ///
     /// The fault by which [`command`](Sender::command) would refuse each file of this name and length, and with it the name, or
     /// `Memory` without it. Then nothing changes.
-    // That no file is begun is a condition on what is kept, and each call that asks for it says that it holds afterwards. So a caller need not
-    // know for which state the sender stands.
+    // That no file is begun is a condition on what is kept, and each other call that changes a sender says that it holds afterwards, except
+    // `file_piece`. So a caller need not know for which state the sender stands.
     pub fn begin_file(&mut self, name: Octets, len: u64) -> Result<(), (Option<Octets>, SendFault)>
         requires { self.old.window.filling ≡ None }
         ensures profile { self.new.p ≡ self.old.p }

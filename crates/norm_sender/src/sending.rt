@@ -72,7 +72,7 @@ impl Parts {
         ensures stands { SenderMoves (kept_of self.old) (kept_of self.new) (λ p s. noted (Symbol at) s) }
     {
         self.window.note_sent(at);
-        // The window asks whether all was sent before it drops an object, the union which parity was never sent. Each keeps its own answer.
+        // The window asks whether all was sent before it drops an object, the union which parity was never sent. Each keeps its own marks.
         self.union.note_sent(at);
     }
 
@@ -156,7 +156,7 @@ impl Parts {
         let Some(plan) = self.window.plan(at.index) else {
             return flags::REPAIR;
         };
-        // Our own choice: parity answers a count and not a name, so it has REPAIR alone.
+        // Our own choice: parity has REPAIR alone, since mostly it answers a count. That an item may have named it makes no difference.
         if at.symbol < plan.source_len(at.block) {
             return EXPLICIT_REPAIR;
         }

@@ -161,7 +161,7 @@ fn offer_job(world: &mut World, by: Origin, job: Job, now: Moment) -> Result<Giv
 fn count(totals: &mut Totals, gave: &Gives) -> Result<(), Memory>
     ensures { OnOk result (totals.new ≡ with_gave gave.now totals.old) }
 {
-    // The counts are exact, so one that does not fit 64 bits ends the run as want of memory does. It would take more lines than memory has.
+    // The counts are exact, so one that does not fit 64 bits ends the run as want of memory does. No script has lines enough for that.
     if !totals.has_room_for_gave(gave) {
         return Err(Memory);
     }
@@ -202,7 +202,7 @@ impl Run {
         ensures cause { NeedsMemory result }
     {
         let place = arrived.place as usize;
-        // A producer hands over any number: what is no place of the script is passed over, so the clause needs no fact about the ring.
+        // A producer may hand over any number: what is no index of a line is passed over, so the clause needs no fact about the ring.
         if place >= script.lines.len() {
             return Ok(None);
         }

@@ -19,7 +19,7 @@ use std::thread;
 use std::thread::Threads;
 
 /// A session has at most so many producers, each in a thread of its own.
-// The key `producers` goes up to 4, and each gets a thread of its own. A script with a greater number is refused.
+// The key `producers` goes up to 4. A script with a greater number is refused.
 const MOST_PRODUCERS: usize = 4;
 
 /// What comes out of the ring.
@@ -49,7 +49,7 @@ fn insist<R: Wait>(rt: &R, ring: &Gate, seat: &mut Seat, place: u32)
     // Proof: the label names the loop for its invariant.
     'tries: for _ in rt.forever() {
         match ring.submit(rt, seat, place) {
-            // Not taken either, as the ring has a place for each line. A smaller ring would work the same.
+            // Not taken: the ring has a slot for each line. With a smaller ring the producer would try again.
             Err((_place, GateFault::Full)) => thread::yield_now(),
             // Not taken: a script has at most 4,096 commands, which a seat may submit.
             Err((_place, GateFault::TooMany)) => break,

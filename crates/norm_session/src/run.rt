@@ -13,8 +13,8 @@ use std::alloc::Global;
 use std::marker::Model;
 
 /// A run of a script so far: its nodes, and its journal unless its sender is alone.
-// Proof: what a function says is of every context (Context), from a place of a turn to another. So a run keeps nothing of what it was begun over,
-// and a turn is its functions' clauses, one applied to the other.
+// Proof: a function's clause is said of every context (Context), from one stage of a turn to another. So a run keeps nothing of what it was begun
+// over, and the clause of a turn is that of its functions, one after the other.
 #[derive(Drop)]
 pub struct Run {
     pub(crate) alloc: Global,
@@ -24,7 +24,7 @@ pub struct Run {
     pub(crate) world: World,
     pub(crate) journal: KeptJournal,
     /// The line that is printed, in memory that is kept from one to the next.
-    // Kept from line to line, so that a run of many short lines takes no memory for each.
+    // A run prints many short lines, and none of them then takes memory of its own.
     pub(crate) line: Line,
     pub(crate) totals: Totals,
     pub(crate) draws: Lcg64Xsh32,

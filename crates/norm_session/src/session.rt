@@ -44,7 +44,7 @@ pub(crate) struct Made {
 ///
 /// `Write`, `Fabric` or `Files` where a call of the output, the network or the files failed; `Absent` where a command's file is not
 /// there; or `Memory`, which also ends a run whose board has no place left for an outcome.
-// Proof: a front of a lawful run is lawful, so takes and files of a front are not looked at again (safe_throughout).
+// Proof: a prefix of a lawful run is lawful, so takes and files of a prefix are not looked at again (safe_throughout).
 pub fn run_session<
     R: Threads + Wait + Sync,
     K: Sink,
@@ -80,7 +80,7 @@ pub fn run_session<
             journal: journal.unwrap(),
             whole,
         }),
-        // The fault alone. The clause says that there is a journal up to it, which the network and the output have; the events that were kept go.
+        // Only the fault: the events that were kept are dropped. The clause says that there is a journal up to it that fits network and output.
         Err(fault) => Err(fault),
     }
 }
@@ -94,7 +94,7 @@ pub fn run_session<
 ///
 /// `Write`, `Fabric` or `Files` where a call of the output, the network or the files failed; `Absent` where a command's file is not
 /// there; or `Memory`, which also ends a run whose board has no place left for an outcome.
-// No journal, since nobody reads it and it would grow with each datagram. That there is one says the clause.
+// No journal is kept, since nobody would read it and it would grow with each datagram. The clause says that there is one.
 pub fn run_send<
     R: Threads + Wait + Sync,
     K: Sink,

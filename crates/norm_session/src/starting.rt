@@ -37,7 +37,7 @@ fn begun_journal(alloc: Global, alone: bool) -> Result<KeptJournal, Memory>
     ensures { IfOk result (λ journal. journal ≡ kept_of alone (event.Start ∷ [])) }
 {
     let mut journal = KeptJournal::new(alloc, alone);
-    // Before the network starts: once it is started it has to be in the journal, and that may want memory.
+    // Before the network starts: after it started, the journal has to say so, and to write that takes memory.
     journal.push_start()?;
     Ok(journal)
 }

@@ -64,7 +64,7 @@ impl Run {
     /// # Errors
     ///
     /// `Fabric` where the network failed, or `Memory`.
-    // Proof: each arm is a function with a clause for every network, so the call itself needs two lines.
+    // Proof: each arm is a function with a clause for every network, so what is left of the call itself is short.
     pub fn take<F: Fabric>(
         &mut self,
         fabric: &mut F,
@@ -106,7 +106,7 @@ impl Run {
             if !self.take(fabric, datagram)? {
                 return Ok(());
             }
-            // After each datagram and not after all of them: of two rises of one member only the last would be told then.
+            // After each datagram and not after all of them: of two rises of one member only the last would be reported then.
             self.tell_all(board, output)?;
         }
         Ok(())

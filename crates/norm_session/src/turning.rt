@@ -131,7 +131,7 @@ impl Run {
         };
         let step = self.step();
         let moment = moment_of(turn, step, self.now, clock);
-        // Before the turn begins: the push may want memory, and the run is then still in the turn before.
+        // Before the turn begins: if memory runs out here, the run is still in the turn before.
         self.journal.push_turn(turn, moment)?;
         self.turn = turn;
         self.now = moment;

@@ -13,7 +13,7 @@ use std::simd::prelude::*;
 const LANES: usize = 64;
 
 /// The sixteen digits, four times over.
-// The look-up in 64 lanes goes by each sixteen lanes alone, so each of the four needs the table.
+// The look-up stays within sixteen lanes, so each of the four groups of lanes needs the table.
 const DIGITS: [u8; 64] = *b"0123456789abcdef0123456789abcdef0123456789abcdef0123456789abcdef";
 
 /// The digit of the high half of each lane.
@@ -66,7 +66,7 @@ fn padded(octets: &[u8]) -> u8x64
 }
 
 /// Puts the digits of fewer than 64 octets behind a text that has room for them.
-// No form of its own for few octets: lines print contents of many octets, or none.
+// No form of its own for few octets: time counts where contents are long, and there this does only their end.
 fn put_few(text: &mut Vec<u8>, octets: &[u8])
     requires few { length octets.now < 64 }
     requires room { vec_len text.old + 2 * length octets.now ≤ vec_capacity text.old }

@@ -56,7 +56,7 @@ fn look_through(
     ensures sieved { IfOk result (λ found. IfSome found (λ _. is_cut_off sieve.new.profile sieve.new.cut (heard_in into.new) ≡ false)) }
     ensures err { OnErr result (into.new ≡ []) }
 {
-    // A bound on datagrams that are passed over: a stranger who sends without end would otherwise keep this call from its node.
+    // Bounded, because a sender of another profile that sends without end would otherwise keep the node from its turn.
     for _ in 0..MOST_PASSED {
         let Some(found) = open.look(buffer, into)? else {
             return Ok(None);
@@ -112,7 +112,7 @@ impl<R: Net + Wait + Clock + Drop> UdpFabric<R> {
     }
 
     /// Has these threads send what the hub offers, and what a sender alone does. It comes before `start`.
-    // A call of its own and no part of `start`: the methods of a trait know of no bound that a value may go to another thread.
+    // Not a part of `start`: threads need an `R` that may go to another thread, which a network without threads does not ask for.
     pub fn send_by(&mut self, senders: Senders)
         ensures faults { self.new.faults ≡ self.old.faults }
         ensures passed { passed_by self.new ≡ passed_by self.old }
@@ -127,7 +127,7 @@ impl<R: Net + Wait + Clock + Drop> UdpFabric<R> {
         ensures passed { passed_by self.new ≡ 0 }
         ensures misfit { misfit_by self.new ≡ None }
     {
-        // Before the sockets go, and by the lane: what was offered before still goes out.
+        // Through the lane, after what was offered before. Each thread has sockets of its own, so that this still goes out.
         self.senders.leave(&self.rt);
         self.open = Open::Nothing;
         self.sieve = Sieve::open();
@@ -255,7 +255,7 @@ impl<R: Net + Wait + Clock + Drop> UdpFabric<R> {
         requires { length bytes.now ≤ datagram_room }
         ensures { IfErr result (λ cause. is_sending cause ≡ true) }
     {
-        // What a thread failed at is told by the next call of the node. Nobody else hears of it, and a fault that is not told would be lost data.
+        // The next call of the node reports what a thread failed at. If none did, a fault would pass for data that the network lost.
         self.senders.check(&self.rt)?;
         self.open.send(&self.rt, &self.senders, from, bytes)
     }

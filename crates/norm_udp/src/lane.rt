@@ -16,29 +16,28 @@ use std::thread::Parker;
 use std::time::{Clock, Duration};
 
 /// How many datagrams lie in a lane at most.
-// Our own choice: half a second of datagrams at a gap of one millisecond, and under 1 MB for each thread.
+// Our own choice: half a second of datagrams at the default gap of one millisecond, and under 1 MB for each thread.
 const PLACES: usize = 512;
 
 /// How many failures of a thread are kept until a call tells them: the first says what is wrong.
-// The node ends with the first failure, so no second one can be told.
+// The node ends with the first failure that is reported, so nobody would hear of a second one.
 const MOST_FAILURES: usize = 1;
 
 /// Microseconds of a sleep of a thread that finds nothing to send, and of a node that finds no place.
-// Our own choice: long enough that a waiting thread costs little, and short beside the gap between datagrams.
+// Our own choice: long enough that a waiting thread costs little, and short beside the default gap of one millisecond.
 const SLEEP: u64 = 50;
 
 /// How often a thread sleeps before it rests until it is woken, and a node before it gives a datagram up.
-// Ten milliseconds. A thread rests after it because nothing is sent for long; a node gives up after it because it must not stand still for a
-// thread that hangs.
+// Our own choice, ten milliseconds. A thread rests after it because nothing was sent for long. A node gives up after it because it must not stand
+// still for a thread that hangs.
 const MOST_SLEEPS: u32 = 200;
 
 /// How often a node that ends sleeps at most while what it posted is sent.
-// Some five seconds: enough for a lane of datagrams that take some milliseconds each. A process that ends must not wait for ever.
+// Our own choice, some five seconds: enough for a full lane if each datagram takes some milliseconds. A process that ends must not wait for ever.
 const MOST_DRAINING: u32 = 100_000;
 
 /// What lies in a lane: where the thread sends from here on, or a member's datagram, and on the way back what its sending failed at. It lies in
 /// a box, so that a queue moves a pointer and not all of it.
-// Boxed, since a queue moves its items on each push and pop. Without the box that was half of what a thread took beside the call that sends.
 #[derive(Drop)]
 pub(crate) struct Posted {
     pub(crate) way: Option<Way>,
@@ -49,8 +48,8 @@ pub(crate) struct Posted {
 }
 
 /// What a node and a thread that sends for it share. The node takes a place for what it posts, and the thread gives it back.
-// All memory is there from the start, in place of a channel that makes room as it goes. A place is in `places`, in `posted`, in `failures` or with
-// the thread; one that were lost would leave less room for good, and `drain` would wait for it.
+// All memory is there from the start, in place of a channel that makes room as it goes. A place is in `places`, `posted` or `failures`, or the node
+// or the thread holds it. A lost one would leave less room for good, and `drain` would wait for it in vain.
 #[derive(Drop)]
 pub(crate) struct Lane {
     /// What the thread has to send, in the order that it was offered.

@@ -8,7 +8,7 @@ use libc::{EAGAIN, ECONNREFUSED};
 use std::io;
 
 /// The system has no buffers (Linux's ENOBUFS).
-// Linux's number, which the kit does not name. On another system the error has another number, and counts as a fault.
+// Linux's number, which `libc` does not name here. On another system the error has another number, and counts as a fault.
 const NO_BUFFERS: i32 = 105;
 
 /// Whether an error of a socket is a lost datagram: nobody is there, or there is no room for it.

@@ -12,7 +12,7 @@ const LONGEST_LOOK: u64 = 1_000;
 const RECENT: u64 = 10_000;
 
 /// Microseconds of a sleep where a datagram was offered or taken lately.
-// Our own choice: what an answer may be late by while datagrams come. Less of it costs the processor that other nodes of this machine need.
+// Our own choice: how late an answer may be while datagrams come. A shorter sleep takes time of the processor from other nodes of this machine.
 const SHORT_SLEEP: u64 = 250;
 
 /// Microseconds of a sleep where none was.

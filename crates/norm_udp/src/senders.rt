@@ -20,7 +20,7 @@ use std::time::Clock;
 const PROCESSORS_EACH: usize = 2;
 
 /// A machine with fewer processors has no thread that sends.
-// Our own choice: with fewer a thread that sends takes the processor that the node would use itself.
+// Our own choice: with fewer, a thread that sends may take the processor that the node would use itself.
 const LEAST_PROCESSORS: usize = 4;
 
 /// How many threads send at most.
@@ -77,7 +77,7 @@ fn threads_here<R: Threads>(rt: &R) -> usize {
 /// Threads that send what a hub or a sender offers, and what each is told by. As it is dropped, each thread ends once it has sent what
 /// was offered.
 // Threads stand behind the network and not in the node, because the call that sends is most of what a hub does. The node stays one thread, so no
-// clause of it speaks of others: what a thread sends is a network that delays.
+// clause of it speaks of others: to the node, a thread that sends later is a network that delays.
 pub struct Senders(Vec<Arc<Lane>>);
 
 impl Drop for Senders {

@@ -12,11 +12,11 @@ use std::net::{Net, SocketAddr, UdpSocket};
 use std::os::fd::AsRawFd;
 
 /// Octets of a buffer that a datagram is received into: one more than a datagram may have, so that a longer one shows.
-// A read cuts what is longer than the buffer. With one octet more a datagram that is too long is told from one that fits.
+// A read cuts what is longer than the buffer, and does not say so.
 pub(crate) const BUFFER: usize = DATAGRAM_ROOM + 1;
 
 /// Octets of the receive buffer that a socket asks for.
-// Our own choice, 4 MiB: some 2,800 datagrams of full size, so that a turn that hands up or prints loses nothing. The system may give less.
+// Our own choice, 4 MiB: some 2,800 datagrams of full size, so that little is lost while a turn hands up or prints. The system may give less.
 const RECEIVE_BUFFER: i32 = 4 << 20;
 
 /// How many datagrams in a row are passed over at most, before it is answered that nothing is there.

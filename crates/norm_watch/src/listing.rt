@@ -6,7 +6,7 @@ const MOST: usize = 16;
 
 /// A place in the transport order, as one number that rises with it.
 fn place_of(index: u64, block: u64, symbol: u64) -> u64 {
-    // 32 bits of index, 24 of block and 8 of symbol fill one word, in the order that positions have.
+    // 32 bits of index, 24 of block and 8 of symbol fill 64 bits, in the order that positions have.
     index.wrapping_shl(32) | block.wrapping_shl(8) | symbol
 }
 

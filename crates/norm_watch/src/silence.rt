@@ -3,7 +3,7 @@
 use std::time::Duration;
 
 /// How many seconds nothing comes until that is said.
-// Our own choice: far longer than the pause between two flushes, twice `grtt`, which is 20 milliseconds by default.
+// Our own choice: far longer than the pause between two flushes, which is twice `grtt`: 20 milliseconds by default.
 const SILENCE: u64 = 10;
 
 /// When a node heard something last, by a clock that is not read at each datagram, and whether it was said that it hears nothing.

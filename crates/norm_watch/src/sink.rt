@@ -10,7 +10,7 @@ use crate::tally::Tally;
 use norm_base::{Failed, InstanceId, Sink};
 
 /// The most words of a line that are looked at.
-// No line has more words before its contents that are counted.
+// No word that is counted stands after the eighth.
 const MOST_WORDS: usize = 8;
 
 /// The most octets of a line that are looked at: the words that are counted stand before contents.

@@ -261,7 +261,7 @@ impl World {
     }
 
     /// A node's datagram is offered to the network. Nothing of it is kept.
-    // The network and the journal have the octets. Kept here they would grow with the session, and the call could want memory.
+    // The network and the journal have the octets. Kept here they would grow with the session, and the call could run out of memory.
     pub fn offered(&self, from: NodeId, bytes: &[u8])
         ensures { IsEvent self.now self.now (Offered from bytes.now) (λ answer. answer ≡ Silent) }
     {}

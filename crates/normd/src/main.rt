@@ -17,8 +17,7 @@ use std::thread::Threads;
 use std::time::Clock;
 
 /// Octets of the block that is freed at the start: some objects of 1 MiB.
-// The C library gives freed memory back to the system above a bound that it raises to the greatest block freed so far. Without this objects of 1
-// MiB are made of new pages each time, a tenth of a session's time: 55,000 page faults with 16 objects and 16 receivers, 32,000 with it.
+// Our own choice. The C library raises its bound for no block above 32 MiB, so a greater one than that would change nothing.
 const FREED_FIRST: usize = 8 << 20;
 
 /// Has memory that is freed kept for what comes next. The C library gives it back to the system above a bound that grows with the greatest

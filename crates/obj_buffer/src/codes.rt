@@ -14,7 +14,7 @@ use std::marker::Model;
 use std::sync::Arc;
 
 /// The codes of the blocks of one plan: blocks have one length or two, and the first block has the greater one.
-// Each code is that of its length, so a symbol is made without a look at its numbers.
+// Each code is made for the length of its blocks. With any other one, receivers could not decode the parity.
 #[derive(Debug, Drop)]
 pub struct Codes {
     plan: Plan,

@@ -32,8 +32,8 @@ impl Model for Kept {
 
 /// The codes that were made so far, so that a code is made once, whatever number of objects has blocks of its length. Under
 /// one profile there is at most one for each length of a block.
-// A code of 200 source symbols takes some 70 microseconds to make, much longer than one symbol, and objects of one profile have few lengths of
-// blocks. They share a code by `Arc`, so each object stays whole in itself, and nothing needs to be known of the table where a symbol is made.
+// To make a code of many source symbols takes much longer than to make a symbol, and one profile has at most 200 lengths of blocks. Objects share
+// a code by `Arc`, so each object stays whole in itself, and nothing needs to be known of the table where a symbol is made.
 #[derive(Debug, Drop)]
 pub struct CodeTable {
     kept: Vec<Kept>,
@@ -51,7 +51,7 @@ impl CodeTable {
     fn find(&self, k: u8, n: u8) -> Option<&Arc<Code, Global>>
         ensures { MatchOption result ⊤ (λ code. arc_value code.now ≡ record { k = k; n = n }) }
     {
-        // One after the other: there is at most one code for each length of a block, and mostly there are two.
+        // One after the other: there is at most one code for each length of a block, and a search comes with an object, not with a symbol.
         for kept in &self.kept {
             if kept.k == k && kept.n == n {
                 return Some(&kept.code);

@@ -37,7 +37,7 @@ impl Model for Board {
 }
 
 /// What one thread reads a board with. It never waits, and what it saw or was told of it sees again.
-// Only tests make one so far. It stays for programs whose producers ask what became of their marks.
+// Only tests ask one: the program makes one with its board, and drops it. It stays for programs whose producers ask what became of their marks.
 #[derive(Drop)]
 pub struct BoardReader {
     pub(crate) words: Arc<Words, Global>,
@@ -110,7 +110,7 @@ impl Board {
         ensures same { self.new.id ≡ self.old.id }
         ensures ends { PublishEnds self.old mark outcome result self.new }
     {
-        // All memory is taken when the board is made, so a full board can only be told as want of memory. A script has no more marks than places.
+        // All memory is taken when the board is made, so `Memory` means a full board here. It has one entry for each command that a script may have.
         if self.count >= MOST {
             return Err(Memory);
         }

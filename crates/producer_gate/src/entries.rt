@@ -18,7 +18,7 @@ pub enum Seen {
 const KINDS: u64 = 4;
 
 /// How many values a count of 32 bits has.
-// `left` has 32 bits. Above the two bits of the kind it fits a word of 64.
+// `left` has 32 bits. Above the two bits of the kind it fits a 64-bit word.
 const COUNTS: u64 = 1 << 32;
 
 /// An outcome as one word: its kind, and above that its count.

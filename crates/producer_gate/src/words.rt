@@ -7,7 +7,7 @@ use std::alloc::Global;
 use std::collections::LinkedList;
 
 /// The most entries that a board holds.
-// As many outcomes as a script has commands. Beyond it `publish` answers `Memory`.
+// Our own choice: as many entries as a script may have commands. Beyond it `publish` answers `Memory`.
 pub(crate) const MOST: u64 = 4096;
 
 /// How many words these take, with the count of them.

@@ -90,7 +90,7 @@ fn recover_from<P: Piece>(
 {
     let size = out.len();
     match position_of(ids, j) {
-        // Most symbols do come, and a sum costs a pass over all k of them.
+        // It came, and lies at another index. Coefficients exist only for a symbol that did not come, and a sum would cost a pass over k symbols.
         Some(i) => out.copy_from_slice(came_at(ids, P::symbol(pieces, size, i), aside, size, i)),
         None => {
             put_coefficients(places, weights, place_of(j), coefficients);

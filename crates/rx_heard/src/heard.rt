@@ -16,7 +16,7 @@ use std::alloc::Global;
 use std::marker::Model;
 
 /// The most spans of symbols, the most spans of infos and the most counts that are kept of what was heard.
-// Our own choice. Beyond it a message is not heard, and no memory is wanted for it: at worst the receiver asks for what others asked for.
+// Our own choice. A message that might pass it is not heard at all: at worst the receiver asks for what others asked for.
 const MOST_HEARD: usize = 4096;
 
 /// From one position to another, both included.
@@ -245,7 +245,7 @@ impl Model for Heard {
 
     ghost view = { λ h. record { symbols = h.symbols.items; infos = h.infos.items; counts = h.counts.items } };
 
-    // If two spans shared a position, or did not rise, the search by halves would miss what was heard.
+    // If two spans shared a position, or did not rise, the search by halves could miss what was heard.
     ghost invariant = { λ h. IsOrderly (record { symbols = h.symbols.items; infos = h.infos.items; counts = h.counts.items }) };
 }
 

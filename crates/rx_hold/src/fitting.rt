@@ -61,7 +61,7 @@ impl Front {
         ensures { result ≡ (nat_le (self.now.point + most_ahead) index || nat_lt self.now.profile.octets (self.now.taken + room_of self.now.profile fti.now flags)) }
     {
         let profile = self.profile;
-        // What a sender may make a receiver keep is bounded twice, by objects and by octets: a plan costs its memory before any symbol came.
+        // What a sender may make a receiver keep is bounded twice, by objects and by octets: data and files take room for all symbols at once.
         (index - self.point) as usize >= PLACES
             || self.taken + room_of(&profile, fti, flags) > u64::from(profile.octets)
     }
@@ -88,7 +88,7 @@ impl Front {
         let Ok(plan) = plan_by(fti, flags) else {
             return Err(Fit::Unfit);
         };
-        // The room to solve blocks has the sizes of the profile, so no other plan can be solved in it.
+        // Our own choice: a plan has the numbers of the profile. The room to solve blocks is made for these.
         if !is_of(&self.profile, plan.e(), fti) {
             return Err(Fit::Unfit);
         }

@@ -38,7 +38,7 @@ pub struct Front {
     /// The octets that the objects in the ring take.
     pub taken: u64,
     /// How many hand-ups may come of what is held.
-    // The sum over all seats. If it were less, a hand-up could find no room; the room in `ups` is taken by it.
+    // The sum over all seats. `ups` has room for this many beside what it holds. If it were less, a hand-up could find no room.
     pub waiting: usize,
     /// The hand-ups that were not taken yet. There is room for those that may come.
     pub ups: VecDeque<Up>,

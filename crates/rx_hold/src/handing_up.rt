@@ -81,7 +81,7 @@ pub fn waiting_of(place: &Option<Seat>) -> usize
 }
 
 /// Hands up the next segment of a stream at the first place, where that is there.
-// Proof: match on &mut ring[0] keeps the arm that writes nothing apart (set_same).
+// Proof: match on &mut ring[0] keeps the arm that writes nothing apart.
 fn hand_on(ring: &mut VecDeque<Option<Seat>>, told: usize) -> Option<Up>
     requires some { 0 < length ring.old.items }
     requires room { has_stream (at_place ring.old.items 0) ≡ true → told ≤ waiting_at (at_place ring.old.items 0) }
@@ -250,7 +250,7 @@ impl Front {
     }
 
     /// Hands up all that can be. It takes no memory.
-    // Proof: each round holds fewer symbols, so the bound of the rules is never met before the loop ends.
+    // Proof: each round leaves fewer symbols to hand up (left_in), so the bound of the rules is never met before the loop ends.
     pub fn advance(&mut self)
         requires { IsFront self.old }
         ensures sound { IsFront self.new }

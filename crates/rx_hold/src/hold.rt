@@ -41,7 +41,7 @@ use std::marker::Model;
 const SEGMENT_PLACE: usize = 8;
 
 /// What a receiver holds.
-// What is held of one object has a crate of its own (rx_hold), so that no check has to bear both.
+// What is held of one object has crates of its own (rx_object, rx_stream), so that no check has to bear both.
 #[derive(Debug, Drop)]
 pub struct Hold {
     alloc: Global,
@@ -104,7 +104,7 @@ impl Hold {
     /// # Errors
     ///
     /// `Memory` where memory runs out.
-    // Made before the old one goes: a message that begins an instance may still want memory then, and must leave all as it was.
+    // Made before the old one goes: if memory runs out in the message that begins an instance, all must stay as it was.
     pub fn anew(&self) -> Result<Hold, Memory>
         ensures empty { IfOk result (λ hold. hold ≡ empty_hold self.now.p) }
         ensures begun { IfOk result (λ hold. StandsFor hold holding_nothing) }

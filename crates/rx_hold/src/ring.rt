@@ -18,8 +18,8 @@ use std::collections::VecDeque;
 pub const PLACES: usize = 256;
 
 /// What is at a place: an object of either kind.
-// `waiting` counts one hand-up for each symbol of a stream that was kept, and two for its open and its loss. Data and files take two with the
-// object. That much room is there before a symbol is kept; if it were not, handing up could fail for want of memory.
+// `waiting` counts one hand-up for each symbol of a stream that was kept, and two for its open and its loss, less those that were handed up. Data
+// and files take two with the object. That much room is there before a symbol is kept; if it were not, handing up could fail for want of memory.
 #[derive(Debug, Drop)]
 pub struct Seat {
     pub entry: Entry,

@@ -29,7 +29,7 @@ fn free_place(ids: &[u8], symbol: u8) -> usize
     ensures free { slice_index ids.now result ≡ 255 }
 {
     let own = usize::from(symbol);
-    // A source symbol at its own place needs not be moved as the block is solved.
+    // A source symbol at its own place stays there as the block is solved.
     if own < ids.len() && ids[own] == FREE {
         return own;
     }

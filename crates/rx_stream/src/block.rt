@@ -87,7 +87,7 @@ fn position_of(ids: &[u8], id: u8) -> Option<usize>
 }
 
 /// Puts an id, and its row, where they belong.
-// Proof: the id and its row go to one index, so they are one insertion into the list of ids with rows. Only the neighbours' order counts.
+// Proof: the id and its row go to one index, so they are one insertion into the list of ids with rows (listed_more).
 fn keep(
     ids: &mut Vec<u8>,
     mask: &mut IdMask,
@@ -241,7 +241,7 @@ impl Block {
         requires { self.now.size ≡ most + 8 }
         ensures { result ≡ end_in_block most self.now }
     {
-        // Most blocks of a ring are empty, and `end` of a stream asks all of them.
+        // Many blocks of a ring may be empty, and `end` of a stream asks all of them.
         if self.ids.is_empty() {
             return None;
         }

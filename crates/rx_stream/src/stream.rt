@@ -94,7 +94,7 @@ fn fits(plan: &Plan, block: u32, symbol: u8, payload: &[u8]) -> bool
     ensures block { result ≡ true → block < 16777216 }
     ensures sent { result ≡ true → IsSent plan.now.b (plan.now.e + 8) symbol payload.now }
 {
-    // The datagram may name any block, and the plan speaks of these alone.
+    // No datagram names such a block: an id has 24 bits for it. But a caller may, and the plan speaks of the blocks below alone.
     if block >= MOST_BLOCKS {
         return false;
     }
@@ -218,7 +218,7 @@ fn spare_rows(alloc: Global, count: u8, size: usize) -> Result<Vec<Row>, Memory>
 }
 
 /// The first octets of a segment, in one of the spare rows.
-// Proof: an unfinished block needs its own row to be solved, so a hand-up goes into a spare one. There are as many spares as segments left.
+// An unfinished block needs its own row to be solved, so a hand-up goes into a spare one. There are as many spares as segments left.
 fn copy_of(row: &Row, spares: &mut Vec<Row>, len: usize) -> Octets
     requires some { 0 < length spares.old.items }
     requires sizes { AllByRecursion (λ (spare : List ℕ). length spare ≡ length row.now) spares.old.items }

@@ -23,7 +23,7 @@ fn room_for(count: u32) -> u32
     ensures few { count ≤ 1 → result ≡ 0 }
     ensures many { 1 < count → result ≡ count }
 {
-    // One block alone needs none: the ends of the window say all that its link would.
+    // The ends of the window say all that the link of one block alone would.
     if count > 1 { count } else { 0 }
 }
 

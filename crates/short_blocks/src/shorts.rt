@@ -10,8 +10,8 @@ use std::collections::VecDeque;
 use std::marker::Model;
 
 /// Which of the blocks of a window are short. A window is so many blocks in a row.
-// Eight octets a block, so that what a receiver lacks is found by one step from each short block to the next. A bit for each block would be
-// smaller, but a NACK would then pass over all done blocks between two short ones, 262,143 at the most.
+// Eight octets a block, so that what a receiver lacks is found by one step from each short block to the next. A bit for each block would be smaller,
+// but a NACK would then pass over all done blocks between two short ones, 262,142 at the most.
 #[derive(Debug, Drop)]
 pub struct Shorts {
     /// The window's first block, and the number behind its last one.

@@ -35,7 +35,7 @@ fn run_from(sent: &VecDeque<bool>, from: usize) -> usize
     requires { from ≤ run_of sent.now.items }
     ensures { result ≡ run_of sent.now.items }
 {
-    // Proof: by place, so that the loop's invariant speaks of so many marks.
+    // Proof: by index, so that the loop's invariant speaks of this many marks.
     for place in from..sent.len() {
         if !sent[place] {
             return place;

@@ -86,7 +86,7 @@ fn seal_row(ring: &mut [u8], start: usize, size: usize, used: usize, place: &[u8
     ensures { ring.new ≡ over (start + used) (replicate (size - used) 0) (over start place.now ring.old) }
 {
     put(ring, start, place);
-    // The row had an older segment. Parity is made of whole rows, so what is left of that would be coded.
+    // The row may still hold an older segment. Parity is made of whole rows, so what is left of that would be coded.
     put_zeros(ring, start + used, size - used);
 }
 

@@ -232,7 +232,7 @@ impl Mask {
     }
 
     /// Takes all members out of another set of the same size and puts them into this one, and says how many are new here.
-    // One by one and not word by word: it costs what was asked for and not the size of the window, and the count of the new ones comes with it.
+    // One by one and not word by word, so that the count of the new ones comes with it.
     pub fn take_all(&mut self, other: &mut Mask) -> usize
         requires same { other.old.size ≡ self.old.size }
         requires few { self.old.size < 2 ^ 64 }

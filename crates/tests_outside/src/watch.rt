@@ -218,7 +218,7 @@ const ROWS: [Row; 11] = [
         ],
         said: "nothing came to 127.0.0.1:7002 for ten seconds\nthe hub is to be at 127.0.0.1:7000\nnothing came to 127.0.0.1:7002 for ten seconds\nthe hub is to be at 127.0.0.1:7000\n",
     },
-    // The hub has no moments, so that its step is none of its own.
+    // The hub does nothing by the moments of its turns, so nothing is said of the step.
     Row {
         fabric: FabricKind::Udp,
         step: 1000,
@@ -336,7 +336,7 @@ const ROWS: [Row; 11] = [
         ],
         said: "\r\x1b[K0 octets, 0 objects, 0 repairs, 0 receivers past the oldest watermark\r\x1b[Koffer 2 0f\n",
     },
-    // A restart is told of as its line is written, with the instance that it begins, and no other line is.
+    // A restart is reported as its line is written, with the instance that it begins, and no other line is.
     Row {
         fabric: FabricKind::Udp,
         step: 0,
@@ -354,7 +354,7 @@ const ROWS: [Row; 11] = [
         ],
         said: "restarted 8\n\r\x1b[K5 octets, 1 objects, 0 repairs, 0 receivers past the oldest watermark\r\x1b[Krestarted 65535\n",
     },
-    // So do lines of output that go to the same terminal.
+    // Lines of output that go to the same terminal come in the place of progress too.
     Row {
         fabric: FabricKind::Udp,
         step: 0,
@@ -408,7 +408,7 @@ const ONCE: [Row; 6] = [
         ],
         said: "datagrams of instance 5 come, and this receiver is in 12: they are passed over\n",
     },
-    // A sender hears nobody that it passes over so.
+    // A sender says nothing of other senders. A receiver does, once.
     Row {
         fabric: FabricKind::Udp,
         step: 0,
@@ -439,7 +439,7 @@ const ONCE: [Row; 6] = [
         ],
         said: "datagrams of sender 9 come, and the profile's sender is 1\nthe 1000000 turns are spent, and datagrams still came\n",
     },
-    // What the network passes over came too.
+    // What the network passes over counts as something that came.
     Row {
         fabric: FabricKind::Udp,
         step: 0,
@@ -458,7 +458,7 @@ const ONCE: [Row; 6] = [
         ],
         said: "sender 1 sends with e 1400, b 100, max_n 255, and this profile has 1400, 64, 255: nothing of instance 12 is taken\nthe 1000000 turns are spent\n",
     },
-    // A watermark expired to which nothing ever came, and one before which something came.
+    // A watermark expired at a sender to which nothing ever came, and one at a sender to which something had come.
     Row {
         fabric: FabricKind::Udp,
         step: 0,

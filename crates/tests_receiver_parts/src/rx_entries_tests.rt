@@ -91,7 +91,7 @@ const PUTS: [Step; 37] = [
     // There is room for four blocks, whatever else is wrong.
     Step::Segment((0, 4, 0), (1, 0, 7), 9, Put::Away),
     Step::Segment((0, 4, 9), (65, 0, 7), 9, Put::Away),
-    // No such symbol; a length above 64; octets that are wanting, or follow.
+    // No such symbol; a length above 64; octets that are missing, or too many.
     Step::Segment((0, 0, 5), (64, 0, 7), 72, Put::Unfit),
     Step::Segment((0, 3, 255), (64, 0, 7), 72, Put::Unfit),
     Step::Segment((0, 0, 0), (65, 0, 7), 73, Put::Unfit),

@@ -120,7 +120,7 @@ const WORDS: [Row; 18] = [
     // There is room for two blocks.
     ([0, 1, 1], 2, 0, 64, 72, Put::Away),
     ([0, 1, 1], 16_777_215, 9, 64, 9, Put::Away),
-    // It is no encoded symbol; its length is above 64; octets are wanting, or follow.
+    // It is no encoded symbol; its length is above 64; octets are missing, or too many.
     ([0, 1, 1], 0, 5, 64, 72, Put::Unfit),
     ([0, 1, 1], 1, 255, 64, 72, Put::Unfit),
     ([0, 1, 1], 0, 2, 65, 73, Put::Unfit),

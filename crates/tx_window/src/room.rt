@@ -198,7 +198,7 @@ pub(crate) fn join(
 }
 
 /// What is wrong with the sizes of an object: the first fault that applies.
-// Proof: early returns in the order of the rules' table, so that each is one line of an answer.
+// Proof: early returns in the order of the rules' table, so that each is answered by itself.
 #[tactic(auto, unfolding(norm_order::specs::First::first_where))]
 fn size_fault(profile: &Profile, info: usize, len: u64) -> Option<EnqueueFault>
     ensures exact { result ≡ size_fault profile.now info len }

@@ -207,7 +207,7 @@ impl Window {
     }
 
     /// Begins anew for another instance: no entry is there. It takes no memory.
-    // The codes stay: they depend on the profile alone, which no instance changes.
+    // The codes stay: each depends on a block's length and the profile alone, which no instance changes.
     pub fn clear(&mut self)
         ensures begun { (id : ℕ) → WindowMoves self.old self.new (begun_anew id) }
         ensures profile { self.new.p ≡ self.old.p }

@@ -37,8 +37,8 @@ use tx_object::{Held, Ring};
 /// all its octets are there, then [`finish`](Window::finish), or at any time [`leave`](Window::leave). A stream is opened by
 /// [`open_stream`](Window::open_stream), and goes on by [`write`](Window::write) and [`cut`](Window::cut) until
 /// [`close_stream`](Window::close_stream). Entries are dropped only by calls that need room, and are the first ones.
-// Objects lie in the ring one after the other, up to `free`, and their sizes make `octets`. If they went apart, a new object would be written over
-// one that may still be repaired.
+// Objects lie in the ring one after the other, up to `free`, and `octets` is the sum of the sizes of all entries, streams included. Otherwise a new
+// object could be written over one that may still be repaired.
 #[derive(Debug, Drop)]
 pub struct Window {
     pub(crate) alloc: Global,

@@ -31,7 +31,7 @@ pub fn may_all_go(
     ensures { (ring : List ℕ) (s : SenderState) (entries : List Entry) → AreEntries ring profile.now first entries s held.now.items
         → ((at : Place) → all_past s at ≡ reached_by past.now at) → result ≡ may_all_go profile.now s first (take count entries) }
 {
-    // Proof: by place, so that the loop's invariant speaks of so many entries.
+    // Proof: by index, so that the loop's invariant speaks of this many entries.
     for place in 0..count {
         let entry = &held[place];
         if !entry.may_go(profile, first + place as u32, past) {
