@@ -1,4 +1,4 @@
-//! The events of a session. Contracts see a journal as the list of them; `norm_record` keeps one.
+//! The events of a session. Contracts see a journal as the list of its [`Event`]s; `norm_record` keeps one.
 
 use norm_base::{InstanceId, Moment, NodeId, Octets, Origin, Sent};
 use norm_order::Up;
@@ -18,8 +18,8 @@ pub enum Event {
     Pull {
         by: Origin,
     },
-    /// A command was offered to the sender. Where it had to wait it is offered again in each turn. Its job comes with the
-    /// first offer; that of a file with the offer that accepts it.
+    /// A command was offered to the sender. If it had to wait, it is offered again in each turn. `job` comes with the first offer, or, for a
+    /// file, with the offer that accepts it.
     // A command that waits is offered in each turn, and would otherwise stand in the journal with all its octets each time. A file's octets come
     // with the offer that accepts it, because a sender refuses by name and length alone.
     Job {
@@ -27,7 +27,7 @@ pub enum Event {
         job: Option<Job>,
         gave: Result<Receipt, SendFault>,
     },
-    /// A file of so many octets was offered to the sender, which refused it for good or for now. Its octets were not read.
+    /// A file of `len` octets was offered to the sender, which refused it for good or for now. Its octets were not read.
     Length {
         by: Origin,
         name: Octets,
@@ -44,7 +44,7 @@ pub enum Event {
         from: NodeId,
         bytes: Octets,
     },
-    /// A datagram was taken from the network, and delivered where the run has that node.
+    /// A datagram was taken from the network. It was delivered if the run has that node.
     // The judge accepts any, also octets that nobody offered: whether takes are honest is a definition of its own. A run of a sender alone has no
     // receivers, so what it takes for another node is delivered to nobody.
     Took {
@@ -59,9 +59,9 @@ pub enum Event {
         instance: InstanceId,
         up: Up,
     },
-    /// The sender told a change.
+    /// The sender reported a change.
     News(News),
-    /// The run ended, and its summary was made.
+    /// The run ended with its summary.
     // The summary is an event, so that every printed line of a journal is that of one. A file that is not there is no event: the journal stops
     // after the pull of its command.
     End,

@@ -9,19 +9,19 @@ ghost use Rattle.norm_journal.specs.GoingOn.{GoesOn};
 ghost use Rattle.norm_journal.specs.Handed.{SaysTheHands};
 ghost use Rattle.norm_journal.specs.Laws.{FrontsAreAccepted, FrontsArePrinted, FrontsHappen, PullsInOrder, WholeIsDone, EndsLast, MovesTheWorld, BeginsHonestly, BeginsLawfully, FilesGoByLength, OffersAreTheWorlds, TakesStayHonest, TakesStayDirect, CommandsAreEvents, CommandsAreOfObjects, ScriptsNameOnce};
 
-/// Each front of a journal that is accepted is accepted.
+/// Each prefix of an accepted journal is accepted.
 #[tactic(auto, using(crate::proofs::FrontLemmas::fronts_accepted))]
 pub fn fronts_are_accepted()
     ensures { FrontsAreAccepted }
 {}
 
-/// A journal prints the lines of its front, and then those of the rest.
+/// A journal prints the lines of its prefix, and then those of the rest.
 #[tactic(auto, using(crate::proofs::FrontLemmas::fronts_printed))]
 pub fn fronts_are_printed()
     ensures { FrontsArePrinted }
 {}
 
-/// The events of a journal in the nodes' world are those of its front, and then those of the rest.
+/// The events of a journal in the nodes' world are those of its prefix, and then those of the rest.
 #[tactic(auto, using(crate::proofs::FrontLemmas::fronts_happen))]
 pub fn fronts_happen()
     ensures { FrontsHappen }
@@ -33,33 +33,33 @@ pub fn pulls_in_order()
     ensures { PullsInOrder }
 {}
 
-/// In a run that ended whole nothing is left to do.
+/// If a run ended whole, nothing is left to do: no command to pull or to offer again, no open watermark, and the sender is idle.
 #[tactic(auto, using(crate::proofs::FrontLemmas::whole_done))]
 pub fn whole_is_done()
     ensures { WholeIsDone }
 {}
 
-/// A journal moves the nodes as its events do in their world.
+/// A journal leaves the judge's nodes as its events leave them in their world.
 #[tactic(auto, using(crate::proofs::WorldLemmas::moves_world))]
 pub fn moves_the_world()
     ensures { MovesTheWorld }
 {}
 
-/// Where the takes of a journal are honest, its events are an honest run of the nodes' world, of no more accepted commands than the
-/// script has.
+/// If the takes of a journal are honest, its events are an honest run of the nodes' world. It accepts at most as many commands as the script
+/// has.
 // Proof: a predicate on whatever the judge answers, with lemmas for None, a value, a test and a step.
 #[tactic(auto, using(crate::proofs::LawfulLemmas::begins_honestly))]
 pub fn begins_honestly()
     ensures { BeginsHonestly }
 {}
 
-/// In a session nothing comes too late: where its takes are honest, the nodes have a lawful run.
+/// If the takes of a session are honest, the nodes have a lawful run: nothing comes too late.
 #[tactic(auto, using(crate::proofs::TimeLemmas::begins_lawfully))]
 pub fn begins_lawfully()
     ensures { BeginsLawfully }
 {}
 
-/// A sender goes by a file's name and its length alone.
+/// A sender's answer to a file depends only on the file's name and length.
 // Proof: the rules are given zeros of the file's length (file_of_length), so they need no second function by lengths.
 #[tactic(auto, using(crate::proofs::LengthLemmas::files_by_length))]
 pub fn files_go_by_length()
@@ -72,66 +72,66 @@ pub fn offers_are_the_worlds()
     ensures { OffersAreTheWorlds }
 {}
 
-/// What a journal says that was handed up is what was handed up in the nodes' world.
+/// What the journal says was handed up is what the nodes handed up in their world.
 #[tactic(auto, using(crate::proofs::HandedLemmas::says_the_hands))]
 pub fn says_the_hands()
     ensures { SaysTheHands }
 {}
 
-/// Takes stay honest with one more event that is.
+/// If the takes of a journal are honest and the next event is too, the takes of both together are honest.
 #[tactic(auto, using(crate::proofs::FrontLemmas::takes_stay_honest))]
 pub fn takes_stay_honest()
     ensures { TakesStayHonest }
 {}
 
-/// Takes stay direct with one more event that is.
+/// If the takes of a journal are direct and the next event is too, the takes of both together are direct.
 #[tactic(auto, using(crate::proofs::FrontLemmas::takes_stay_direct))]
 pub fn takes_stay_direct()
     ensures { TakesStayDirect }
 {}
 
-/// An event comes by the call of the outside that is due.
+/// Each event comes by the call of the outside that is due.
 pub fn calls_are_due()
     ensures { CallsAreDue }
 {}
 
-/// The commands of a script are told to the nodes as octets.
+/// Each command reaches the sender as one that a program can make: its octets are octets, and an instance id has 16 bits.
 #[tactic(auto, using(crate::proofs::OctetLemmas::commands_are_events))]
 pub fn commands_are_events()
     ensures { CommandsAreEvents }
 {}
 
-/// A script without the verbs of streams gives the nodes a run of data and files alone.
+/// If no line of a script is of a stream, the nodes have a run of data and files alone.
 #[tactic(auto, using(crate::proofs::ObjectLemmas::commands_are_of_objects))]
 pub fn commands_are_of_objects()
     ensures { CommandsAreOfObjects }
 {}
 
-/// Where a run has no ending yet, some event may come.
+/// If a run has no ending yet, some event may come.
 #[tactic(auto, using(crate::proofs::GoingLemmas::goes_on))]
 pub fn goes_on()
     ensures { GoesOn }
 {}
 
-/// In a script each command has a name of its own.
+/// Each command of a script has a name of its own.
 // Proof: that a name stands once is a count, so a line from the middle of a list is arithmetic.
 pub fn scripts_name_once()
     ensures { ScriptsNameOnce }
 {}
 
-/// The summary comes only where the last turn was done, and nothing comes after it.
+/// The summary comes only after the last turn, and nothing comes after it.
 pub fn ends_last()
     ensures { EndsLast }
 {}
 
-/// The judge accepts an event with a state exactly where the event may come, and leads there.
+/// The judge accepts an event and leads to a state if and only if the event may come and leads there.
 // Proof: relation and judge are one record of both directions (Exactly). An abbrev would leave its P undetermined.
 #[tactic(auto, using(crate::proofs::FollowLemmas::judges_what_follows))]
 pub fn judges_what_follows()
     ensures { JudgesWhatFollows }
 {}
 
-/// Two events that print one line say the same.
+/// If two events print the same line, they say the same.
 // Proof: a reader of words that only the proof has needs a case for each line, not for each pair.
 pub fn lines_read_back()
     ensures { LinesReadBack }
@@ -143,7 +143,7 @@ pub fn journal_is_counted()
     ensures { JournalIsCounted }
 {}
 
-/// Two events that may come after one state are one, but for those that are free.
+/// If two events may come after the same state, they are the same event or both are free.
 pub fn only_these_are_free()
     ensures { OnlyTheseAreFree }
 {}

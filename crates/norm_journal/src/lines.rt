@@ -1,5 +1,5 @@
-//! The lines that a session prints, each of them made in one piece, in memory that is kept from line to line. Where there is no memory
-//! for one, a front of it may stand.
+//! The lines that a session prints. Each call makes one line, in the memory of the line before. If memory runs out, the text may hold a prefix
+//! of the line.
 
 ghost use Rattle.std.specs.Prelude.{◌≡◌, ◌∷◌, [], ◌++◌, codes, decimal, length, IfOk, OnOk};
 ghost use Rattle.std.specs.Option.{option_map};
@@ -19,7 +19,7 @@ use norm_send_rules::{
 use norm_text::{Line, kind_word};
 use std::alloc::AllocError;
 
-/// The beginning of an accepted command's line: its name, the sender's instance, and the object's index.
+/// Begins the line of an accepted command: its name, the sender's instance, and the object's index.
 fn begin_enq(
     text: &mut Line,
     by: Origin,
@@ -35,7 +35,7 @@ fn begin_enq(
     Ok(())
 }
 
-/// The line of an object.
+/// The line of a data object or a file.
 fn object_line(
     text: &mut Line,
     by: Origin,
@@ -52,7 +52,7 @@ fn object_line(
     text.finish()
 }
 
-/// The line of a stream's command that has one word.
+/// The line of an opened or closed stream.
 fn stream_line(
     text: &mut Line,
     by: Origin,
@@ -85,7 +85,7 @@ fn write_line(
     text.finish()
 }
 
-/// The beginning of a watermark's line: all but its quorum.
+/// Begins a watermark's line: all except its quorum.
 fn begin_mark(
     text: &mut Line,
     by: Origin,
@@ -104,7 +104,7 @@ fn begin_mark(
     Ok(())
 }
 
-/// The line of a watermark.
+/// The line of a watermark. It ends with the quorum if the command gave one.
 fn mark_line(
     text: &mut Line,
     by: Origin,
@@ -143,7 +143,7 @@ fn strike_line(text: &mut Line, by: Origin, node: NodeId) -> Result<(), AllocErr
     text.finish()
 }
 
-/// What an object's command enqueues.
+/// The kind of the object that a command enqueues: a file for the command of a file, and data for any other.
 fn kind_of(verb: &Verb) -> Kind
     ensures { result ≡ kind_of verb.now }
 {
@@ -153,7 +153,7 @@ fn kind_of(verb: &Verb) -> Kind
     }
 }
 
-/// The quorum that a command gives, if it gives one.
+/// The quorum of a command, if it gives one.
 fn quorum_of(verb: &Verb) -> Option<u32>
     ensures { result ≡ quorum_of verb.now }
 {
@@ -163,7 +163,7 @@ fn quorum_of(verb: &Verb) -> Option<u32>
     }
 }
 
-/// The line of what a command did.
+/// The line of an accepted command.
 // It goes by the script's line and not by the job: what an object is, and a quorum, stand there, so a command that waits keeps its line alone.
 fn receipt_line(
     text: &mut Line,
@@ -189,10 +189,10 @@ fn receipt_line(
     }
 }
 
-/// A reason's word, and the number that it tells.
+/// The word for a refusal's reason, and its number if it has one.
 type Reason = (&'static str, Option<u64>);
 
-/// Why nothing was enqueued, where it is for good.
+/// The reason for which nothing was enqueued. `None` if the refusal has no line, as when the command has to wait.
 fn enqueue_reason(fault: &EnqueueFault) -> Option<Reason>
     ensures { option_map (λ reason. (reason.0.now, reason.1)) result ≡ enqueue_reason fault.now }
 {
@@ -211,7 +211,7 @@ fn enqueue_reason(fault: &EnqueueFault) -> Option<Reason>
     }
 }
 
-/// Why a receiver was not struck.
+/// The reason for which a receiver was not struck.
 fn strike_reason(fault: &StrikeFault) -> Reason
     ensures { Some (result.0.now, result.1) ≡ reason_of (SendFault.Strike fault.now) }
 {
@@ -221,7 +221,7 @@ fn strike_reason(fault: &StrikeFault) -> Reason
     }
 }
 
-/// Why a command was refused, where it is for good.
+/// The reason for which a command was refused. `None` if the refusal has no line, as when the command has to wait.
 fn reason_of(fault: &SendFault) -> Option<Reason>
     ensures { option_map (λ reason. (reason.0.now, reason.1)) result ≡ reason_of fault.now }
 {
@@ -248,7 +248,8 @@ fn no_line(text: &mut Line, by: Origin, word: &str, number: Option<u64>) -> Resu
     text.finish()
 }
 
-/// The line of what a command gave, in the sender's instance before it. A command that has to wait has no line.
+/// Makes the line of what the sender gave to a command. `instance` is the sender's before the command. Returns false if there is no line,
+/// as when the command has to wait.
 pub fn gave_line(
     text: &mut Line,
     by: Origin,
@@ -267,7 +268,7 @@ pub fn gave_line(
     }
 }
 
-/// The line of a command that was refused. One that has to wait has none.
+/// Makes the line of a refused command. Returns false if there is no line, as when the command has to wait.
 pub fn refusal_line(text: &mut Line, by: Origin, fault: &SendFault) -> Result<bool, AllocError>
     ensures { IfOk result (λ has. line_if has text.new ≡ option_map (no_line by) (reason_of fault.now)) }
 {
@@ -294,7 +295,7 @@ fn put_part(
     text.number(u64::from(index))
 }
 
-/// Puts the words of an object that was handed up.
+/// Puts the words of a data object or a file that was handed up.
 fn put_object(
     text: &mut Line,
     node: NodeId,
@@ -314,7 +315,7 @@ fn put_object(
     text.contents(octets)
 }
 
-/// Puts the words of octets of a stream that were handed up.
+/// Puts the words of stream octets that were handed up.
 fn put_bytes(
     text: &mut Line,
     node: NodeId,
@@ -333,7 +334,7 @@ fn put_bytes(
     text.contents(octets)
 }
 
-/// Puts the words of a hand-up that has one word.
+/// Puts the words of a hand-up that has only one word after the object's index.
 fn put_word(
     text: &mut Line,
     node: NodeId,
@@ -369,7 +370,7 @@ fn put_up(text: &mut Line, node: NodeId, instance: InstanceId, up: &Up) -> Resul
     }
 }
 
-/// How many octets an info has.
+/// The length of an info in octets, 0 if there is none.
 fn info_len(info: &Option<Octets>) -> usize {
     match info {
         Some(info) => info.bytes().len(),
@@ -377,7 +378,7 @@ fn info_len(info: &Option<Octets>) -> usize {
     }
 }
 
-/// How many octets of contents the line of a hand-up shows, for which it needs room.
+/// How many octets of contents the line of a hand-up shows. The line reserves room for their digits.
 fn contents_of(up: &Up) -> usize {
     match up {
         Up::Object { info, bytes, .. } => info_len(info).saturating_add(bytes.bytes().len()),
@@ -386,7 +387,7 @@ fn contents_of(up: &Up) -> usize {
     }
 }
 
-/// The line of a node's hand-up, in the instance that it is in.
+/// Makes the line of a hand-up of a node that is in this instance.
 pub fn up_line(
     text: &mut Line,
     node: NodeId,
@@ -400,8 +401,8 @@ pub fn up_line(
     text.finish()
 }
 
-/// The line of a node's hand-up of what `sender` sent, for a node that hears several senders: `of`, the sender, and the words of
-/// [`up_line`].
+/// Makes the line of a hand-up for a node that hears several senders: `of`, the sender, and the words of [`up_line`]. `sender` sent what is
+/// handed up.
 pub fn of_line(
     text: &mut Line,
     sender: NodeId,
@@ -418,7 +419,7 @@ pub fn of_line(
     text.finish()
 }
 
-/// The line of a new listing.
+/// The line of a receiver that is past a position.
 fn past_line(
     text: &mut Line,
     instance: InstanceId,
@@ -434,7 +435,7 @@ fn past_line(
     text.finish()
 }
 
-/// The line of a watermark that ended, without members that are left.
+/// The line of a watermark that was satisfied or cut.
 fn ended_line(text: &mut Line, mark: u32, word: &[u8]) -> Result<(), AllocError>
     ensures { OnOk result (text.new ≡ line (codes "done") (decimal mark ∷ word.now ∷ [])) }
 {
@@ -444,14 +445,14 @@ fn ended_line(text: &mut Line, mark: u32, word: &[u8]) -> Result<(), AllocError>
     text.finish()
 }
 
-/// Puts a node.
+/// Puts a node's id.
 fn put_node(text: &mut Line, node: NodeId) -> Result<(), AllocError>
     ensures { OnOk result (text.new ≡ with_word text.old (decimal node)) }
 {
     text.number(u64::from(node.number()))
 }
 
-/// Puts nodes.
+/// Puts the ids of nodes.
 fn put_nodes(text: &mut Line, nodes: &[NodeId]) -> Result<(), AllocError>
     ensures { OnOk result (text.new ≡ with_words text.old (node_words nodes.now)) }
 {
@@ -461,7 +462,7 @@ fn put_nodes(text: &mut Line, nodes: &[NodeId]) -> Result<(), AllocError>
     Ok(())
 }
 
-/// The line of a watermark that expired, with the members that are left.
+/// The line of a watermark that expired, with the ids of the members that did not confirm it.
 fn expired_line(text: &mut Line, mark: u32, left: &[NodeId]) -> Result<(), AllocError>
     ensures { OnOk result (text.new ≡ line (codes "done") (decimal mark ∷ codes "expired" ∷ node_words left.now)) }
 {
@@ -472,8 +473,8 @@ fn expired_line(text: &mut Line, mark: u32, left: &[NodeId]) -> Result<(), Alloc
     text.finish()
 }
 
-/// The line of a change that the sender told, in its instance, with the members that are left of a watermark. A watermark that
-/// is open has no line.
+/// Makes the line of a change that the sender reported in this instance. `left` are the members that did not confirm a watermark. Returns
+/// false if the watermark is still open. Then it has no line.
 pub fn news_line(
     text: &mut Line,
     instance: InstanceId,
@@ -491,7 +492,7 @@ pub fn news_line(
     }
 }
 
-/// The line of a watermark's outcome.
+/// The line of a watermark's outcome. False if it is still open.
 fn done_line(
     text: &mut Line,
     mark: u32,

@@ -1,4 +1,4 @@
-//! The counts of a run's summary.
+//! The counts of a run's summary. A run asks whether a count fits ([`Totals::has_room_for_up`] and its like) before it counts.
 
 ghost use Rattle.std.specs.Prelude.{◌≡◌, ◌+◌, ◌<◌, ◌^◌, ◌∷◌, [], decimal, OnOk};
 ghost use Rattle.std.specs.Bool.{Decides};
@@ -11,7 +11,7 @@ use norm_send_rules::{News, Outcome, Receipt, SendFault};
 use norm_text::Line;
 use std::alloc::AllocError;
 
-/// Whether so many more make a count of 64 bits.
+/// Whether `count + more` fits into 64 bits.
 // Asked before each sum, because the counts are exact: one that went round would be a false summary.
 fn fits(count: u64, more: u64) -> bool
     ensures { Decides result (count + more < 2 ^ 64) }
@@ -19,10 +19,10 @@ fn fits(count: u64, more: u64) -> bool
     more <= u64::MAX - count
 }
 
-/// What a run counts.
+/// What a run counts. Call `has_room_for_gave` before `count_gave`, and so for hand-ups and news.
 #[derive(Clone, Copy, Debug, PartialEq, Eq)]
 pub struct Totals {
-    /// Accepted objects, a stream as one.
+    /// Accepted objects. A stream counts as one.
     pub objects: u64,
     /// Their octets, without infos.
     pub octets: u64,
@@ -32,14 +32,14 @@ pub struct Totals {
     pub lost: u64,
     /// Watermarks that enough members confirmed.
     pub satisfied: u64,
-    /// Watermarks that were given up.
+    /// Watermarks that expired before that.
     pub expired: u64,
     /// Watermarks that a restart ended.
     pub cut: u64,
 }
 
 impl Totals {
-    /// Nothing was counted yet.
+    /// All counts are 0.
     pub fn new() -> Totals
         ensures { result ≡ nothing_counted }
     {
@@ -69,7 +69,7 @@ impl Totals {
         } = *self;
     }
 
-    /// Whether the counts fit into 64 bits with what a command gave.
+    /// Whether the counts still fit into 64 bits after [`count_gave`](Totals::count_gave).
     pub fn has_room_for_gave(&self, gave: &Result<Receipt, SendFault>) -> bool
         ensures { Decides result (CountsFit (with_gave gave.now self.now)) }
     {
@@ -82,7 +82,7 @@ impl Totals {
         }
     }
 
-    /// Counts what a command gave: an object or a stream that was accepted, and octets. The counts must fit into 64 bits then.
+    /// Counts what the sender gave to a command: an accepted object or stream, and its octets.
     pub fn count_gave(&mut self, gave: &Result<Receipt, SendFault>)
         requires { CountsFit (with_gave gave.now self.old) }
         ensures { self.new ≡ with_gave gave.now self.old }
@@ -98,7 +98,7 @@ impl Totals {
         }
     }
 
-    /// Whether the counts fit into 64 bits with a hand-up.
+    /// Whether the counts still fit into 64 bits after [`count_up`](Totals::count_up).
     pub fn has_room_for_up(&self, up: &Up) -> bool
         ensures { Decides result (CountsFit (with_up up.now self.now)) }
     {
@@ -110,7 +110,7 @@ impl Totals {
         }
     }
 
-    /// Counts a hand-up: an object or an ended stream, or a loss. The counts must fit into 64 bits then.
+    /// Counts a hand-up: an object, an ended stream or a loss. Stream octets are not counted.
     pub fn count_up(&mut self, up: &Up)
         requires { CountsFit (with_up up.now self.old) }
         ensures { self.new ≡ with_up up.now self.old }
@@ -122,7 +122,7 @@ impl Totals {
         }
     }
 
-    /// Whether the counts fit into 64 bits with a watermark that ended.
+    /// Whether the counts still fit into 64 bits after [`count_news`](Totals::count_news).
     pub fn has_room_for_news(&self, news: &News) -> bool
         ensures { Decides result (CountsFit (with_news news.now self.now)) }
     {
@@ -138,7 +138,7 @@ impl Totals {
         }
     }
 
-    /// Counts a watermark that ended. The counts must fit into 64 bits then.
+    /// Counts a watermark that ended. No other change is counted.
     pub fn count_news(&mut self, news: &News)
         requires { CountsFit (with_news news.now self.old) }
         ensures { self.new ≡ with_news news.now self.old }
@@ -154,7 +154,7 @@ impl Totals {
     }
 }
 
-/// Puts a count behind its word.
+/// Puts a word and its count.
 fn put_count(text: &mut Line, word: &[u8], n: u64) -> Result<(), AllocError>
     ensures { OnOk result (text.new ≡ with_words text.old (word.now ∷ decimal n ∷ [])) }
 {
@@ -162,7 +162,7 @@ fn put_count(text: &mut Line, word: &[u8], n: u64) -> Result<(), AllocError>
     text.number(n)
 }
 
-/// The summary's line.
+/// Makes the line of the summary. If memory runs out, the text may hold a prefix of it.
 pub fn end_line(text: &mut Line, totals: &Totals) -> Result<(), AllocError>
     ensures { OnOk result (text.new ≡ end_line totals.now) }
 {

@@ -1,4 +1,4 @@
-//! The words that several lines share.
+//! The words that several lines share: a command's name, and a position.
 
 ghost use Rattle.std.specs.Prelude.{◌≡◌, OnOk};
 ghost use Rattle.norm_text.specs.Words.{with_words};
@@ -9,7 +9,7 @@ use norm_base::Origin;
 use norm_text::Line;
 use std::alloc::AllocError;
 
-/// Puts a producer and its number of the command.
+/// Puts a command's name: its producer, and that producer's number of it.
 pub(crate) fn put_origin(line: &mut Line, by: Origin) -> Result<(), AllocError>
     ensures { OnOk result (line.new ≡ with_words line.old (origin_words by)) }
 {
@@ -17,7 +17,7 @@ pub(crate) fn put_origin(line: &mut Line, by: Origin) -> Result<(), AllocError>
     line.number(by.number)
 }
 
-/// Puts an index, a block and a symbol.
+/// Puts a position: the object's index, the block and the symbol.
 pub(crate) fn put_position(line: &mut Line, at: Position) -> Result<(), AllocError>
     ensures { OnOk result (line.new ≡ with_words line.old (position_words at)) }
 {

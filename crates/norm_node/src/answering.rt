@@ -1,4 +1,4 @@
-//! What a receiver sends.
+//! What a receiver sends: [`ReceiverRun::answer`] is the last part of a turn.
 
 ghost use Rattle.std.specs.Prelude.{◌≡◌, ◌≤◌, [], length, IfErr, OnOk};
 ghost use Rattle.norm_base.specs.Sizes.{datagram_room};
@@ -14,7 +14,7 @@ use norm_base::{Datagram, Fabric, Sent};
 use norm_turns::SessionFault;
 
 impl ReceiverRun {
-    /// The receiver ticks, all of whose hand-ups were told.
+    /// Ticks the receiver, after all its hand-ups were printed.
     fn tick(&mut self, out: &mut Datagram) -> Sent
         requires { self.old.receiver.hold.ups ≡ [] }
         ensures goes { (x : Begun) (o : Outside) → At x self.old Handing o → At x self.new (after_sent result out.new) o }
@@ -23,7 +23,6 @@ impl ReceiverRun {
         self.receiver.tick(self.now, out)
     }
 
-    /// A datagram is offered to the network.
     fn offer<F: Fabric>(&self, fabric: &mut F, bytes: &[u8]) -> Result<(), SessionFault>
         requires { length bytes.now ≤ datagram_room }
         ensures goes { OnOk result ((x : Begun) (o : Outside) → At x self.entry.now (Offering bytes.now) (over o (F.told fabric.old))
@@ -36,11 +35,12 @@ impl ReceiverRun {
         Ok(())
     }
 
-    /// The receiver ticks, all of whose hand-ups were told, and what it wrote is offered.
+    /// Ticks the receiver and offers its datagram if it has one. Call it after [`hand_all`](ReceiverRun::hand_all): an acknowledgement may leave
+    /// only after the user has what it confirms.
     ///
     /// # Errors
     ///
-    /// `Fabric` where the network failed, or `Memory`.
+    /// `Fabric` if the network failed, or `Memory`.
     pub fn answer<F: Fabric>(
         &mut self,
         fabric: &mut F,

@@ -16,7 +16,7 @@ use norm_order::Up;
 use norm_turns::SessionFault;
 use std::alloc::Global;
 
-/// Puts the file of a hand-up, if it is one of a file.
+/// Puts the file of a hand-up. Does nothing if the hand-up is not a file.
 fn put_file<D: Files>(
     alloc: Global,
     files: &mut D,
@@ -46,12 +46,12 @@ fn put_file<D: Files>(
 }
 
 impl ReceiverRun {
-    /// The next hand-up is told: its file is put, if it is one of a file, and then its line is written. False where all were told,
-    /// and then nothing changed.
+    /// Takes the next hand-up. If it is a file, it puts the file, and then it writes the hand-up's line. Returns false if none is left. Then
+    /// nothing changed.
     ///
     /// # Errors
     ///
-    /// `Files` or `Write` where a call failed, or `Memory`.
+    /// `Files` or `Write` if a call failed, or `Memory`.
     pub fn hand_up<K: Sink, D: Files>(
         &mut self,
         output: &mut K,
@@ -80,11 +80,11 @@ impl ReceiverRun {
         Ok(true)
     }
 
-    /// All that the receiver handed up is told.
+    /// Takes all hand-ups of the receiver, and writes a line for each.
     ///
     /// # Errors
     ///
-    /// As of [`hand_up`](ReceiverRun::hand_up).
+    /// As for [`hand_up`](ReceiverRun::hand_up).
     pub fn hand_all<K: Sink, D: Files>(
         &mut self,
         output: &mut K,

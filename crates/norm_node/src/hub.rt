@@ -1,4 +1,4 @@
-//! The hub between nodes that are in processes of their own.
+//! The hub between nodes that are in processes of their own: [`run_hub`].
 
 ghost use Rattle.std.specs.Prelude.{◌≡◌, ◌<◌, ◌+◌, ℕ, Option, List, Bool, IfOk, IfErr, OnOk};
 ghost use Rattle.norm_base.specs.Network.{Network};
@@ -28,7 +28,7 @@ impl Model for HubRun {
     ghost view = { λ r. record { p = r.profile; turn = r.turn; now = r.now } };
 }
 
-/// Takes a datagram from the network, and offers it on as from its member. False where the network has none ready.
+/// Takes a datagram from the network and offers it again, as from its member. Returns false if the network has none ready.
 fn pass<F: Fabric>(fabric: &mut F, datagram: &mut Datagram) -> Result<bool, SessionFault>
     ensures goes { IfOk result (λ more. (p : Settings) (o : Around) (k : HubKept) (count : ℕ) (moments : Option (List ℕ))
         → HubAt p o k (Listening count) (around (F.told fabric.old) moments) → HasPassed more p o k count (around (F.told fabric.new) moments)) }
@@ -45,7 +45,7 @@ fn pass<F: Fabric>(fabric: &mut F, datagram: &mut Datagram) -> Result<bool, Sess
     }
 }
 
-/// Passes datagrams on until the network has none ready, or a turn's many were taken.
+/// Passes datagrams on until the network has none ready, at most `MOST_TAKES` of them.
 fn pass_all<F: Fabric>(fabric: &mut F, datagram: &mut Datagram) -> Result<(), SessionFault>
     ensures goes { OnOk result ((p : Settings) (o : Around) (k : HubKept) (moments : Option (List ℕ))
         → HubAt p o k (Listening 0) (around (F.told fabric.old) moments) → HubAt p o k Idle (around (F.told fabric.new) moments)) }
@@ -69,7 +69,7 @@ impl HubRun {
         self.profile.step
     }
 
-    /// The next turn begins, at its moment: its number times the profile's step, or the clock's where that is 0.
+    /// Begins the next turn. Its moment is its number times the profile's step, or the clock's if the step is 0.
     fn begin_turn<C: Clock>(&mut self, number: u32, clock: &mut C)
         requires number { number ≡ self.old.turn + 1 }
         requires left { self.old.turn < self.old.p.turns }
@@ -83,7 +83,7 @@ impl HubRun {
         self.now = moment;
     }
 
-    /// One turn, of this number.
+    /// Does the turn with this number.
     fn turn<F: Fabric, C: Clock>(
         &mut self,
         number: u32,
@@ -102,14 +102,13 @@ impl HubRun {
         self.begin_turn(number, clock);
         pass_all(fabric, datagram)
     }
-    /// The last turn of the profile.
     fn last_turn(&self) -> u32
         ensures { result ≡ self.entry.now.p.turns }
     {
         self.profile.turns
     }
 
-    /// All turns of the profile, where none was made yet.
+    /// Does all turns of the profile. Call it before any turn was done.
     fn turns<F: Fabric, C: Clock>(
         &mut self,
         fabric: &mut F,
@@ -129,12 +128,12 @@ impl HubRun {
     }
 }
 
-/// Runs the hub between a session's nodes, each in a process of its own, for exactly the turns of a profile: it starts the network
-/// as the hub, and offers each datagram that it takes on, once and in order, as from its member. It prints nothing.
+/// Runs the hub between a session's nodes, each in a process of its own, for exactly the turns of a profile. It starts the network as the
+/// hub. Then it offers each datagram that it takes again, once and in order, as from its member. It prints nothing.
 ///
 /// # Errors
 ///
-/// `Fabric` where a call of the network failed, or `Memory`.
+/// `Fabric` if a call of the network failed, or `Memory`.
 // It answers nothing more: a run is all turns of the profile, and what it passed on stands in the network (`RunsHub`).
 pub fn run_hub<F: Fabric, C: Clock>(
     alloc: Global,

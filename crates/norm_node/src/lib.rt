@@ -1,8 +1,8 @@
-//! A receiver alone, and the hub between nodes, each over a network that brings it to the others (RFC 5740 section 5).
+//! One node of a session in a process of its own (RFC 5740 section 5): a receiver, or the hub between the nodes. `norm_program` calls
+//! [`run_receiver`] and [`run_hub`].
 //!
-//! [`run_receiver`] makes all turns of a [`ReceiverRun`], which takes datagrams (`taking`), prints what is handed up (`handing`, with
-//! the name of a file from `naming`), and sends what its receiver answers (`answering`); a turn is these, one after the other
-//! (`turning`). [`run_hub`] sends each datagram on.
+//! [`run_receiver`] does all turns of a [`ReceiverRun`]. Each turn (`turning`) takes datagrams (`taking`), prints what is handed up
+//! (`handing`, with the name of a file from `naming`), and sends what the receiver answers (`answering`). [`run_hub`] passes each datagram on.
 #![tactic(auto)]
 
 mod answering;

@@ -5,7 +5,7 @@ ghost use Rattle.norm_node.specs.Shown.{file_name};
 
 use std::alloc::{AllocError, Global};
 
-/// The name under which a node puts the file of an object: `nNODE-iINSTANCE-xINDEX`.
+/// The name that a node gives to the file of an object: `nNODE-iINSTANCE-xINDEX`.
 #[tactic(auto, unfolding(crate::specs::Shown::file_name))]
 pub(crate) fn file_name(
     alloc: Global,

@@ -1,4 +1,4 @@
-//! A whole run of a receiver.
+//! A whole run of a receiver: [`run_receiver`].
 
 ghost use Rattle.std.specs.Prelude.{◌≡◌, true, IfErr, OnOk};
 ghost use Rattle.norm_base.specs.Members.{is_receiver};
@@ -11,12 +11,12 @@ use norm_base::{Clock, Datagram, Fabric, Files, Local, NodeId, Profile, Sink};
 use norm_turns::SessionFault;
 use std::alloc::Global;
 
-/// Runs the receiver of a node for exactly the turns of a profile: it starts the network for this node, and prints each hand-up,
-/// that of a file once the file was put. Each line is one write of the output.
+/// Runs a node's receiver for exactly the turns of a profile. It starts the network for this node. It prints a line for each hand-up. If
+/// the hand-up is a file, it puts the file first. Each line is one write of the output.
 ///
 /// # Errors
 ///
-/// `Write`, `Fabric` or `Files` where a call of the output, the network or the files failed, or `Memory`.
+/// `Write`, `Fabric` or `Files` if a call of the output, the network or the files failed, or `Memory`.
 // It answers nothing more: a run is all turns of the profile, and what it did stands in the network, the lines and the files (`RunsReceiver`).
 // Whether all was done only the sender knows.
 pub fn run_receiver<K: Sink, F: Fabric, D: Files, C: Clock>(

@@ -1,4 +1,4 @@
-//! A receiver's run so far.
+//! The state of a receiver's run between its calls.
 
 ghost use Rattle.std.specs.Prelude.{◌≡◌, IfOk};
 ghost use Rattle.norm_node.specs.Lone.{Between};
@@ -14,16 +14,18 @@ use rand_pcg::Lcg64Xsh32;
 use std::alloc::Global;
 use std::marker::Model;
 
-/// A receiver that runs alone. Each turn begins at its moment ([`begin_turn`](ReceiverRun::begin_turn)), takes what the network
-/// has ([`take_all`](ReceiverRun::take_all)), tells what was handed up ([`hand_all`](ReceiverRun::hand_all)), and then sends what
-/// the receiver has to say ([`answer`](ReceiverRun::answer)).
+/// A receiver that runs alone. Start the network for its node, then call [`turns`](ReceiverRun::turns), or in each turn:
+/// 1. [`begin_turn`](ReceiverRun::begin_turn), at the turn's moment.
+/// 2. [`take_all`](ReceiverRun::take_all), which delivers what the network has.
+/// 3. [`hand_all`](ReceiverRun::hand_all), which prints what was handed up.
+/// 4. [`answer`](ReceiverRun::answer), which sends what the receiver has to say.
 #[derive(Drop)]
 pub struct ReceiverRun {
     pub(crate) alloc: Global,
     pub(crate) profile: Profile,
     pub(crate) node: NodeId,
     pub(crate) receiver: Receiver,
-    /// The line that is printed, in memory that is kept from one to the next.
+    /// The line that is printed. Its memory is used again for the next one.
     pub(crate) line: Line,
     pub(crate) draws: Lcg64Xsh32,
     pub(crate) turn: u32,
@@ -50,7 +52,7 @@ impl ReceiverRun {
     ///
     /// # Errors
     ///
-    /// `Memory` where memory runs out.
+    /// `Memory` if memory runs out.
     pub fn new(alloc: Global, profile: &Profile, node: NodeId) -> Result<ReceiverRun, Memory>
         ensures begun { IfOk result (λ run. (o : Outside) → At (begun profile.now node o) run Between o) }
         ensures turn { IfOk result (λ run. run.turn ≡ 0) }

@@ -1,4 +1,4 @@
-//! Datagrams that the network gives.
+//! Takes datagrams from the network and delivers them.
 
 ghost use Rattle.std.specs.Prelude.{◌≡◌, ℕ, Some, None, IfOk, IfErr, OnOk};
 ghost use Rattle.norm_turns.specs.Causes.{NetworkCause, NeedsMemory};
@@ -12,7 +12,7 @@ use crate::run::ReceiverRun;
 use norm_base::{Datagram, Fabric, NodeId};
 use norm_turns::{MOST_TAKES, SessionFault, next_draw};
 
-/// Whether a datagram for a node is one for this node.
+/// Whether a datagram for node `to` is for this node.
 fn reaches(to: NodeId, node: NodeId) -> bool
     ensures { result ≡ reaches to node }
 {
@@ -20,7 +20,7 @@ fn reaches(to: NodeId, node: NodeId) -> bool
 }
 
 impl ReceiverRun {
-    /// A datagram comes to a node. If it is this one, its receiver gets it with the next draw.
+    /// Delivers a datagram to the receiver with the next draw. Does nothing and uses no draw if it is for another node.
     fn deliver(&mut self, to: NodeId, bytes: &[u8]) -> Result<(), SessionFault>
         ensures goes { OnOk result (Delivers self.old self.new to bytes.now) }
         ensures turn { OnOk result (IsSameTurn self.old self.new) }
@@ -34,11 +34,11 @@ impl ReceiverRun {
         Ok(())
     }
 
-    /// Takes a datagram from the network, and delivers it. False where the network has none ready.
+    /// Takes a datagram from the network and delivers it. Returns false if the network has none ready.
     ///
     /// # Errors
     ///
-    /// `Fabric` where the network failed, or `Memory`.
+    /// `Fabric` if the network failed, or `Memory`.
     pub fn take<F: Fabric>(
         &mut self,
         fabric: &mut F,
@@ -60,11 +60,11 @@ impl ReceiverRun {
         }
     }
 
-    /// Datagrams are taken and delivered until the network has none ready, or a turn's many were taken.
+    /// Takes and delivers datagrams until the network has none ready, at most `MOST_TAKES` of them.
     ///
     /// # Errors
     ///
-    /// As of [`take`](ReceiverRun::take).
+    /// As for [`take`](ReceiverRun::take).
     pub fn take_all<F: Fabric>(
         &mut self,
         fabric: &mut F,

@@ -19,7 +19,7 @@ impl ReceiverRun {
         self.profile.step
     }
 
-    /// The next turn begins, at its moment: its number times the profile's step, or the clock's where that is 0.
+    /// Begins the next turn. Its moment is its number times the profile's step, or the clock's if the step is 0.
     pub fn begin_turn<C: Clock>(&mut self, number: u32, clock: &mut C)
         requires number { number ≡ self.old.turn + 1 }
         requires left { self.old.turn < self.old.p.turns }
@@ -33,11 +33,11 @@ impl ReceiverRun {
         self.now = moment;
     }
 
-    /// One turn, of this number.
+    /// Does the turn with this number.
     ///
     /// # Errors
     ///
-    /// `Write`, `Fabric` or `Files` where a call failed, or `Memory`.
+    /// `Write`, `Fabric` or `Files` if a call failed, or `Memory`.
     pub fn turn<K: Sink, F: Fabric, D: Files, C: Clock>(
         &mut self,
         number: u32,
@@ -65,18 +65,17 @@ impl ReceiverRun {
         self.answer(fabric, datagram)?;
         Ok(())
     }
-    /// The last turn of the profile.
     fn last_turn(&self) -> u32
         ensures { result ≡ self.entry.now.p.turns }
     {
         self.profile.turns
     }
 
-    /// All turns of the profile, where none was made yet.
+    /// Does all turns of the profile. Call it before any turn was done.
     ///
     /// # Errors
     ///
-    /// As of [`turn`](ReceiverRun::turn).
+    /// As for [`turn`](ReceiverRun::turn).
     pub fn turns<K: Sink, F: Fabric, D: Files, C: Clock>(
         &mut self,
         output: &mut K,

@@ -16,7 +16,7 @@ use fec_plan::Position;
 use norm_base::{Datagram, Sent};
 
 impl Parts {
-    /// Sends an acknowledgement of a flush position, which is due no more then.
+    /// Sends the acknowledgement of a flush position, which is no longer due then.
     pub(crate) fn acknowledge(&mut self, at: FlushPlace, out: &mut Datagram) -> Sent
         ensures profile { self.new.profile ≡ self.old.profile }
         ensures sent { (s : ReceiverState) → Stands (kept_of self.old) s
@@ -26,7 +26,7 @@ impl Parts {
         self.numbers = self.numbers.acknowledged().sent();
         Sent::Datagram
     }
-    /// The position whose acknowledgement is due, if one is.
+    /// Returns the position that is to be acknowledged, if any.
     pub(crate) fn due(&self) -> Option<Position>
         ensures { (s : ReceiverState) → Stands (kept_of self.now) s → result ≡ s.knows.due }
     {

@@ -1,4 +1,4 @@
-//! A NACK as it is put together, need by need (RFC 5740 section 4.3.1).
+//! A NACK in progress, written need by need (RFC 5740 section 4.3.1).
 
 ghost use Rattle.std.specs.Prelude.{◌≡◌, ◌≤◌, ◌&&◌, ℕ, List, Bool};
 ghost use Rattle.fec_plan.specs.Partition.{most_symbol};
@@ -10,17 +10,16 @@ use crate::requesting::{Need, ask};
 use norm_base::{Datagram, Profile};
 use norm_ext::RequestWriter;
 
-/// A NACK as far as what is needed was gone through.
+/// A NACK in progress. [`add`](Asking::add) the needs in order.
 #[derive(Debug, Drop)]
 pub(crate) struct Asking {
     pub writer: RequestWriter,
-    /// Whether others asked for all that it asks for.
+    /// Whether others asked for everything that it asks for so far.
     pub all_heard: bool,
-    /// Whether a need did not fit any more.
+    /// Whether a need did not fit. No further one is added then.
     pub full: bool,
 }
 
-/// Whether both are so.
 fn are_both(one: bool, other: bool) -> bool
     ensures { result ≡ (one && other) }
 {
@@ -28,7 +27,7 @@ fn are_both(one: bool, other: bool) -> bool
 }
 
 impl Asking {
-    /// As it begins: at most e octets are asked with.
+    /// Creates a NACK without requests, which may get at most `e` octets of them.
     pub fn new(profile: &Profile) -> Asking
         ensures begun { result ≡ asking_nothing profile.now }
         ensures few { profile.now.e ≤ most_symbol }
@@ -40,7 +39,7 @@ impl Asking {
         }
     }
 
-    /// A need more, which others asked for or not. Behind one that did not fit, nothing is asked for.
+    /// Adds a need if it fits, unless an earlier one did not. `heard` tells whether others asked for it.
     pub fn add(&mut self, profile: &Profile, need: Need, heard: bool, out: &mut Datagram)
         requires need { IsNeed need }
         requires room { HasRoom self.old.writer out.old }

@@ -1,4 +1,4 @@
-//! The datagrams that a receiver takes in, message by message (RFC 5740 section 5.3).
+//! Taking in datagrams, message by message (RFC 5740 section 5.3). [`Receiver::deliver`](crate::Receiver::deliver) calls it.
 
 ghost use Rattle.std.specs.Prelude.{◌≡◌, Ok, IfOk, OnErr, true};
 ghost use Rattle.norm_ext.specs.Extensions.{IsChecked};
@@ -24,7 +24,7 @@ use norm_codec::{Message, decode};
 use norm_ext::{CmdHead, ObjHead};
 use norm_objmsg::grammar::{DataMsg, InfoMsg};
 
-/// Which message of an object it is.
+/// Returns the sender, instance and object id of an object's message.
 fn object_naming(head: &ObjHead) -> Naming
     ensures { result ≡ record { source = head.now.source; instance = head.now.instance; object = head.now.object } }
 {
@@ -35,7 +35,7 @@ fn object_naming(head: &ObjHead) -> Naming
     }
 }
 
-/// Which command it is.
+/// Returns the sender and instance of a command, with the object id that it names.
 fn command_naming(head: &CmdHead, object: u16) -> Naming
     ensures { result ≡ record { source = head.now.source; instance = head.now.instance; object = object } }
 {
@@ -46,7 +46,6 @@ fn command_naming(head: &CmdHead, object: u16) -> Naming
     }
 }
 
-/// The block that an id names.
 fn block_of(id: PayloadId) -> u32
     ensures { result ≡ id.block }
 {
@@ -54,7 +53,7 @@ fn block_of(id: PayloadId) -> u32
 }
 
 impl Parts {
-    /// An INFO.
+    /// Takes in an INFO.
     fn deliver_info(&mut self, msg: &InfoMsg<'_>, now: Moment, draw: u32) -> Result<(), Memory>
         requires whole { IsChecked msg.now.exts.now }
         ensures profile { self.new.profile ≡ self.old.profile }
@@ -71,7 +70,7 @@ impl Parts {
         self.deliver_said(&object_naming(&msg.head), &said, now, draw)
     }
 
-    /// A DATA.
+    /// Takes in a DATA.
     fn deliver_data(&mut self, msg: &DataMsg<'_>, now: Moment, draw: u32) -> Result<(), Memory>
         requires whole { IsChecked msg.now.exts.now }
         ensures profile { self.new.profile ≡ self.old.profile }
@@ -89,8 +88,7 @@ impl Parts {
         self.deliver_said(&object_naming(&msg.head), &said, now, draw)
     }
 
-    /// A command: what a flush or a squelch names happens, what the sender was asked for is heard, and any other changes
-    /// nothing.
+    /// Takes in a command: a flush, a squelch, or a REPAIR_ADV. Any other changes nothing.
     fn deliver_command(
         &mut self,
         msg: &CommandMsg<'_>,
@@ -132,7 +130,7 @@ impl Parts {
         }
     }
 
-    /// A message: an acknowledgement and a report change nothing.
+    /// Takes in a message. An acknowledgement or a report changes nothing.
     fn deliver_message(&mut self, msg: &Message<'_>, now: Moment, draw: u32) -> Result<(), Memory>
         requires whole { IsWholeMessage msg.now }
         ensures profile { self.new.profile ≡ self.old.profile }
@@ -151,7 +149,7 @@ impl Parts {
         }
     }
 
-    /// A datagram. Octets that spell no message change nothing.
+    /// Takes in a datagram. Octets that are no message change nothing.
     pub(crate) fn deliver(&mut self, bytes: &[u8], now: Moment, draw: u32) -> Result<(), Memory>
         ensures profile { self.new.profile ≡ self.old.profile }
         ensures state { IfOk result (λ _. (s : ReceiverState) → Stands (kept_of self.old) s

@@ -1,5 +1,4 @@
-//! Messages of the sender by the instance that they are of (RFC 5740 section 4.1): the current one, one that the receiver
-//! goes on to, or one that is over.
+//! Messages of the sender by their instance (RFC 5740 section 4.1): the current one, one that the receiver goes on to, or one that is over.
 
 ghost use Rattle.std.specs.Prelude.{◌≡◌, ◌<◌, ◌==◌, IfOk, OnErr, true, unwrap_or, option_and_then};
 ghost use Rattle.norm_receive_rules.specs.ReceiverState.{ReceiverState};
@@ -18,7 +17,7 @@ use crate::receiving::Said;
 use norm_base::{InstanceId, Memory, Moment, NodeId};
 use norm_ext::index_named;
 
-/// Which message it is: who sent it, in which instance, and the object transport id that it names.
+/// Who sent a message, in which instance, and the object transport id that it names.
 #[derive(Clone, Copy, Debug)]
 pub(crate) struct Naming {
     pub source: NodeId,
@@ -27,7 +26,7 @@ pub(crate) struct Naming {
 }
 
 impl Parts {
-    /// What a receiver is as an instance begins, beside what it is now.
+    /// Returns the receiver as it begins this instance. It does not change this one.
     // A whole new state beside the old one: if memory runs out in the message that begins an instance, this one stays as it was.
     fn entering(&self, instance: InstanceId) -> Result<Parts, Memory>
         ensures profile { IfOk result (λ next. next.profile ≡ self.now.profile) }
@@ -50,7 +49,7 @@ impl Parts {
         is_all_quiet(&self.hold, &self.numbers)
     }
 
-    /// A back-off begins where something is needed, none runs and none is held off.
+    /// Starts a back-off if something is needed, no back-off is running, and no hold-off is in effect.
     fn may_need(&mut self, now: Moment, draw: u32)
         ensures profile { self.new.profile ≡ self.old.profile }
         ensures state { (s : ReceiverState) → Stands (kept_of self.old) s → Stands (kept_of self.new) (may_need self.old.profile now draw s) }
@@ -66,7 +65,7 @@ impl Parts {
         self.numbers = self.numbers.backing_off(&self.profile, now, draw);
     }
 
-    /// What a message says of the object with this index happens, and then something may be needed.
+    /// Does what a message says of the object with this index, and starts a back-off if something is needed then.
     fn take_in_at(
         &mut self,
         index: u32,
@@ -86,7 +85,7 @@ impl Parts {
         Ok(())
     }
 
-    /// A message of the current instance.
+    /// Takes in a message of the current instance.
     fn take_in(
         &mut self,
         object: u16,
@@ -106,7 +105,7 @@ impl Parts {
         self.take_in_at(index, said, now, draw)
     }
 
-    /// A message of an instance that the receiver goes on to. Where it names nothing, nothing changes.
+    /// Goes on to the instance of a message, and takes the message in. If its object id stands for no index, nothing changes.
     fn go_on(
         &mut self,
         naming: &Naming,
@@ -131,8 +130,8 @@ impl Parts {
         Ok(())
     }
 
-    /// A message of a sender: it counts where that is the profile's, and is in the current instance or one that the
-    /// receiver goes on to.
+    /// Takes in a message of a sender. Ignores it unless it comes from the profile's sender, in the current instance or one that the receiver
+    /// goes on to.
     pub(crate) fn deliver_said(
         &mut self,
         naming: &Naming,

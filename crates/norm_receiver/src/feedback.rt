@@ -1,5 +1,5 @@
-//! The datagrams of a receiver (RFC 5740 section 4.3): its acknowledgement, and the front of its NACK, behind which the
-//! repair requests are pushed.
+//! The datagrams of a receiver (RFC 5740 section 4.3): its acknowledgement, and the beginning of its NACK, to which repair requests are
+//! appended.
 
 ghost use Rattle.std.specs.Prelude.{◌≡◌, [], length};
 ghost use Rattle.norm_ext.specs.Octets.{octets_of};
@@ -13,7 +13,7 @@ use norm_ext::items::item_of;
 use norm_fbmsg::{AckBody, AckMsg, FLUSH_ACK, NackMsg, write_ack, write_nack};
 
 impl Numbers {
-    /// The current instance's id, or 0 where none began.
+    /// Returns the current instance, or 0 if none began.
     fn instance_id(&self) -> InstanceId
         ensures { (s : ReceiverState) → self.now ≡ numbers_of s → result ≡ instance_id s }
     {
@@ -25,7 +25,7 @@ impl Numbers {
     }
 }
 
-/// Writes an acknowledgement of a position.
+/// Writes the acknowledgement of a position.
 pub(crate) fn write_mark(profile: &Profile, numbers: &Numbers, at: FlushPlace, out: &mut Datagram)
     ensures { (s : ReceiverState) → numbers.now ≡ numbers_of s → out.new ≡ octets_of (ack_message profile.now s at) }
 {
@@ -47,7 +47,7 @@ pub(crate) fn write_mark(profile: &Profile, numbers: &Numbers, at: FlushPlace, o
     );
 }
 
-/// Writes a NACK that asks for nothing yet.
+/// Writes a NACK without requests.
 pub(crate) fn write_nack_front(profile: &Profile, numbers: &Numbers, out: &mut Datagram)
     ensures exact { (s : ReceiverState) → numbers.now ≡ numbers_of s → out.new ≡ octets_of (nack_message profile.now s []) }
     ensures size { length out.new ≡ 24 }

@@ -1,5 +1,5 @@
-//! What a receiver hears of what others ask for (RFC 5401 section 3.2.2, RFC 5740 section 5.3): the NACKs of other nodes, and
-//! the sender's word of what it was asked for.
+//! What a receiver hears others ask for (RFC 5401 section 3.2.2, RFC 5740 section 5.3): the NACKs of other nodes, and the sender's
+//! REPAIR_ADV.
 
 ghost use Rattle.std.specs.Prelude.{◌≡◌, IfOk, OnErr, true};
 ghost use Rattle.norm_ext.specs.Requests.{IsRequests, requests_of};
@@ -17,7 +17,7 @@ use norm_fbmsg::NackMsg;
 use rx_heard::hear_requests;
 
 impl Parts {
-    /// Requests, a list of whole ones, count while a back-off runs.
+    /// Notes what requests ask for if a back-off is running. Otherwise ignores them. The requests are whole.
     fn overhear(&mut self, requests: &[u8]) -> Result<(), Memory>
         requires { IsRequests requests.now }
         ensures profile { self.new.profile ≡ self.old.profile }
@@ -43,7 +43,7 @@ impl Parts {
         )
     }
 
-    /// A NACK: it counts where it is of another node, to this sender and of this instance.
+    /// Hears a NACK. Ignores it unless it comes from another node, and goes to this sender in this instance.
     pub(crate) fn hear_nack(&mut self, msg: &NackMsg<'_>) -> Result<(), Memory>
         requires { IsRequests msg.now.requests.now }
         ensures profile { self.new.profile ≡ self.old.profile }
@@ -64,7 +64,7 @@ impl Parts {
         self.overhear(msg.requests)
     }
 
-    /// The sender's word of what it was asked for: it counts where it is of this sender and instance.
+    /// Hears a REPAIR_ADV, which says what the sender was asked for. Ignores it unless it comes from this sender in this instance.
     pub(crate) fn hear_adv(&mut self, head: &CmdHead, requests: &[u8]) -> Result<(), Memory>
         requires { IsRequests requests.now }
         ensures profile { self.new.profile ≡ self.old.profile }

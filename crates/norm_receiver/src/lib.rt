@@ -1,4 +1,8 @@
-//! The receiver of a session (RFC 5740 section 5.3): a state that datagrams, ticks and taken hand-ups lead on.
+//! The receiver of a session, without I/O (RFC 5740 section 5.3).
+//!
+//! Callers meet [`Receiver`]; `norm_world`, `norm_node` and `replay` drive it. `delivering` decodes a datagram, `entering` checks its
+//! instance, and `receiving` does what the sender says. `hearing` notes what other receivers ask for. `ticking` decides what to send:
+//! `acknowledging` confirms a flush, and `nacking` asks for what `needs` and `stream_needs` find.
 #![tactic(auto)]
 
 mod acknowledging;

@@ -24,19 +24,19 @@ use fec_plan::{Plan, Point};
 use norm_base::Datagram;
 use norm_receive_rules::Missing;
 
-/// What a receiver has to ask for as its back-off ends.
+/// What comes of a back-off that ended.
 #[derive(Clone, Copy, Debug, PartialEq, Eq)]
 pub(crate) enum Asks {
     /// Nothing is needed.
     Nothing,
-    /// Others asked for all that a NACK would ask for.
+    /// Others asked for everything that a NACK would ask for.
     Heard,
     /// The NACK is written.
     Written,
 }
 
 impl Parts {
-    /// Asks for an object of which nothing is known, and its info, where it is covered.
+    /// Requests an object of which nothing is known, and its info, if the object is covered.
     fn ask_unknown(&self, index: u32, covered: bool, asking: &mut Asking, out: &mut Datagram)
         requires room { HasRoom asking.old.writer out.old }
         ensures room { HasRoom asking.new.writer out.new }
@@ -51,7 +51,7 @@ impl Parts {
         asking.add(&self.profile, Need::Object { index }, heard, out);
     }
 
-    /// Asks for the info of an object, where it lacks that.
+    /// Requests the info of an object if `lacks`.
     fn ask_info(&self, index: u32, lacks: bool, asking: &mut Asking, out: &mut Datagram)
         requires room { HasRoom asking.old.writer out.old }
         ensures room { HasRoom asking.new.writer out.new }
@@ -66,7 +66,7 @@ impl Parts {
         asking.add(&self.profile, Need::ObjectInfo { index }, heard, out);
     }
 
-    /// Asks for what is lacking of a block that lacks symbols.
+    /// Requests the symbols that an incomplete block lacks.
     fn ask_block(
         &self,
         index: u32,
@@ -103,7 +103,7 @@ impl Parts {
         }
     }
 
-    /// Asks for what is lacking of the blocks of an object before this one. Of these it looks at those that lack symbols, and at no other.
+    /// Requests the symbols that an object's blocks before `due` lack. It looks at incomplete blocks only.
     pub(crate) fn ask_blocks(
         &self,
         index: u32,
@@ -136,7 +136,7 @@ impl Parts {
         }
     }
 
-    /// Asks for what is needed of data or a file behind its info.
+    /// Requests the missing symbols of data or a file, whose info was requested already.
     fn ask_counts(&self, index: u32, plan: &Plan, asking: &mut Asking, out: &mut Datagram)
         requires reached { self.now.hold.point.index ≤ index }
         requires plan { IsPlanOf self.now.hold index plan.now }
@@ -151,7 +151,7 @@ impl Parts {
         self.ask_blocks(index, plan, due, asking, out);
     }
 
-    /// Asks for what is needed of the object with this index.
+    /// Requests what is needed of an object.
     fn ask_object(&self, index: u32, asking: &mut Asking, out: &mut Datagram)
         requires reached { self.now.hold.point.index ≤ index }
         requires room { HasRoom asking.old.writer out.old }
@@ -179,7 +179,7 @@ impl Parts {
         self.ask_counts(index, &plan, asking, out);
     }
 
-    /// Asks for all that is needed.
+    /// Requests everything that is needed, in order, until a need does not fit.
     fn ask_all(&self, asking: &mut Asking, out: &mut Datagram)
         requires room { HasRoom asking.old.writer out.old }
         ensures room { HasRoom asking.new.writer out.new }
@@ -198,8 +198,8 @@ impl Parts {
         }
     }
 
-    /// Writes the NACK: the longest prefix of what is needed whose requests fit e octets. Nothing has to be sent where
-    /// nothing is needed, or others asked for all of that prefix. It takes no memory.
+    /// Writes the NACK: the longest prefix of the needs whose requests fit `e` octets. Nothing has to be sent if nothing is needed, or others
+    /// asked for that whole prefix. It takes no memory.
     pub(crate) fn write_nack(&self, out: &mut Datagram) -> Asks
         ensures { (s : ReceiverState) → Stands (kept_of self.now) s → IsAsking self.now.profile s out.new result }
     {

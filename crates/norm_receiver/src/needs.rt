@@ -1,4 +1,4 @@
-//! What a receiver needs (RFC 5740 section 5.3, RFC 5401 section 3.2.2), from what it saw of the sender.
+//! What a receiver needs, by what it saw of the sender (RFC 5740 section 5.3, RFC 5401 section 3.2.2).
 
 ghost use Rattle.std.specs.Prelude.{◌≡◌, ◌+◌, ◌≤◌, ◌&&◌, not, ℕ, Some, None, is_some, IfSome};
 ghost use Rattle.norm_receive_rules.specs.Holding.{Holding};
@@ -18,7 +18,7 @@ use norm_ext::flags::{INFO, STREAM};
 use norm_ext::items::has_flag;
 use rx_hold::Hold;
 
-/// Whether the sender was seen to be past an object, or flushed it or a later one.
+/// Whether the sender was seen in a later object, or flushed this object or a later one.
 pub(crate) fn is_covered(farthest: &Option<Point>, flush: &Option<Position>, index: u32) -> bool
     ensures { result ≡ is_covered farthest.now flush.now index }
 {
@@ -33,7 +33,7 @@ pub(crate) fn is_covered(farthest: &Option<Point>, flush: &Option<Position>, ind
     }
 }
 
-/// Of so many blocks of an object: all where its index is below this one, so many where it is this one, and none above.
+/// Returns how many of the `all` blocks of object `own` lie before block `count` of object `index`.
 fn blocks_before(own: u32, all: u32, index: u32, count: u64) -> u32
     ensures exact { result ≡ blocks_before own all index count }
     ensures most { result ≤ all }
@@ -47,7 +47,7 @@ fn blocks_before(own: u32, all: u32, index: u32, count: u64) -> u32
     count.min(u64::from(all)) as u32
 }
 
-/// How many of an object's blocks lie before the farthest point.
+/// Returns how many of an object's blocks lie before the farthest block that was seen.
 fn blocks_seen(farthest: &Option<Point>, index: u32, all: u32) -> u32
     ensures exact { result ≡ (elim farthest.now [ Some at ↦ blocks_before index all at.index at.block | None ↦ 0 ]) }
     ensures most { result ≤ all }
@@ -58,7 +58,7 @@ fn blocks_seen(farthest: &Option<Point>, index: u32, all: u32) -> u32
     }
 }
 
-/// How many of an object's blocks a flush names.
+/// Returns how many of an object's blocks lie up to and including the flush's block.
 fn blocks_flushed(flush: &Option<Position>, index: u32, all: u32) -> u32
     ensures exact { result ≡ (elim flush.now [ Some at ↦ blocks_before index all at.index (at.block + 1) | None ↦ 0 ]) }
     ensures most { result ≤ all }
@@ -71,7 +71,7 @@ fn blocks_flushed(flush: &Option<Position>, index: u32, all: u32) -> u32
     }
 }
 
-/// How many of an object's blocks lie before the farthest point, or at most at the flush's.
+/// Returns how many of an object's blocks are due: those before the farthest block, or up to the flush's, whichever is more.
 pub(crate) fn blocks_due(numbers: &Numbers, index: u32, all: u32) -> u32
     ensures exact { result ≡ blocks_due numbers.now.farthest numbers.now.flush index all }
     ensures most { result ≤ all }
@@ -81,7 +81,7 @@ pub(crate) fn blocks_due(numbers: &Numbers, index: u32, all: u32) -> u32
     seen.max(flushed)
 }
 
-/// Whether the info of a covered object is missing: it has one by its flags, and that is not held.
+/// Whether the info of a covered object is missing: its flags have INFO, and the info is not held.
 pub(crate) fn lacks_info(hold: &Hold, index: u32, flags: u8, covered: bool) -> bool
     requires { hold.now.point.index ≤ index }
     ensures { (s : Holding) → HoldStands hold.now s → result ≡ (covered && (says_info flags && not (is_some (info_of s index)))) }
@@ -102,7 +102,7 @@ pub(crate) fn is_stream(flags: u8) -> bool
     has_flag(flags, STREAM)
 }
 
-/// Whether no block before this one of an object lacks symbols.
+/// Whether all blocks of an object before `due` are done.
 pub(crate) fn is_done_before(hold: &Hold, index: u32, due: u32) -> bool
     requires { hold.now.point.index ≤ index }
     ensures { (s : Holding) → HoldStands hold.now s → IfSome (plan_of s index) (λ plan. due ≤ blocks (cut_of_plan plan) → result ≡ is_nil (counts_from s plan due 0)) }
@@ -113,7 +113,7 @@ pub(crate) fn is_done_before(hold: &Hold, index: u32, due: u32) -> bool
     }
 }
 
-/// Whether nothing is needed of data or a file behind its info.
+/// Whether no symbols are needed of data or a file.
 fn is_object_quiet(hold: &Hold, numbers: &Numbers, index: u32, plan: &Plan) -> bool
     requires reached { hold.now.point.index ≤ index }
     requires plan { IsPlanOf hold.now index plan.now }
@@ -123,7 +123,7 @@ fn is_object_quiet(hold: &Hold, numbers: &Numbers, index: u32, plan: &Plan) -> b
     is_done_before(hold, index, due)
 }
 
-/// Whether nothing is needed of the object with this index.
+/// Whether nothing is needed of an object.
 fn is_quiet(hold: &Hold, numbers: &Numbers, index: u32) -> bool
     requires { hold.now.point.index ≤ index }
     ensures { (s : Holding) → HoldStands hold.now s → HasSeenBlocks s → result ≡ is_nil (needs_of hold.now.p numbers.now.farthest numbers.now.flush s index) }
@@ -144,7 +144,7 @@ fn is_quiet(hold: &Hold, numbers: &Numbers, index: u32) -> bool
     is_object_quiet(hold, numbers, index, &plan)
 }
 
-/// One more than the last index that was seen or flushed.
+/// Returns the number after the last index that was seen or flushed.
 pub(crate) fn last_known(numbers: &Numbers) -> u64
     ensures exact { result ≡ last_known numbers.now.farthest numbers.now.flush }
     ensures most { result ≤ 4294967296 }
@@ -160,8 +160,8 @@ pub(crate) fn last_known(numbers: &Numbers) -> u64
     u64::from(seen.max(flushed)) + 1
 }
 
-/// Whether nothing is needed of what is held, by these numbers. Of an object that the sender is past something is needed, or it would
-/// have been handed up: so where all was that can be, the first object is the last that is looked at.
+/// Whether nothing is needed. After everything that is ready was handed up, it usually looks at the first object only: if the sender is past
+/// that object, something of it is needed. The exception is a stream that got its last block and no end, of which nothing can be requested.
 pub(crate) fn is_all_quiet(hold: &Hold, numbers: &Numbers) -> bool
     ensures { (s : Holding) → HoldStands hold.now s → HasSeenBlocks s → result ≡ is_nil (needs_by hold.now.p numbers.now.farthest numbers.now.flush s) }
 {

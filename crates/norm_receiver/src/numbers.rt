@@ -1,4 +1,4 @@
-//! The numbers of a receiver: what it keeps beside what it holds and what it heard.
+//! The numbers of a receiver: everything that it keeps except what it holds and what it heard.
 
 ghost use Rattle.std.specs.Prelude.{◌≡◌, ◌+◌, ◌*◌, ◌%◌, ◌<◌, ◌==◌, ◌&&◌, ◌||◌, not, max, false, true, nat_lt, nat_le, Some, None, is_none};
 ghost use Rattle.fec_plan.specs.Points.{IsBlock, further, further_point};
@@ -11,29 +11,29 @@ use norm_base::{InstanceId, Moment, NodeId, Profile};
 use norm_ext::is_above;
 use std::marker::Model;
 
-/// The numbers of a receiver, each as the rules' state has it.
+/// The numbers of a receiver. Each has the meaning that it has in the rules' state.
 #[derive(Clone, Copy, Debug, PartialEq, Eq)]
 pub struct Numbers {
     pub node: NodeId,
     /// The current instance, if one began.
     pub instance: Option<InstanceId>,
-    /// The greatest index that a message of it named.
+    /// The greatest object index that a message of this instance named.
     pub known: u32,
-    /// The farthest point seen.
+    /// The farthest block of the sender that was seen.
     pub farthest: Option<Point>,
     /// The greatest flush position.
     pub flush: Option<Position>,
-    /// When the back-off that runs ends.
+    /// When the running back-off expires. `None` if none is running.
     pub backoff: Option<Moment>,
-    /// Before this moment no back-off begins.
+    /// When the hold-off ends. No back-off begins before it.
     pub holdoff: Moment,
-    /// The acknowledgement that is due.
+    /// The position that is to be acknowledged, if any.
     pub due: Option<FlushPlace>,
-    /// The next datagram's sequence number.
+    /// The sequence number of the next datagram.
     pub sequence: u16,
 }
 
-/// The position that a flush names: its block has 24 bits.
+/// The position that a flush names. Its block has 24 bits.
 #[derive(Clone, Copy, Debug, PartialEq, Eq)]
 pub struct FlushPlace {
     pub index: u32,
@@ -52,7 +52,7 @@ impl Model for FlushPlace {
 }
 
 impl FlushPlace {
-    /// The position.
+    /// Returns the position.
     pub(crate) fn position(&self) -> Position
         ensures exact { result ≡ self.now }
         ensures block { IsBlock result.block }
@@ -64,7 +64,7 @@ impl FlushPlace {
         }
     }
 
-    /// The further of it and one that is due already, if any is.
+    /// Returns the further of this position and the one that is due already, if any.
     fn further(self, due: Option<FlushPlace>) -> Option<FlushPlace>
         ensures { result ≡ further self due }
     {
@@ -75,7 +75,7 @@ impl FlushPlace {
     }
 }
 
-/// The moment so much later; one that passes 64 bits is the last one.
+/// Returns the moment this many microseconds later, or the last one if 64 bits would overflow.
 fn moment_after(now: Moment, span: u64) -> Moment
     ensures { result ≡ moment_after now span }
 {
@@ -83,7 +83,7 @@ fn moment_after(now: Moment, span: u64) -> Moment
 }
 
 impl Numbers {
-    /// As a node's receiver begins.
+    /// Returns the numbers of a receiver that is in no instance yet.
     pub(crate) fn new(node: NodeId) -> Numbers
         ensures { result ≡ opening_numbers node }
     {
@@ -100,7 +100,7 @@ impl Numbers {
         }
     }
 
-    /// As an instance begins.
+    /// Returns the numbers at the beginning of an instance. The node and the sequence number stay.
     pub(crate) fn entering(&self, instance: InstanceId) -> Numbers
         ensures { result ≡ entering_numbers instance self.now }
     {
@@ -112,7 +112,6 @@ impl Numbers {
         }
     }
 
-    /// Whether the receiver is in this instance.
     pub(crate) fn is_in(&self, instance: InstanceId) -> bool
         ensures { result ≡ elim self.now.instance [ Some current ↦ current == instance | None ↦ false ] }
     {
@@ -122,7 +121,7 @@ impl Numbers {
         }
     }
 
-    /// Whether the receiver goes on to this instance: it is in none, or this one lies above its own.
+    /// Whether the receiver goes on to this instance: it is in none yet, or this one is above its own.
     pub(crate) fn goes_to(&self, instance: InstanceId) -> bool
         ensures { result ≡ elim self.now.instance [ Some current ↦ is_above current instance | None ↦ true ] }
     {
@@ -132,7 +131,7 @@ impl Numbers {
         }
     }
 
-    /// An index is known.
+    /// Notes an index that a message named.
     pub(crate) fn learning(&self, index: u32) -> Numbers
         ensures { result ≡ record self.now { known = max self.now.known index } }
     {
@@ -142,7 +141,7 @@ impl Numbers {
         }
     }
 
-    /// A point is seen.
+    /// Notes a block that was seen.
     pub(crate) fn seeing(&self, at: Point) -> Numbers
         ensures { result ≡ record self.now { farthest = further_point at self.now.farthest } }
     {
@@ -152,8 +151,8 @@ impl Numbers {
         }
     }
 
-    /// A flush raises the greatest flush position. Where it is to be acknowledged that is due; of two that are due the
-    /// further stays.
+    /// Notes a flush, which may raise the greatest flush position. If it is to be acknowledged, the further of it and the due position
+    /// becomes due.
     pub(crate) fn flushed(&self, at: FlushPlace, acknowledged: bool) -> Numbers
         ensures { result ≡ record self.now { flush = further at self.now.flush; due = elim acknowledged [ true ↦ further at self.now.due | false ↦ self.now.due ] } }
     {
@@ -168,14 +167,14 @@ impl Numbers {
         }
     }
 
-    /// Whether a back-off may begin: none runs, and none is held off.
+    /// Whether a back-off may begin: none is running, and no hold-off is in effect.
     pub(crate) fn may_back_off(&self, now: Moment) -> bool
         ensures { result ≡ (is_none self.now.backoff && not (nat_lt now self.now.holdoff)) }
     {
         self.backoff.is_none() && now.0 >= self.holdoff.0
     }
 
-    /// A back-off begins, by a draw of at most K round trips.
+    /// Starts a back-off of at most K round trips. `draw` decides how long it lasts.
     pub(crate) fn backing_off(&self, profile: &Profile, now: Moment, draw: u32) -> Numbers
         ensures { result ≡ record self.now { backoff = Some (moment_after now (draw % (profile.now.k * profile.now.grtt + 1))) } }
     {
@@ -188,7 +187,7 @@ impl Numbers {
         }
     }
 
-    /// Whether a back-off runs whose moment is reached.
+    /// Whether a back-off is running and has expired.
     pub(crate) fn ends_back_off(&self, now: Moment) -> bool
         ensures { result ≡ has_ended now self.now.backoff }
     {
@@ -198,7 +197,7 @@ impl Numbers {
         }
     }
 
-    /// The back-off ended.
+    /// Ends the back-off.
     pub(crate) fn backed_off(&self) -> Numbers
         ensures { result ≡ record self.now { backoff = None } }
     {
@@ -208,7 +207,7 @@ impl Numbers {
         }
     }
 
-    /// No back-off begins before K + 2 round trips have passed.
+    /// Starts a hold-off of K + 2 round trips, in which no back-off begins.
     pub(crate) fn holding_off(&self, profile: &Profile, now: Moment) -> Numbers
         ensures { result ≡ record self.now { holdoff = moment_after now ((profile.now.k + 2) * profile.now.grtt) } }
     {
@@ -220,7 +219,7 @@ impl Numbers {
         }
     }
 
-    /// The position whose acknowledgement is due, if one is.
+    /// Returns the position that is to be acknowledged, if any.
     pub(crate) fn due_position(&self) -> Option<Position>
         ensures { result ≡ self.now.due }
     {
@@ -230,14 +229,14 @@ impl Numbers {
         }
     }
 
-    /// No acknowledgement is due any more.
+    /// Notes that nothing is to be acknowledged any more.
     pub(crate) fn acknowledged(&self) -> Numbers
         ensures { result ≡ record self.now { due = None } }
     {
         Numbers { due: None, ..*self }
     }
 
-    /// A datagram was sent under the next sequence number.
+    /// Counts a datagram that was sent.
     pub(crate) fn sent(&self) -> Numbers
         ensures { result ≡ record self.now { sequence = (self.now.sequence + 1) % 65536 } }
     {

@@ -1,12 +1,12 @@
-//! What a receiver is made of.
+//! The fields of a [`Receiver`](crate::Receiver).
 
 use crate::numbers::Numbers;
 use norm_base::Profile;
 use rx_heard::{Asked, Heard};
 use rx_hold::Hold;
 
-/// The parts of a receiver, under one profile: what it holds, what it heard others ask for, and its numbers; and the room in
-/// which requests are read.
+/// The state of a receiver: its profile, what it holds, what it heard others ask for, its numbers, and a buffer for the requests of one
+/// message.
 // `asked` is room in which a message is read before it is heard. It stands here so that a message costs no new memory once the room is there.
 #[derive(Debug, Drop)]
 pub(crate) struct Parts {

@@ -1,4 +1,4 @@
-//! The receiver of a session.
+//! [`Receiver`], which callers drive.
 
 ghost use Rattle.std.specs.Prelude.{◌≡◌, [], true, not, length, IfOk, OnErr, IfNone, IfSome, IsSome};
 ghost use Rattle.norm_receive_rules.specs.ReceiverState.{ReceiverState, receiver_opening};
@@ -16,12 +16,10 @@ use norm_order::Up;
 use std::alloc::Global;
 use std::marker::Model;
 
-/// The receiver of a session: it hands up the objects of the sender's transport order, instance by instance.
-///
-/// What drives it hands it each datagram as it comes ([`deliver`](Receiver::deliver)), with a draw for the back-off that
-/// may begin, and after each takes what was handed up by [`take_up`](Receiver::take_up) until that is `None`. Datagrams
-/// may come in any order, and may hold any octets. At each moment it is asked for the datagram to send
-/// ([`tick`](Receiver::tick)), by which it acknowledges and asks for repair.
+/// A NORM receiver without I/O (RFC 5740 section 5.3). It hands up the sender's objects in order, instance by instance. In each turn:
+/// 1. [`deliver`](Receiver::deliver) each datagram that arrived, in any order. Any octets are allowed.
+/// 2. [`take_up`](Receiver::take_up) until it returns `None`.
+/// 3. [`tick`](Receiver::tick). Last, because an acknowledgement may leave only after the user has what it confirms.
 // It stands for some state of the rules at each moment. Otherwise the clauses of its calls would promise nothing.
 #[derive(Debug, Drop)]
 pub struct Receiver {
@@ -41,11 +39,11 @@ impl Model for Receiver {
 }
 
 impl Receiver {
-    /// A node's receiver as it begins, in no instance.
+    /// Creates a node's receiver, which is in no instance yet.
     ///
     /// # Errors
     ///
-    /// `Memory` where memory runs out.
+    /// `Memory` if memory runs out.
     pub fn new(alloc: Global, profile: &Profile, node: NodeId) -> Result<Receiver, Memory>
         ensures profile { IfOk result (λ receiver. receiver.p ≡ profile.now) }
         ensures stands { IfOk result (λ receiver. StandsFor receiver (receiver_opening node)) }
@@ -54,13 +52,14 @@ impl Receiver {
         Ok(Receiver { parts })
     }
 
-    /// Takes in a datagram: a message of the sender, or what another node asks for. Any other octets change nothing.
+    /// Takes in a datagram of the sender, or what another node asks for. Any other octets change nothing. If a back-off begins, `draw`
+    /// decides how long it lasts.
     ///
     /// # Errors
     ///
-    /// `Memory` if memory runs out; all is then as if the datagram had been lost. It may come of an INFO, a DATA, a flush and a squelch
-    /// of the profile's sender, in the current instance or one above it, and of what others ask for while a back-off runs. For any
-    /// other octets no memory is wanted.
+    /// `Memory` if memory runs out. Everything is then as if the datagram had been lost. It can happen for an INFO, DATA, flush or squelch of
+    /// the profile's sender in the current instance or a later one, and for requests of others while a back-off runs. Other octets take no
+    /// memory.
     pub fn deliver(&mut self, bytes: &[u8], now: Moment, draw: u32) -> Result<(), Memory>
         ensures profile { self.new.p ≡ self.old.p }
         ensures stands { IfOk result (λ _. (s : ReceiverState) → StandsFor self.old s → StandsFor self.new (received self.old.p s bytes.now now draw)) }
@@ -70,8 +69,7 @@ impl Receiver {
         self.parts.deliver(bytes, now, draw)
     }
 
-    /// Takes the next hand-up. `None` exactly where all that was handed up was taken, and then nothing changes. It takes no
-    /// memory.
+    /// Takes the next hand-up. `None` if all were taken; then nothing changes. It takes no memory.
     pub fn take_up(&mut self) -> Option<Up>
         ensures profile { self.new.p ≡ self.old.p }
         ensures stands { (s : ReceiverState) → StandsFor self.old s → StandsFor self.new (took s).0 × (result ≡ (took s).1) }
@@ -81,8 +79,9 @@ impl Receiver {
         self.parts.take_up()
     }
 
-    /// Sends the acknowledgement that is due, or else ends a back-off whose moment is reached: then it asks for what is
-    /// needed, where others did not ask for all of it. All that was handed up must have been taken. It takes no memory.
+    /// Sends the acknowledgement that is due. If none is due and a back-off has expired, sends a NACK if something is needed, unless others
+    /// have asked for everything that it would ask for. Call it after all hand-ups were taken. If nothing is sent, `out` may hold anything.
+    /// It takes no memory.
     pub fn tick(&mut self, now: Moment, out: &mut Datagram) -> Sent
         requires taken { self.old.hold.ups ≡ [] }
         ensures profile { self.new.p ≡ self.old.p }
@@ -92,14 +91,14 @@ impl Receiver {
         self.parts.tick(now, out)
     }
 
-    /// The position whose acknowledgement the next tick sends, if one is due.
+    /// Returns the position that the next tick acknowledges, if one is due.
     pub fn due(&self) -> Option<Position>
         ensures { (s : ReceiverState) → StandsFor self.now s → result ≡ s.knows.due }
     {
         self.parts.due()
     }
 
-    /// How many hand-ups were not taken.
+    /// Returns how many hand-ups wait to be taken.
     pub fn ups(&self) -> usize
         ensures exact { result ≡ length self.now.hold.ups }
         ensures stands { (s : ReceiverState) → StandsFor self.now s → result ≡ length s.holding.ups }
@@ -107,7 +106,7 @@ impl Receiver {
         self.parts.ups()
     }
 
-    /// The current instance, if one began.
+    /// Returns the current instance, if one began.
     pub fn instance(&self) -> Option<InstanceId>
         ensures { (s : ReceiverState) → StandsFor self.now s → result ≡ s.instance }
     {

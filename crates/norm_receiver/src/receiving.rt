@@ -26,7 +26,7 @@ use norm_ext::{Extensions, Fti, read_fti};
 use norm_receive_rules::Fit;
 use rx_hold::Hold;
 
-/// What an INFO or DATA brings its object.
+/// What an INFO or DATA brings for its object.
 #[derive(Clone, Copy, Debug)]
 pub(crate) enum Brought<'a> {
     Info(&'a [u8]),
@@ -38,20 +38,20 @@ pub(crate) enum Brought<'a> {
 pub(crate) enum Said<'a> {
     Info {
         flags: u8,
-        /// The header extensions, whole words.
+        /// The header extensions, which are whole.
         exts: &'a [u8],
         info: &'a [u8],
     },
     Data {
         flags: u8,
-        /// The header extensions, whole words.
+        /// The header extensions, which are whole.
         exts: &'a [u8],
         id: PayloadId,
         payload: &'a [u8],
     },
     Flush {
         id: PayloadId,
-        /// Node ids of 32 bits.
+        /// Node ids, four octets each.
         nodes: &'a [u8],
     },
     Squelch {
@@ -59,7 +59,7 @@ pub(crate) enum Said<'a> {
     },
 }
 
-/// Where what is brought is: an INFO counts as block 0, symbol 0.
+/// Returns the position of what is brought. An INFO counts as block 0, symbol 0.
 fn place_of(index: u32, brought: &Brought<'_>) -> Position
     ensures exact { result ≡ place_of index brought.now }
     ensures block { IsBlock result.block }
@@ -78,7 +78,7 @@ fn place_of(index: u32, brought: &Brought<'_>) -> Position
     }
 }
 
-/// The transmission information among whole extensions, where it is there.
+/// Returns the transmission information among whole extensions, if it is there.
 fn fti_among(exts: &[u8]) -> Option<Fti>
     requires { IsChecked exts.now }
     ensures { result ≡ fti_of (extensions_of exts.now) }
@@ -89,7 +89,7 @@ fn fti_among(exts: &[u8]) -> Option<Fti>
     }
 }
 
-/// Whether what comes with transmission information may be kept.
+/// Whether what comes with transmission information may be kept, by how that fits.
 fn lets_put(word: Fit) -> bool
     ensures { result ≡ lets_put word }
 {
@@ -100,7 +100,7 @@ fn lets_put(word: Fit) -> bool
     }
 }
 
-/// The info of an object comes.
+/// Keeps the info of an object if it is new.
 fn keep_info(hold: &mut Hold, index: u32, info: &[u8]) -> Result<(), Memory>
     ensures profile { hold.new.p ≡ hold.old.p }
     ensures state { IfOk result (λ _. (s : Holding) → HoldStands hold.old s → HoldStands hold.new (put_info hold.old.p index info.now s)) }
@@ -110,7 +110,7 @@ fn keep_info(hold: &mut Hold, index: u32, info: &[u8]) -> Result<(), Memory>
     Ok(())
 }
 
-/// A symbol of an object comes.
+/// Keeps a symbol of an object if it is new.
 fn keep_symbol(hold: &mut Hold, index: u32, id: PayloadId, payload: &[u8]) -> Result<(), Memory>
     ensures profile { hold.new.p ≡ hold.old.p }
     ensures state { IfOk result (λ _. (s : Holding) → HoldStands hold.old s
@@ -121,7 +121,7 @@ fn keep_symbol(hold: &mut Hold, index: u32, id: PayloadId, payload: &[u8]) -> Re
     Ok(())
 }
 
-/// What is brought is put.
+/// Keeps what is brought if it is new.
 fn put_brought(hold: &mut Hold, index: u32, brought: &Brought<'_>) -> Result<(), Memory>
     ensures profile { hold.new.p ≡ hold.old.p }
     ensures state { IfOk result (λ _. (s : Holding) → HoldStands hold.old s → HoldStands hold.new (puts hold.old.p index brought.now s)) }
@@ -133,7 +133,7 @@ fn put_brought(hold: &mut Hold, index: u32, brought: &Brought<'_>) -> Result<(),
     }
 }
 
-/// The block of what is brought is seen, whether that is kept or not.
+/// Notes that the block of what is brought was seen, whether or not it was kept.
 fn see_brought(hold: &mut Hold, index: u32, brought: &Brought<'_>)
     ensures profile { hold.new.p ≡ hold.old.p }
     ensures state { (s : Holding) → HoldStands hold.old s → HoldStands hold.new (sees_block (point_of (place_of index brought.now)) s) }
@@ -141,7 +141,7 @@ fn see_brought(hold: &mut Hold, index: u32, brought: &Brought<'_>)
     hold.see(place_of(index, brought).point());
 }
 
-/// What is brought is put, its block is seen, and all that can be is handed up.
+/// Keeps what is brought, notes its block as seen, and hands up everything that is ready.
 fn keep(hold: &mut Hold, index: u32, brought: &Brought<'_>) -> Result<(), Memory>
     ensures profile { hold.new.p ≡ hold.old.p }
     ensures state { IfOk result (λ _. (s : Holding) → HoldStands hold.old s
@@ -155,7 +155,8 @@ fn keep(hold: &mut Hold, index: u32, brought: &Brought<'_>) -> Result<(), Memory
     Ok(())
 }
 
-/// An INFO or DATA with transmission information: what it brings is kept where that fits.
+/// Keeps what an INFO or DATA with transmission information brings, if that fits. If memory runs out, an object that it took up is forgotten
+/// again.
 fn keep_told(
     hold: &mut Hold,
     index: u32,
@@ -184,7 +185,7 @@ fn keep_told(
     Err(fault)
 }
 
-/// An INFO or DATA of an object.
+/// Keeps what an INFO or DATA brings, with or without transmission information.
 fn keep_object(
     hold: &mut Hold,
     index: u32,
@@ -206,7 +207,7 @@ fn keep_object(
 }
 
 impl Parts {
-    /// Whether a flush is to be acknowledged: it asks this node, and all through its position was handed up.
+    /// Whether to acknowledge a flush: it names this node, everything up to its position was handed up, and nothing was lost.
     fn acknowledges(&self, at: Position, nodes: &[u8]) -> bool
         requires { length nodes.now % 4 ≡ 0 }
         ensures { (s : ReceiverState) → Stands (kept_of self.now) s → result ≡ acknowledges s at (nodes_of nodes.now) }
@@ -217,7 +218,7 @@ impl Parts {
         self.hold.hand_up().all_handed_up(&at, self.hold.has_lost())
     }
 
-    /// An INFO or DATA of the object with this index, which is known then.
+    /// Takes in an INFO or DATA of the object with this index, and notes the index as known.
     #[tactic(auto, using(crate::proofs::BlockLemmas::held_blocks))]
     fn receive_object(
         &mut self,
@@ -239,7 +240,7 @@ impl Parts {
         Ok(())
     }
 
-    /// A flush of a symbol of the object with this index, which is known then.
+    /// Takes in a flush up to a symbol of the object with this index, and notes the index as known.
     fn receive_flush(&mut self, index: u32, id: PayloadId, nodes: &[u8])
         requires { length nodes.now % 4 ≡ 0 }
         ensures profile { self.new.profile ≡ self.old.profile }
@@ -252,7 +253,7 @@ impl Parts {
         self.numbers = known.flushed(at, acknowledged);
     }
 
-    /// A squelch: the window begins at this block of the object with this index, which is known then.
+    /// Takes in a squelch, after which the sender's window begins at this block. Notes the index as known.
     fn receive_squelch(&mut self, index: u32, block: u32) -> Result<(), Memory>
         requires { index < 4294967295 }
         ensures profile { self.new.profile ≡ self.old.profile }
@@ -265,7 +266,7 @@ impl Parts {
         Ok(())
     }
 
-    /// What a message says of the object with this index, which is known then, happens.
+    /// Does what a message says of the object with this index, and notes the index as known.
     pub(crate) fn receive(&mut self, index: u32, said: &Said<'_>) -> Result<(), Memory>
         requires whole { IsSaid said.now }
         requires last { index < 4294967295 }

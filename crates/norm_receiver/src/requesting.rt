@@ -1,4 +1,4 @@
-//! The repair requests of a NACK (RFC 5740 section 4.3.1), need by need.
+//! The repair requests of a NACK (RFC 5740 section 4.3.1), one for each need.
 
 ghost use Rattle.std.specs.Prelude.{◌≡◌, ◌+◌, ◌≤◌, ◌<◌, ◌++◌, ℕ, List, [], ◌∷◌, false, length, map};
 ghost use Rattle.std.specs.Bool.{MatchBool};
@@ -21,15 +21,15 @@ pub enum Need {
     Object { index: u32 },
     /// The info of an object.
     ObjectInfo { index: u32 },
-    /// So many symbols of a block.
+    /// This many symbols of a block.
     Symbols { index: u32, block: u32, wanted: u8 },
     /// A source symbol of a stream.
     Source { at: Position },
-    /// All of a stream from a block on.
+    /// Everything of a stream from a block on.
     Rest { index: u32, block: u32 },
 }
 
-/// The place of an object's first symbol, by which the object is named.
+/// Returns the position of an object's first symbol, which names the object in a request.
 fn first_of(index: u32) -> Position
     ensures { result ≡ position index 0 0 }
 {
@@ -40,7 +40,7 @@ fn first_of(index: u32) -> Position
     }
 }
 
-/// The place of a block's first symbol, by which an end of a range of blocks is named.
+/// Returns the position of a block's first symbol, which names one end of a range of blocks.
 fn first_in(index: u32, block: u32) -> Position
     requires { IsBlock block }
     ensures { result ≡ position index block 0 }
@@ -52,8 +52,8 @@ fn first_in(index: u32, block: u32) -> Position
     }
 }
 
-/// Asks for a need, where there is room: the writer must have the datagram that it wrote to. `false` exactly where the
-/// requests would pass the limit, and nothing is changed then.
+/// Appends the request for a need. The writer must have the datagram that it wrote to before. Returns `false` if the requests would exceed
+/// the limit; then nothing changes.
 pub(crate) fn ask(
     profile: &Profile,
     need: Need,

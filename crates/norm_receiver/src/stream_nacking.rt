@@ -1,5 +1,5 @@
-//! What a NACK asks for of a stream (RFC 5740 section 5.3): the counts of blocks that are due, source symbols up to a flush and
-//! before the end, and all from a block on.
+//! What a NACK asks for of a stream (RFC 5740 section 5.3): symbols for its due blocks, source symbols up to a flush and before the end, and
+//! everything from a block on.
 
 ghost use Rattle.std.specs.Prelude.{◌≡◌, ℕ, List, IfSome, false, not};
 ghost use Rattle.fec_plan.specs.Points.{IsBlock, point_before, point_of};
@@ -22,7 +22,7 @@ use fec_plan::{Plan, Position};
 use norm_base::Datagram;
 
 impl Parts {
-    /// Asks for a source symbol of a block that was not handed up whole, where it is not held.
+    /// Requests a source symbol if it is not held. Its block was not handed up whole.
     fn ask_symbol(&self, at: Position, asking: &mut Asking, out: &mut Datagram)
         requires ahead { point_before (point_of at) (point_of self.now.hold.point) ≡ false }
         requires block { IsBlock at.block }
@@ -39,7 +39,7 @@ impl Parts {
         asking.add(&self.profile, Need::Source { at }, heard, out);
     }
 
-    /// Asks for those of these source symbols that are missing.
+    /// Requests the missing source symbols of a run.
     fn ask_run(&self, index: u32, plan: &Plan, run: Run, asking: &mut Asking, out: &mut Datagram)
         requires stream { IsStreamOf self.now.hold index plan.now }
         requires block { IsBlock run.block }
@@ -69,7 +69,7 @@ impl Parts {
         }
     }
 
-    /// Asks for those that are missing of source symbols that may be needed.
+    /// Requests the missing source symbols of a run, if there is one.
     fn ask_missing(
         &self,
         index: u32,
@@ -93,7 +93,7 @@ impl Parts {
         }
     }
 
-    /// Asks for all of a stream from a block on, where there is one.
+    /// Requests everything of a stream from block `rest` on, if there is one.
     fn ask_rest(
         &self,
         index: u32,
@@ -120,7 +120,7 @@ impl Parts {
         }
     }
 
-    /// Asks for what is needed of a stream behind the counts of its blocks.
+    /// Requests what is needed of a stream, whose due blocks were requested already.
     fn ask_behind(
         &self,
         index: u32,
@@ -144,7 +144,7 @@ impl Parts {
         self.ask_rest(index, plan, wants.rest, asking, out);
     }
 
-    /// Asks for what is needed of a stream behind its info.
+    /// Requests what is needed of a stream, whose info was requested already.
     pub(crate) fn ask_stream(
         &self,
         index: u32,

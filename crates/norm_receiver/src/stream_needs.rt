@@ -18,7 +18,7 @@ use fec_plan::{LAST_BLOCK, Plan, Point, Position};
 use norm_receive_rules::Missing;
 use rx_hold::Hold;
 
-/// Source symbols of a block in a row: from the first to before the one behind.
+/// A span of source symbols of a block: from `first` up to and excluding `behind`.
 #[derive(Clone, Copy, Debug, PartialEq, Eq)]
 pub struct Run {
     pub block: u32,
@@ -26,20 +26,20 @@ pub struct Run {
     pub behind: u8,
 }
 
-/// What may be needed of a stream behind its info.
+/// What may be needed of a stream apart from its info.
 #[derive(Clone, Copy, Debug, PartialEq, Eq)]
 pub struct StreamWants {
-    /// So many blocks are due whole.
+    /// The blocks before this one are needed whole.
     pub due: u32,
     /// The source symbols up to the flush.
     pub flushed: Option<Run>,
-    /// Those before the end, behind those that the flush names.
+    /// The source symbols of the end's block before the end, except those that the flush names.
     pub ended: Option<Run>,
-    /// The block from which on all is needed.
+    /// The block from which on everything is needed.
     pub rest: Option<u32>,
 }
 
-/// The flush position, where it is in this object.
+/// Returns the flush position if it is in this object.
 fn flush_in(flush: &Option<Position>, index: u32) -> Option<Position>
     ensures exact { result ≡ flush_in flush.now index }
     ensures block { IfSome result (λ at. IsBlock at.block) }
@@ -50,7 +50,7 @@ fn flush_in(flush: &Option<Position>, index: u32) -> Option<Position>
     }
 }
 
-/// The sender was seen or heard to be past a stream.
+/// Whether the sender was seen in a later object, or flushed one.
 fn is_behind(farthest: &Option<Point>, flush: &Option<Position>, index: u32) -> bool
     ensures { result ≡ is_behind farthest.now flush.now index }
 {
@@ -65,7 +65,7 @@ fn is_behind(farthest: &Option<Point>, flush: &Option<Position>, index: u32) -> 
     }
 }
 
-/// The blocks of a stream before the greatest one that was seen, and before the flush's.
+/// Returns the block before which all blocks are due: the greatest one that was seen, or the flush's if that is greater.
 fn stream_due(seen: u32, within: &Option<Position>) -> u32
     requires seen { IsBlock seen }
     requires within { IfSome within.now (λ at. IsBlock at.block) }
@@ -78,7 +78,7 @@ fn stream_due(seen: u32, within: &Option<Position>) -> u32
     }
 }
 
-/// The greatest block that was seen of a stream. No message names one behind the last.
+/// Returns the greatest block that was seen of a stream, at most the last that a message can name.
 fn block_seen(hold: &Hold, index: u32) -> u32
     requires { hold.now.point.index ≤ index }
     ensures block { IsBlock result }
@@ -91,7 +91,7 @@ fn block_seen(hold: &Hold, index: u32) -> u32
     }
 }
 
-/// The place of a covered stream's end, where that is known. Of one that is not covered the end is not looked for.
+/// Returns the position of a covered stream's end, if that is known. It does not look for the end if the stream is not covered.
 fn end_of(hold: &Hold, index: u32, covered: bool) -> Option<Position>
     requires { hold.now.point.index ≤ index }
     ensures exact { covered ≡ true → (s : Holding) → HoldStands hold.now s → result ≡ end_at hold.now.p s index }
@@ -106,7 +106,7 @@ fn end_of(hold: &Hold, index: u32, covered: bool) -> Option<Position>
     }
 }
 
-/// Whether a block of a stream was handed up, or has as many symbols as source symbols.
+/// Whether a block of a stream was handed up, or has enough symbols to be decoded.
 pub(crate) fn is_done(hold: &Hold, index: u32, plan: &Plan, block: u32) -> bool
     requires stream { IsStreamOf hold.now index plan.now }
     requires block { IsBlock block }
@@ -129,8 +129,8 @@ pub(crate) fn is_done(hold: &Hold, index: u32, plan: &Plan, block: u32) -> bool
     }
 }
 
-/// The block from which on all is needed, where the sender is past a stream whose end is not known: the greatest seen, or the
-/// one behind it where that is done.
+/// Returns the block from which on everything is needed if the sender is past the stream and its end is not known: the greatest block seen,
+/// or the next one if that is done.
 fn open_block(hold: &Hold, index: u32, plan: &Plan, seen: u32) -> u32
     requires stream { IsStreamOf hold.now index plan.now }
     requires block { IsBlock seen }
@@ -142,14 +142,14 @@ fn open_block(hold: &Hold, index: u32, plan: &Plan, seen: u32) -> u32
     seen
 }
 
-/// How many source symbols of a block a flush of this one names; one that is no source symbol counts as the last.
+/// Returns how many source symbols of a block a flush up to `symbol` names. A symbol that is no source symbol counts as the last.
 fn symbols_through(plan: &Plan, symbol: u8, block: u32) -> u8
     ensures { result ≡ min (symbol + 1) (source_symbols plan.now block) }
 {
     (u16::from(symbol) + 1).min(u16::from(plan.source_len(block))) as u8
 }
 
-/// How many source symbols of a block a flush names.
+/// Returns how many source symbols of a block a flush names.
 fn symbols_flushed(plan: &Plan, within: &Option<Position>, block: u32) -> u8
     ensures { result ≡ symbols_named plan.now within.now block }
 {
@@ -159,7 +159,7 @@ fn symbols_flushed(plan: &Plan, within: &Option<Position>, block: u32) -> u8
     }
 }
 
-/// The source symbols of the flush's block up to the flush.
+/// Returns the source symbols of the flush's block up to and including the flush.
 fn flush_run(plan: &Plan, within: &Option<Position>) -> Option<Run>
     requires { IfSome within.now (λ at. IsBlock at.block) }
     ensures exact { result ≡ flush_run plan.now within.now }
@@ -175,7 +175,7 @@ fn flush_run(plan: &Plan, within: &Option<Position>) -> Option<Run>
     }
 }
 
-/// The source symbols of the end's block before the end, behind those that a flush names.
+/// Returns the source symbols of the end's block before the end, except those that a flush names.
 fn end_run(
     plan: &Plan,
     covered: bool,
@@ -199,7 +199,8 @@ fn end_run(
     }
 }
 
-/// The block from which on all is needed of a stream whose end is not known, where the sender is past it and there is one.
+/// Returns the block from which on everything of a stream is needed. `None` if its end is known, the sender is not past it, or no message can
+/// name the block.
 fn rest_from(end: &Option<Position>, behind: bool, least: u32) -> Option<u32>
     ensures exact { result ≡ rest_at (is_none end.now && behind) least }
     ensures block { IfSome result (λ block. IsBlock block) }
@@ -218,7 +219,7 @@ fn rest_from(end: &Option<Position>, behind: bool, least: u32) -> Option<u32>
     Some(least)
 }
 
-/// What may be needed of a stream behind its info.
+/// Returns what may be needed of a stream apart from its info.
 pub(crate) fn stream_wants(hold: &Hold, numbers: &Numbers, index: u32, plan: &Plan) -> StreamWants
     requires { IsStreamOf hold.now index plan.now }
     ensures widths { AreBlocks result }
@@ -239,7 +240,7 @@ pub(crate) fn stream_wants(hold: &Hold, numbers: &Numbers, index: u32, plan: &Pl
     }
 }
 
-/// Whether none of these source symbols is missing: each is held, or their block is done.
+/// Whether no source symbol of a run is missing: each is held, or its block is done.
 fn is_there(hold: &Hold, index: u32, plan: &Plan, run: Run) -> bool
     requires stream { IsStreamOf hold.now index plan.now }
     requires block { IsBlock run.block }
@@ -264,7 +265,7 @@ fn is_there(hold: &Hold, index: u32, plan: &Plan, run: Run) -> bool
     true
 }
 
-/// Whether none is missing of source symbols that may be needed.
+/// Whether no source symbol of a run is missing, if there is a run.
 fn are_there(hold: &Hold, index: u32, plan: &Plan, run: Option<Run>) -> bool
     requires stream { IsStreamOf hold.now index plan.now }
     requires block { IfSome run (λ some. IsBlock some.block) }
@@ -276,14 +277,13 @@ fn are_there(hold: &Hold, index: u32, plan: &Plan, run: Option<Run>) -> bool
     }
 }
 
-/// Whether there is no such block.
 fn is_nowhere(rest: &Option<u32>) -> bool
     ensures { result ≡ is_none rest.now }
 {
     rest.is_none()
 }
 
-/// Whether nothing is needed of a stream's blocks that are due and of the source symbols up to a flush. Its end is not looked for.
+/// Whether nothing is needed of a stream's due blocks, and of the source symbols up to a flush. It does not look for the end.
 fn is_quiet_to_flush(hold: &Hold, numbers: &Numbers, index: u32, plan: &Plan) -> bool
     requires { IsStreamOf hold.now index plan.now }
     ensures { (s : Holding) → HoldStands hold.now s → HasSeenBlocks s → IfSome (plan_of s index) (λ found.
@@ -297,8 +297,8 @@ fn is_quiet_to_flush(hold: &Hold, numbers: &Numbers, index: u32, plan: &Plan) ->
     are_there(hold, index, plan, flush_run(plan, &within))
 }
 
-/// Whether nothing is needed of a stream behind its info. The end is looked for only where all is there up to the flush: then
-/// few blocks are held from the next segment's on.
+/// Whether nothing is needed of a stream apart from its info. It looks for the end only if everything up to the flush is there: then few
+/// blocks are held from the next segment's on.
 pub(crate) fn is_stream_quiet(hold: &Hold, numbers: &Numbers, index: u32, plan: &Plan) -> bool
     requires { IsStreamOf hold.now index plan.now }
     ensures { (s : Holding) → HoldStands hold.now s → HasSeenBlocks s → IfSome (plan_of s index) (λ found.

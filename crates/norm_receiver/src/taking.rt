@@ -1,4 +1,4 @@
-//! A receiver as it begins, and what is taken of it (RFC 5740 section 5.3).
+//! Creating a receiver, and what callers take from it (RFC 5740 section 5.3).
 
 ghost use Rattle.std.specs.Prelude.{◌≡◌, [], IfOk, IfNone, length, not};
 ghost use Rattle.norm_receive_rules.specs.ReceiverState.{ReceiverState, receiver_opening};
@@ -16,7 +16,7 @@ use rx_hold::Hold;
 use std::alloc::Global;
 
 impl Parts {
-    /// As a node's receiver begins.
+    /// Creates a node's receiver, which is in no instance yet.
     pub(crate) fn new(alloc: Global, profile: &Profile, node: NodeId) -> Result<Parts, Memory>
         ensures profile { IfOk result (λ parts. parts.profile ≡ profile.now) }
         ensures state { IfOk result (λ parts. Stands (kept_of parts) (receiver_opening node)) }
@@ -31,7 +31,7 @@ impl Parts {
         })
     }
 
-    /// Takes the next hand-up. `None` exactly where all that was handed up was taken. It takes no memory.
+    /// Takes the next hand-up. `None` if all were taken. It takes no memory.
     #[tactic(auto, using(crate::proofs::BlockLemmas::taken_blocks))]
     pub(crate) fn take_up(&mut self) -> Option<Up>
         ensures profile { self.new.profile ≡ self.old.profile }
@@ -41,7 +41,7 @@ impl Parts {
         self.hold.next_up()
     }
 
-    /// How many hand-ups were not taken.
+    /// Returns how many hand-ups wait to be taken.
     pub(crate) fn ups(&self) -> usize
         ensures exact { result ≡ length self.now.hold.ups }
         ensures state { (s : ReceiverState) → Stands (kept_of self.now) s → result ≡ length s.holding.ups }
@@ -49,7 +49,7 @@ impl Parts {
         self.hold.ups()
     }
 
-    /// The current instance, if one began.
+    /// Returns the current instance, if one began.
     pub(crate) fn instance(&self) -> Option<InstanceId>
         ensures { (s : ReceiverState) → Stands (kept_of self.now) s → result ≡ s.instance }
     {

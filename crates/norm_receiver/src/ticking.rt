@@ -1,4 +1,4 @@
-//! A tick of a receiver (RFC 5740 section 5.3): an acknowledgement that is due, the NACK of a back-off that ended, or nothing.
+//! A tick of a receiver (RFC 5740 section 5.3): it sends an acknowledgement that is due, or the NACK after a back-off, or nothing.
 
 ghost use Rattle.std.specs.Prelude.{◌≡◌};
 ghost use Rattle.norm_receive_rules.specs.ReceiverState.{ReceiverState};
@@ -12,7 +12,7 @@ use crate::parts::Parts;
 use norm_base::{Datagram, Moment, Sent};
 
 impl Parts {
-    /// The back-off ended: what is needed is asked for, where others did not ask for all of it.
+    /// Sends a NACK if something is needed, unless others have asked for everything that it would ask for. In both cases a hold-off begins.
     fn ask_where_needed(&mut self, now: Moment, out: &mut Datagram) -> Sent
         ensures profile { self.new.profile ≡ self.old.profile }
         ensures sent { (s : ReceiverState) → Stands (kept_of self.old) s
@@ -32,7 +32,7 @@ impl Parts {
         }
     }
 
-    /// Ends a back-off whose moment is reached.
+    /// Ends the back-off if it has expired, and sends a NACK if one is called for.
     fn end_back_off(&mut self, now: Moment, out: &mut Datagram) -> Sent
         ensures profile { self.new.profile ≡ self.old.profile }
         ensures sent { (s : ReceiverState) → Stands (kept_of self.old) s
@@ -45,7 +45,7 @@ impl Parts {
         self.ask_where_needed(now, out)
     }
 
-    /// Sends the acknowledgement that is due, or else ends a back-off whose moment is reached.
+    /// Sends the acknowledgement that is due. If none is due, ends a back-off that has expired.
     pub(crate) fn tick(&mut self, now: Moment, out: &mut Datagram) -> Sent
         ensures profile { self.new.profile ≡ self.old.profile }
         ensures sent { (s : ReceiverState) → Stands (kept_of self.old) s

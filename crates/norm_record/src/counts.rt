@@ -1,4 +1,4 @@
-//! How many events there are of two kinds.
+//! The counts of two kinds of events, for [`Journal::refused`](crate::Journal::refused) and [`Journal::expired`](crate::Journal::expired).
 
 ghost use Rattle.std.specs.Prelude.{◌≡◌, ◌+◌, IfSome, if◌then◌else◌};
 ghost use Rattle.norm_record.specs.Counted.{with_event};
@@ -13,7 +13,7 @@ pub(crate) struct Counts {
     pub(crate) expired: u64,
 }
 
-/// A count, with one more if there is one. `None` if it does not fit 64 bits.
+/// Returns the count, plus one if `more` is true. `None` if it does not fit 64 bits.
 fn counted(count: u64, more: bool) -> Option<u64>
     ensures { IfSome result (λ n. n ≡ count + (if more then 1 else 0)) }
 {
@@ -26,7 +26,7 @@ fn counted(count: u64, more: bool) -> Option<u64>
 }
 
 impl Counts {
-    /// The counts after one more event. `None` if a count does not fit 64 bits.
+    /// Returns the counts after one more event. `None` if a count does not fit 64 bits.
     pub(crate) fn after(self, rare: &Rare) -> Option<Counts>
         ensures { IfSome result (λ counts. counts ≡ with_event (rare_event rare.now) self) }
     {

@@ -10,23 +10,23 @@ use crate::seen::Seen;
 use norm_base::{Moment, NodeId, Octets, Origin, Sent};
 use norm_send_rules::{Job, News, Outcome, Receipt, SendFault};
 
-/// An event without its octets: these stand at its place among what is kept.
+/// An event without its octets. `at` is the index of the rest in the list of its kind.
 // An entry is small, because a session has many times more events than different datagrams.
 #[derive(Clone, Copy)]
 pub(crate) enum Entry {
-    /// The turn at this place.
+    /// The turn with this index.
     Turn { at: u32 },
     Tick { node: NodeId, sent: Sent },
-    /// The offer at this place.
+    /// The offer with this index.
     Offer { from: NodeId, at: u32 },
-    /// A take of the offer at this place.
+    /// A take of the offer with this index.
     Took { to: NodeId, at: u32 },
-    /// A take of octets that were no latest offer, at this place among such takes.
+    /// A take of octets that were no latest offer, by its index among such takes.
     Apart { to: NodeId, at: u32 },
     Empty,
-    /// The hand-up at this place.
+    /// The hand-up with this index.
     Up { node: NodeId, at: u32 },
-    /// The rare event at this place.
+    /// The rare event with this index.
     Rare { at: u32 },
 }
 
@@ -37,7 +37,7 @@ pub(crate) struct Turn {
     pub(crate) now: Moment,
 }
 
-/// A node's hand-up: what stands at this place among those that are kept.
+/// A node's hand-up, by its index among those that are kept.
 #[derive(Clone, Copy)]
 pub(crate) struct Hand {
     pub(crate) node: NodeId,
@@ -67,7 +67,7 @@ pub(crate) enum Rare {
 }
 
 impl Rare {
-    /// The event, lent.
+    /// Returns the event, borrowed.
     pub(crate) fn seen(&self) -> Seen<'_>
         ensures { told_of result ≡ rare_event self.now }
     {
@@ -91,7 +91,7 @@ impl Rare {
         }
     }
 
-    /// Whether a command was refused for good.
+    /// Whether this is the refusal of a command that does not have to wait.
     pub(crate) fn is_refused(&self) -> bool
         ensures { result ≡ is_refused (rare_event self.now) }
     {

@@ -1,4 +1,4 @@
-//! A journal that is kept.
+//! The journal of a session. `norm_session` adds each event to it, and tests read its events, hand-ups and counts.
 
 ghost use Rattle.std.specs.Prelude.{◌≡◌, ◌<◌, [], count_by, length, slice_get, Some, sum_by, nat_eq};
 ghost use Rattle.std.specs.Option.{option_map};
@@ -25,18 +25,19 @@ use norm_send_rules::{Job, News, Receipt, SendFault};
 use std::alloc::Global;
 use std::marker::Model;
 
-/// The events of a session in their order, seen as the list of `norm_journal::Event`, each octet kept once. Each push adds its
-/// event at the end. Where there is no memory, or more than 2^32 - 1 of a kind, it answers `Memory`, and all is as it was.
+/// The events of a session in their order. Contracts see the list of `norm_journal::Event`. A datagram is kept once for its offer and its
+/// takes, and a hand-up once for all receivers ([`octets`](Journal::octets) and [`hand_ups`](Journal::hand_ups) say if so). Each push adds its
+/// event at the end. It answers `Memory` if memory runs out or an index does not fit 32 bits. Then nothing changed.
 #[derive(Drop)]
 pub struct Journal {
     entries: Vec<Entry>,
     offers: Offers,
-    /// What was taken and is no latest offer.
+    /// The octets that were taken and are not the latest offer with their name.
     apart: Row,
     ups: Ups,
     rares: Vec<Rare>,
     turns: Vec<Turn>,
-    /// The hand-ups in their order.
+    /// The hand-ups in their order, each by its index in `ups`.
     hands: Vec<Hand>,
     counts: Counts,
 }
@@ -92,16 +93,16 @@ impl Journal {
         self.entries.len()
     }
 
-    /// How many octets of datagrams are kept. Where each take is of the latest offer with its source and sequence number, these are
-    /// the octets that were offered, each once.
+    /// How many octets of datagrams are kept. If each take is of the latest offer with its source and sequence number, these are the octets that
+    /// were offered, each once.
     pub fn octets(&self) -> usize
         ensures { TakesOffered self.now → result ≡ sum_by length (offered self.now) }
     {
         self.offers.octets().saturating_add(self.apart.octets())
     }
 
-    /// How many hand-ups are kept. Where those of one instance, part, index and offset are the same, each of them is kept once, however
-    /// many receivers handed it up.
+    /// How many hand-ups are kept. If all with the same instance, part, index and offset are the same, each is kept once for any number of
+    /// receivers.
     // Proof: the names of what is kept are those of what came, and differ; length-from_keys makes that a count.
     pub fn hand_ups(&self) -> usize
         ensures { UpsAgree self.now → result ≡ distinct_count nat_eq (names_in self.now) }
@@ -109,14 +110,14 @@ impl Journal {
         self.ups.len()
     }
 
-    /// Hand-up `i` of all nodes', counted from 0 in the order of the events, with its node, lent. `None` exactly if there are no more.
+    /// Returns hand-up `i` of all nodes, counted from 0 in the order of the events, with its node. `None` if there are no more.
     pub fn up(&self, i: u64) -> Option<(NodeId, &Up)>
         ensures { option_map (λ hand. (hand.0, hand.1.now)) result ≡ slice_get (handed_up self.now) i }
     {
         hand_at(&self.ups, &self.hands, i)
     }
 
-    /// How many commands were refused for good. One that waits for room was not.
+    /// How many commands were refused for good. An offer after which a command has to wait does not count.
     pub fn refused(&self) -> u64
         ensures { result ≡ count_by is_refused self.now }
     {
@@ -130,7 +131,7 @@ impl Journal {
         self.counts.expired
     }
 
-    /// The event at a place, lent.
+    /// Returns the event with index `i`, borrowed. It takes constant time.
     pub fn event(&self, i: usize) -> Seen<'_>
         requires { i < length self.now }
         ensures { slice_get self.now i ≡ Some (told_of result) }
@@ -146,14 +147,14 @@ impl Journal {
         )
     }
 
-    /// The network was started.
+    /// Adds that the network was started.
     pub fn push_start(&mut self) -> Result<(), Memory>
         ensures { Adds self.old self.new result event.Start }
     {
         self.push_rare(Rare::Start)
     }
 
-    /// A turn began, at its moment.
+    /// Adds that a turn began, at its moment.
     pub fn push_turn(&mut self, t: u32, now: Moment) -> Result<(), Memory>
         ensures { Adds self.old self.new result (event.Turn t now) }
     {
@@ -167,14 +168,14 @@ impl Journal {
         Ok(())
     }
 
-    /// A command was pulled from its producer.
+    /// Adds that a command was pulled from its producer.
     pub fn push_pull(&mut self, by: Origin) -> Result<(), Memory>
         ensures { Adds self.old self.new result (event.Pull by) }
     {
         self.push_rare(Rare::Pull { by })
     }
 
-    /// A command was offered to the sender, with its job where this is the first offer, and what the sender gave.
+    /// Adds an offer of a command and what the sender gave. `job` comes with the first offer, or, for a file, with the offer that accepts it.
     pub fn push_job(
         &mut self,
         by: Origin,
@@ -186,7 +187,7 @@ impl Journal {
         self.push_rare(Rare::Job { by, job, gave })
     }
 
-    /// A file of so many octets was offered to the sender, which refused it.
+    /// Adds that the sender refused a file of `len` octets.
     pub fn push_length(
         &mut self,
         by: Origin,
@@ -204,7 +205,7 @@ impl Journal {
         })
     }
 
-    /// A node ticked.
+    /// Adds a node's tick, and whether it gave a datagram.
     pub fn push_tick(&mut self, node: NodeId, sent: Sent) -> Result<(), Memory>
         ensures { Adds self.old self.new result (event.Tick node sent) }
     {
@@ -212,7 +213,7 @@ impl Journal {
         Ok(())
     }
 
-    /// A node's datagram was offered to the network.
+    /// Adds that a node's datagram was offered to the network. It copies the octets.
     pub fn push_offer(&mut self, from: NodeId, octets: &[u8]) -> Result<(), Memory>
         ensures { Adds self.old self.new result (event.Offer from octets.now) }
     {
@@ -222,7 +223,7 @@ impl Journal {
         Ok(())
     }
 
-    /// A datagram was taken from the network.
+    /// Adds that a datagram was taken from the network. It copies the octets unless they are the latest offer with their name.
     pub fn push_took(&mut self, to: NodeId, octets: &[u8]) -> Result<(), Memory>
         ensures { Adds self.old self.new result (event.Took to octets.now) }
     {
@@ -240,7 +241,7 @@ impl Journal {
         Ok(())
     }
 
-    /// The network had no datagram ready.
+    /// Adds a take that found no datagram ready.
     pub fn push_empty(&mut self) -> Result<(), Memory>
         ensures { Adds self.old self.new result event.Empty }
     {
@@ -248,7 +249,7 @@ impl Journal {
         Ok(())
     }
 
-    /// A receiver handed something up.
+    /// Adds that a receiver handed something up. If the latest hand-up with its name is the same, `up` is dropped and that one is used.
     pub fn push_up(&mut self, node: NodeId, instance: InstanceId, up: Up) -> Result<(), Memory>
         ensures { Adds self.old self.new result (event.Up node instance up) }
     {
@@ -267,14 +268,14 @@ impl Journal {
         Ok(())
     }
 
-    /// The sender told a change.
+    /// Adds a change that the sender reported.
     pub fn push_news(&mut self, news: News) -> Result<(), Memory>
         ensures { Adds self.old self.new result (event.News news) }
     {
         self.push_rare(Rare::News(news))
     }
 
-    /// The run ended, and its summary was made.
+    /// Adds that the run ended with its summary.
     pub fn push_end(&mut self) -> Result<(), Memory>
         ensures { Adds self.old self.new result event.End }
     {
@@ -283,7 +284,7 @@ impl Journal {
 }
 
 impl Journal {
-    /// An event that is kept whole.
+    /// Adds an event that is kept whole.
     fn push_rare(&mut self, rare: Rare) -> Result<(), Memory>
         ensures { Adds self.old self.new result (rare_event rare) }
     {

@@ -1,4 +1,4 @@
-//! Names of what is kept, each with the last place that has it. A place is a hint: what stands there is compared.
+//! Names of what is kept. Of each name, the index of the latest item is known. The index is a hint: the item itself is compared.
 
 ghost use Rattle.std.specs.Prelude.{◌≡◌};
 ghost use Rattle.norm_record.specs.Names.{name_of};
@@ -6,7 +6,8 @@ ghost use Rattle.norm_record.specs.Names.{name_of};
 use byteorder::{BigEndian, ByteOrder};
 use norm_ext::places::{COMMON, SEQUENCE_AT};
 
-/// A datagram's name: its sequence number and its source as one number, or 0 without a common header.
+/// A datagram's name: its sequence number and its source as one number of 48 bits (RFC 5740 section 4.1), or 0 if it is too short for the
+/// common header.
 #[tactic(auto, unfolding(crate::specs::Names::name_of))]
 pub(crate) fn name_of(octets: &[u8]) -> u64
     ensures { result ≡ name_of octets.now }

@@ -1,4 +1,4 @@
-//! An event, or a hand-up, is lent from what is kept.
+//! Makes the view of an event or of a hand-up from what is kept.
 
 ghost use Rattle.std.specs.Prelude.{◌≡◌, All, slice_get};
 ghost use Rattle.std.specs.Option.{option_map};
@@ -14,7 +14,7 @@ use crate::ups::Ups;
 use norm_base::NodeId;
 use norm_order::Up;
 
-/// The event of an entry, lent.
+/// Returns the event of an entry, borrowed.
 // It takes the stores one by one: a proof about each kind of entry then opens none of the journal's own invariant.
 pub(crate) fn lent<'a>(
     offers: &'a Offers,
@@ -58,7 +58,7 @@ pub(crate) fn lent<'a>(
     }
 }
 
-/// The hand-up at a place of their order, lent.
+/// Returns hand-up `i` in the order of the events, borrowed, with its node.
 pub(crate) fn hand_at<'a>(ups: &'a Ups, hands: &[Hand], i: u64) -> Option<(NodeId, &'a Up)>
     requires { All (IsAmong ups.now) hands.now }
     ensures { option_map (λ hand. (hand.0, hand.1.now)) result ≡ option_map (hand_of ups.now) (slice_get hands.now i) }

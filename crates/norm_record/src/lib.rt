@@ -1,4 +1,5 @@
-//! The journal of a session as it is kept: each octet once, seen by contracts as the list of its events.
+//! The journal of a session as it is kept: each datagram and hand-up once. Contracts see it as the list of its events. `norm_session` writes a
+//! [`Journal`]. Tests read each event as a [`Seen`].
 #![tactic(auto)]
 
 mod counts;

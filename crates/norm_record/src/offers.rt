@@ -1,4 +1,4 @@
-//! The datagrams that were offered, each kept once, and found again by its name.
+//! The datagrams that were offered. Each is kept once, and found again by its name.
 
 ghost use Rattle.std.specs.Prelude.{◌≡◌, ◌<◌, ◌++◌, ◌∷◌, [], ℕ, length, slice_get, Some, sum_by, OnOk, OnErr, IfOk, IfSome, IfNone};
 ghost use Rattle.norm_record.specs.Latest.{IsLatest};
@@ -10,7 +10,7 @@ use std::alloc::Global;
 use std::collections::HashMap;
 use std::marker::Model;
 
-/// Offered datagrams, seen as the list of them. Of each name the last place is known.
+/// Offered datagrams. Contracts see the list of them. Of each name, the index of the latest one is known.
 // The last one: with an older one, a datagram whose sequence number was used before would be kept once more as it is taken.
 #[derive(Drop)]
 pub(crate) struct Offers {
@@ -41,14 +41,14 @@ impl Offers {
         }
     }
 
-    /// How many octets there are.
+    /// How many octets there are in all.
     pub(crate) fn octets(&self) -> usize
         ensures { result ≡ sum_by length self.now }
     {
         self.row.octets()
     }
 
-    /// The offer at a place, lent.
+    /// Returns the offer with this index, borrowed.
     pub(crate) fn offer(&self, at: u32) -> &[u8]
         requires { at < length self.now }
         ensures { slice_get self.now at ≡ Some result.now }
@@ -56,7 +56,7 @@ impl Offers {
         self.row.piece(at as usize)
     }
 
-    /// The place of these octets, where they are the latest offer with their name.
+    /// Returns the index of these octets if they are the latest offer with their name.
     pub(crate) fn find(&self, octets: &[u8]) -> Option<u32>
         ensures found { IfSome result (λ at. slice_get self.now at ≡ Some octets.now) }
         ensures latest { IfNone result ((at : ℕ) → ¬ IsLatest self.now octets.now at) }
@@ -72,7 +72,7 @@ impl Offers {
         None
     }
 
-    /// Keeps one more offer, and gives its place. Where there is no memory, or no place of 32 bits left, all stays.
+    /// Keeps one more offer and returns its index. If memory runs out or the index does not fit 32 bits, nothing changes.
     pub(crate) fn keep(&mut self, octets: &[u8]) -> Result<u32, Memory>
         ensures kept { OnOk result (self.new ≡ self.old ++ octets.now ∷ []) }
         ensures place { IfOk result (λ at. at ≡ length self.old) }

@@ -1,4 +1,4 @@
-//! Octets in pieces, all in one row.
+//! Pieces of octets, one after the other in one vector.
 
 ghost use Rattle.std.specs.Prelude.{◌≡◌, ◌<◌, ◌++◌, ◌∷◌, [], length, slice_get, Some, sum_by, OnOk, OnErr};
 
@@ -6,14 +6,14 @@ use norm_base::Memory;
 use std::alloc::Global;
 use std::marker::Model;
 
-/// A piece of the row: its first octet's place, and how many it has.
+/// A piece: the offset of its first octet, and its length in octets.
 #[derive(Clone, Copy)]
 pub(crate) struct Piece {
     from: usize,
     len: usize,
 }
 
-/// Pieces of octets, seen as the list of them.
+/// Pieces of octets. Contracts see the list of them.
 // Each piece lies within the octets, and together they have as many: so the count of octets is that of what is kept.
 #[derive(Drop)]
 pub(crate) struct Row {
@@ -34,7 +34,7 @@ impl Model for Row {
 }
 
 impl Row {
-    /// A row without pieces. It takes no memory.
+    /// No pieces. It takes no memory.
     pub(crate) fn new(alloc: Global) -> Row
         ensures { result ≡ [] }
     {
@@ -51,14 +51,14 @@ impl Row {
         self.pieces.len()
     }
 
-    /// How many octets there are.
+    /// How many octets there are in all.
     pub(crate) fn octets(&self) -> usize
         ensures { result ≡ sum_by length self.now }
     {
         self.octets.len()
     }
 
-    /// The piece at a place, lent.
+    /// Returns the piece with this index, borrowed.
     pub(crate) fn piece(&self, at: usize) -> &[u8]
         requires { at < length self.now }
         ensures { slice_get self.now at ≡ Some result.now }
@@ -67,7 +67,7 @@ impl Row {
         self.octets.as_slice().split_at(from).1.split_at(len).0
     }
 
-    /// Keeps one more piece. Where there is no memory all stays.
+    /// Keeps one more piece. If memory runs out, nothing changes.
     pub(crate) fn keep(&mut self, octets: &[u8]) -> Result<(), Memory>
         ensures kept { OnOk result (self.new ≡ self.old ++ octets.now ∷ []) }
         ensures refused { OnErr result (self.new ≡ self.old) }

@@ -1,10 +1,10 @@
-//! An event as it is lent.
+//! An event as a reader of a journal gets it.
 
 use norm_base::{InstanceId, Moment, NodeId, Origin, Sent};
 use norm_order::Up;
 use norm_send_rules::{Job, News, Receipt, SendFault};
 
-/// An event of a journal, lent from what is kept. Each variant is the one of `norm_journal::Event` with its name.
+/// An event of a journal, borrowed. Each variant is the one of `norm_journal::Event` with its name.
 #[derive(Clone, Copy)]
 pub enum Seen<'a> {
     Start,

@@ -1,4 +1,4 @@
-//! Hand-ups, each kept once, and found again by its instance, part, index and offset.
+//! Hand-ups. Each is kept once, and found again by its instance, part, index and offset.
 
 ghost use Rattle.std.specs.Prelude.{◌≡◌, ◌<◌, ◌++◌, ◌∷◌, [], ℕ, length, slice_get, Some, OnOk, OnErr, IfOk, IfSome, IfNone};
 ghost use Rattle.std.specs.Bool.{Decides};
@@ -17,7 +17,7 @@ pub(crate) struct HandUp {
     pub(crate) up: Up,
 }
 
-/// Hand-ups, seen as the list of them. Of each name the last place is known.
+/// Hand-ups. Contracts see the list of them. Of each name, the index of the latest one is known.
 // Receivers hand up the same octets, so each is kept once however many receivers there are.
 #[derive(Drop)]
 pub(crate) struct Ups {
@@ -38,7 +38,7 @@ impl Model for Ups {
     ghost invariant = { λ ups. FindsLast (kept_names ups.kept.items) ups.latest };
 }
 
-/// Which part of its object a hand-up is, counted from 1 on, and the offset there.
+/// Which part of its object a hand-up is, counted from 1, and its offset in octets in the stream.
 fn part_of(up: &Up) -> (u8, u32)
     ensures { result ≡ part_of up.now }
 {
@@ -74,7 +74,7 @@ fn up_name(hand_up: &HandUp) -> u128
     (front * 0x1_0000_0000 + u128::from(index_of(&hand_up.up))) * 0x1_0000_0000 + u128::from(offset)
 }
 
-/// Whether two infos are the same, or both none.
+/// Whether two infos are the same, or neither is there.
 fn is_same_info(a: &Option<Octets>, b: &Option<Octets>) -> bool
     ensures { Decides result (a.now ≡ b.now) }
 {
@@ -141,14 +141,14 @@ impl Ups {
         }
     }
 
-    /// How many there are.
+    /// How many hand-ups there are.
     pub(crate) fn len(&self) -> usize
         ensures { result ≡ length self.now }
     {
         self.kept.len()
     }
 
-    /// The hand-up at a place, lent.
+    /// Returns the hand-up with this index, borrowed.
     pub(crate) fn hand_up(&self, at: u32) -> &HandUp
         requires { at < length self.now }
         ensures { slice_get self.now at ≡ Some result.now }
@@ -156,7 +156,7 @@ impl Ups {
         &self.kept[at as usize]
     }
 
-    /// The place of this hand-up, where it is the latest with its name.
+    /// Returns the index of this hand-up if it is the latest with its name.
     pub(crate) fn find(&self, hand_up: &HandUp) -> Option<u32>
         ensures found { IfSome result (λ at. slice_get self.now at ≡ Some hand_up.now) }
         ensures latest { IfNone result ((at : ℕ) → ¬ IsLatestUp self.now hand_up.now at) }
@@ -171,7 +171,7 @@ impl Ups {
         None
     }
 
-    /// Keeps one more hand-up, and gives its place. Where there is no memory, or no place of 32 bits left, all stays.
+    /// Keeps one more hand-up and returns its index. If memory runs out or the index does not fit 32 bits, nothing changes.
     pub(crate) fn keep(&mut self, hand_up: HandUp) -> Result<u32, Memory>
         ensures kept { OnOk result (self.new ≡ self.old ++ hand_up ∷ []) }
         ensures place { IfOk result (λ at. at ≡ length self.old) }

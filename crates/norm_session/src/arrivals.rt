@@ -1,16 +1,16 @@
-//! How a session's commands come to it.
+//! How commands reach a session. [`Run::pull`](crate::Run::pull) reads them, and `producing` hands over what comes out of its ring.
 
-/// What a producer hands over: the place of a line in the script.
+/// A line that a producer handed over, by its index in the script.
 #[derive(Clone, Copy, Debug)]
 pub struct Arrived {
-    /// Whose it is, counted from 1.
+    /// The line's producer, counted from 1.
     pub producer: u32,
     pub place: u32,
 }
 
-/// Where the commands of a session come from: its producers hand them over. A session takes a line only where it is the next one of the
-/// producer that handed it over, and passes over any other.
+/// The source of a session's commands. A session takes a line only if it is the next one of the producer that handed it over. It passes
+/// over any other.
 pub trait Arrivals {
-    /// The next that was handed over, or `None` where there is none now.
+    /// Returns the next line that was handed over, or `None` if there is none now.
     fn arrive(&mut self) -> Option<Arrived>;
 }

@@ -1,14 +1,14 @@
-//! Work that is done beside threads.
+//! Work that is done while the producers' threads run. Only `producing` uses it.
 
 ghost use Rattle.std.specs.Prelude.{◌≡◌};
 
 /// Work that is done once.
 // Proof: what is lent for the work stands behind a type parameter. A scope whose closures hold the loans themselves is dear to prove.
 pub(crate) trait Work {
-    /// What the work gives.
+    /// What the work returns.
     type Given;
 
-    /// The work can be done.
+    /// Whether the work can be done.
     ghost can_run: { Self → Type 0 };
 
     /// What the work did.
@@ -20,7 +20,7 @@ pub(crate) trait Work {
         ensures { run_gives self result };
 }
 
-/// A closure that is lent. It gives the loan back with its answer.
+/// A borrowed closure as [`Work`]. It returns the loan together with the closure's result.
 #[derive(Drop)]
 pub(crate) struct Lent<'a, F> {
     pub(crate) f: &'a mut F,
@@ -40,7 +40,7 @@ impl<'a, F: FnMut() -> A, A> Work for Lent<'a, F> {
     }
 }
 
-/// Does nothing. What a call hands back of what it was lent is the caller's again by this use of it.
+/// Does nothing. This use ends a loan: what `lent` borrows is the caller's again.
 pub(crate) fn take_back<T>(lent: &mut T)
     ensures { lent.new ≡ lent.old }
 {}

@@ -1,4 +1,5 @@
-//! Commands of a turn: a pull gives the next one, and it is offered to the sender, again in each turn while it has to wait.
+//! The command of a turn: [`Run::pull`] takes the next line from the producers, and [`Run::command`] offers it to the sender. If the sender
+//! has no room for it, the command waits and is offered again in each turn.
 
 ghost use Rattle.std.specs.Prelude.{◌≡◌, ◌≢◌, ◌<◌, true, false, None, Some, Err, Option, length, IfOk, IfErr, IfNone, IfSome, OnOk};
 ghost use Rattle.norm_base.specs.Network.{Network};
@@ -34,10 +35,10 @@ use norm_world::World;
 use std::sync::Wait;
 use std::thread;
 
-/// What the sender gives to a command.
+/// What the sender answers to a command.
 pub(crate) type Gives = Result<Receipt, SendFault>;
 
-/// The name of a line's command.
+/// The name of a line's command: its producer, and that producer's number of it.
 pub(crate) fn origin_of(line: &Line) -> Origin
     ensures { result ≡ origin_of line.now }
 {
@@ -47,7 +48,7 @@ pub(crate) fn origin_of(line: &Line) -> Origin
     }
 }
 
-/// The job of a data object.
+/// The job of a data object. It copies the octets.
 fn data_of(info: &Option<Octets>, bytes: &Octets) -> Result<Job, Memory>
     ensures { IfOk result (λ job. job ≡ Job.Data info.now bytes.now) }
 {
@@ -64,7 +65,7 @@ fn data_of(info: &Option<Octets>, bytes: &Octets) -> Result<Job, Memory>
     }
 }
 
-/// The job of a write.
+/// The job of a write. It copies the octets.
 fn write_of(bytes: &Octets) -> Result<Job, Memory>
     ensures { IfOk result (λ job. job ≡ Job.Write bytes.now) }
 {
@@ -72,11 +73,11 @@ fn write_of(bytes: &Octets) -> Result<Job, Memory>
     Ok(Job::Write { bytes })
 }
 
-/// The job of a command that has its octets with it, in memory of its own. `None` exactly where it is of a file.
+/// Returns the job of a command, with a copy of its octets, or `None` if the command names a file.
 ///
 /// # Errors
 ///
-/// `Memory` where memory runs out.
+/// `Memory` if memory runs out.
 // A copy for each offer, since the sender keeps what it accepts and the script's line is printed afterwards.
 fn job_of(verb: &Verb) -> Result<Option<Job>, Memory>
     ensures job { IfOk result (λ job. job ≡ job_of verb.now) }
@@ -101,7 +102,7 @@ fn job_of(verb: &Verb) -> Result<Option<Job>, Memory>
     }
 }
 
-/// A job as it is noted, in memory of its own, where it is.
+/// Returns a copy of the job for the journal if `tells` is true.
 fn told_of(tells: bool, job: &Job) -> Result<Option<Job>, Memory>
     ensures { IfOk result (λ told. told ≡ told_at tells job.now) }
 {
@@ -112,7 +113,7 @@ fn told_of(tells: bool, job: &Job) -> Result<Option<Job>, Memory>
     Ok(Some(copy))
 }
 
-/// An answer of the sender, without what a refusal gives back.
+/// Returns the sender's answer without the job that a refusal gives back.
 fn without_job(answer: Result<Receipt, (Option<Job>, SendFault)>) -> Gives
     ensures { result ≡ answer_of answer }
 {
@@ -122,7 +123,7 @@ fn without_job(answer: Result<Receipt, (Option<Job>, SendFault)>) -> Gives
     }
 }
 
-/// Whether memory was wanted for a command.
+/// Whether the sender refused a command because memory ran out.
 fn lacks_memory(gave: &Gives) -> bool
     ensures { result ≡ false → gave.now ≢ Err SendFault.Memory }
 {
@@ -138,7 +139,7 @@ fn lacks_memory(gave: &Gives) -> bool
     }
 }
 
-/// What the sender gives to a command.
+/// Offers a job to the sender, and returns its answer. If the sender ran out of memory, that is the error `Memory`.
 fn offer_job(world: &mut World, by: Origin, job: Job, now: Moment) -> Result<Gives, Memory>
     requires ready { IsReady world.old }
     ensures profile { world.new.p ≡ world.old.p }
@@ -153,11 +154,11 @@ fn offer_job(world: &mut World, by: Origin, job: Job, now: Moment) -> Result<Giv
     Ok(gave)
 }
 
-/// What a command gave is counted.
+/// Counts the sender's answer to a command.
 ///
 /// # Errors
 ///
-/// `Memory` where a count does not fit, and then nothing is counted.
+/// `Memory` if a count does not fit 64 bits. Then nothing is counted.
 fn count(totals: &mut Totals, gave: &Gives) -> Result<(), Memory>
     ensures { OnOk result (totals.new ≡ with_gave gave.now totals.old) }
 {
@@ -169,7 +170,7 @@ fn count(totals: &mut Totals, gave: &Gives) -> Result<(), Memory>
     Ok(())
 }
 
-/// The place of the line whose command waits after this answer.
+/// Returns the index of the line if its command waits after this answer.
 pub(crate) fn waits_at(place: usize, gave: &Gives) -> Option<usize>
     ensures { result ≡ waits_at place gave.now }
 {
@@ -179,7 +180,7 @@ pub(crate) fn waits_at(place: usize, gave: &Gives) -> Option<usize>
     }
 }
 
-/// The place of the line that waits, where the script has that place.
+/// Returns the index of the waiting line if the script has such a line.
 fn within_lines(waiting: Option<usize>, lines: usize) -> Option<usize>
     ensures same { result ≡ within_lines waiting lines }
     ensures within { IfSome result (λ place. place < lines) }
@@ -191,7 +192,8 @@ fn within_lines(waiting: Option<usize>, lines: usize) -> Option<usize>
 }
 
 impl Run {
-    /// Pulls a line that was handed over, where it is the next one of its producer; any other is passed over. Answers its place.
+    /// Pulls a line that was handed over, if it is the next one of its producer, and returns its index. Otherwise passes over it and returns
+    /// `None`.
     fn pull_one(&mut self, script: &Script, arrived: Arrived) -> Result<Option<usize>, SessionFault>
         ensures place { IfOk result (λ pulled. IfSome pulled (λ place. place < length script.now.lines)) }
         ensures goes { IfOk result (λ pulled. IfSome pulled (λ place. (x : Context) (network : Network) (written : Pieces) → x.script ≡ script.now
@@ -213,11 +215,12 @@ impl Run {
         Ok(Some(place))
     }
 
-    /// A line is pulled, as producers hand them over: the next one of its producer. Answers its place in the script.
+    /// Pulls the next line and returns its index in the script. If no producer has handed over its next line yet, it yields the processor and
+    /// tries again. It does not return if no such line ever comes.
     ///
     /// # Errors
     ///
-    /// `Memory` where memory runs out.
+    /// `Memory` if memory runs out.
     pub fn pull<R: Wait, A: Arrivals>(
         &mut self,
         rt: &R,
@@ -245,8 +248,8 @@ impl Run {
         unreachable!()
     }
 
-    /// What the sender gave to a command is counted and noted, with the job that is told where a journal is kept, and its line is written.
-    /// The command waits where there was only no room for it.
+    /// Counts and notes what the sender gave to a command, and writes its line. `job` is for the journal, if one is kept. The command waits if
+    /// the sender only had no room for it.
     pub(crate) fn note_job<K: Sink>(
         &mut self,
         line: &Line,
@@ -273,7 +276,7 @@ impl Run {
         write_line(has, &self.line, output)
     }
 
-    /// The command of a line, which has its octets with it, is offered to the sender.
+    /// Offers a command that has its octets with it to the sender as this job, and notes the answer.
     fn give_job<K: Sink>(
         &mut self,
         line: &Line,
@@ -295,7 +298,7 @@ impl Run {
         self.note_job(line, place, instance, told, gave, output)
     }
 
-    /// The command of the line at a place is offered, for the first time or again.
+    /// Offers the command of the line with this index, for the first time or again.
     fn offer_command<K: Sink, D: Files>(
         &mut self,
         script: &Script,
@@ -323,7 +326,7 @@ impl Run {
         }
     }
 
-    /// The next command, where none waits: it is pulled and offered, if there is one.
+    /// Pulls and offers the next command if one is left. Call it only if none waits.
     fn next_command<R: Wait, A: Arrivals, K: Sink, D: Files>(
         &mut self,
         rt: &R,
@@ -348,12 +351,12 @@ impl Run {
         self.offer_command(script, place, true, files, output)
     }
 
-    /// The command of a turn: one that waits is offered again, or else the next one is pulled and offered, if there is one.
+    /// Does the command of a turn. If a command waits, it is offered again. Otherwise the next one is pulled and offered, if one is left.
     ///
     /// # Errors
     ///
-    /// `Write` where the write of its line failed, `Files` where a call of the files did, `Absent` where its file is not there, or
-    /// `Memory`.
+    /// `Write` if the write of the command's line failed, `Files` if a call of the files failed, `Absent` if the command's file is not there, or
+    /// `Memory` if memory runs out or a count does not fit 64 bits.
     pub fn command<R: Wait, A: Arrivals, K: Sink, D: Files>(
         &mut self,
         rt: &R,

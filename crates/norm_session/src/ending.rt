@@ -1,4 +1,4 @@
-//! The end of a run.
+//! The summary of a run, after its last turn.
 
 ghost use Rattle.std.specs.Prelude.{◌≡◌, true, IfErr, OnOk};
 ghost use Rattle.norm_base.specs.Network.{Network};
@@ -14,11 +14,11 @@ use norm_base::Sink;
 use norm_turns::{SessionFault, write_end};
 
 impl Run {
-    /// The summary is made where the last turn was done, and its line is written.
+    /// Writes the summary, which is the last line of a run. Call it after the last turn ([`is_done`](Run::is_done)).
     ///
     /// # Errors
     ///
-    /// `Write` where the write failed, or `Memory`.
+    /// `Write` if the write failed, or `Memory`.
     pub fn summarize<K: Sink>(&mut self, output: &mut K) -> Result<(), SessionFault>
         ensures goes { OnOk result ((x : Context) (network : Network) (here : At x self.old Between network (K.pieces output.old))
             → is_done (judged_of x self.old here.world Between) ≡ true → At x self.new Over network (K.pieces output.new)) }

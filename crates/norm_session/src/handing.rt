@@ -1,4 +1,4 @@
-//! Hand-ups of a receiver, and its tick.
+//! A receiver's hand-ups, and its tick. [`Run::serve`] does both for each receiver in each turn.
 
 ghost use Rattle.std.specs.Prelude.{◌≡◌, ℕ, List, true, false, IfOk, IfErr, OnOk};
 ghost use Rattle.norm_base.specs.Members.{is_receiver};
@@ -22,7 +22,7 @@ use norm_journal::{Totals, up_line};
 use norm_order::Up;
 use norm_turns::{SessionFault, write_line};
 
-/// A hand-up is counted, and noted.
+/// Counts a hand-up and adds it to the journal. `Memory` also if a count does not fit 64 bits.
 fn note_up(
     totals: &mut Totals,
     journal: &mut KeptJournal,
@@ -44,11 +44,11 @@ fn note_up(
 }
 
 impl Run {
-    /// The next hand-up of a receiver is taken, and its line is written. False where all were taken, and then nothing changed.
+    /// Takes a receiver's next hand-up and writes its line. Returns false if none is left. Then nothing changed.
     ///
     /// # Errors
     ///
-    /// `Write` where the write failed, or `Memory`, also where a count has no room.
+    /// `Write` if the write failed, or `Memory` if memory runs out or a count does not fit 64 bits.
     pub fn hand_up<K: Sink>(&mut self, output: &mut K, node: NodeId) -> Result<bool, SessionFault>
         requires { is_receiver self.old.world.p node ≡ true }
         ensures goes { IfOk result (λ more. (x : Context) (nodes : List ℕ) (network : Network)
@@ -73,11 +73,11 @@ impl Run {
         Ok(true)
     }
 
-    /// All that a receiver handed up is taken, each with its line.
+    /// Takes all hand-ups of a receiver and writes a line for each.
     ///
     /// # Errors
     ///
-    /// As of [`hand_up`](Run::hand_up).
+    /// As for [`hand_up`](Run::hand_up).
     pub fn hand_all<K: Sink>(&mut self, output: &mut K, node: NodeId) -> Result<(), SessionFault>
         requires { is_receiver self.old.world.p node ≡ true }
         ensures goes { OnOk result ((x : Context) (nodes : List ℕ) (network : Network)
@@ -98,11 +98,12 @@ impl Run {
         Ok(())
     }
 
-    /// A receiver ticks, all of whose hand-ups were taken. What it gave is to be offered then.
+    /// Ticks a receiver. Call it after [`hand_all`](Run::hand_all) took all its hand-ups. If it returns `Sent::Datagram`,
+    /// [`offer`](Run::offer) the datagram in `out` next.
     ///
     /// # Errors
     ///
-    /// `Memory` where memory runs out.
+    /// `Memory` if memory runs out.
     pub fn tick_receiver(&mut self, node: NodeId, out: &mut Datagram) -> Result<Sent, SessionFault>
         requires receiver { is_receiver self.old.world.p node ≡ true }
         requires taken { HasTakenAll self.old.world node }

@@ -1,8 +1,8 @@
-//! What is promised of a run's places. Each law is the contract of a function that does nothing.
+//! What is promised of the stages of a run's turn. Each law is the contract of a function that does nothing.
 
 ghost use Rattle.norm_session.specs.Laws.{IsAtOnePlace};
 
-/// A run that keeps its journal is at one place of its turn. So it comes to another place only if events join its journal, and by
+/// A run that keeps its journal is at one stage of its turn. So it comes to another stage only if events join its journal, and by
 /// `norm_journal::laws::calls_are_due` each event comes by the call of the outside that is due.
 #[tactic(auto, using(crate::proofs::LawLemmas::one_place))]
 pub fn one_place()

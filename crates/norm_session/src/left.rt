@@ -1,4 +1,4 @@
-//! What is left to pull of a script.
+//! The lines of a script that were not pulled yet. [`Run::pull`](crate::Run::pull) takes from them.
 
 ghost use Rattle.std.specs.Prelude.{◌≡◌, ◌==◌, ◌<◌, IfOk, IfSome, MatchBool, length};
 ghost use Rattle.norm_session.specs.Left.{IsFirstOf, IsTaken, is_of, lines_at};
@@ -8,7 +8,7 @@ use norm_script::Line;
 use std::alloc::Global;
 use std::marker::Model;
 
-/// The places of the lines that were not pulled yet, in the script's order.
+/// The indices of the lines that were not pulled yet, in the script's order.
 // Places and not a next number for each producer, so that the order of the script is the order of the list. A line is taken once; if it stayed
 // here, it would be pulled again.
 #[derive(Drop)]
@@ -24,7 +24,7 @@ impl Model for Left {
     ghost view = { λ left. left.places.items };
 }
 
-/// Whether a line of this producer is at a place.
+/// Whether this producer's line has this index in the script.
 fn is_of(lines: &[Line], producer: u32, place: usize) -> bool
     ensures { result ≡ is_of lines.now producer place }
 {
@@ -35,7 +35,7 @@ fn is_of(lines: &[Line], producer: u32, place: usize) -> bool
 }
 
 impl Left {
-    /// All lines of a script.
+    /// All lines of a script. `Memory` if memory runs out.
     pub(crate) fn all(alloc: Global, lines: &[Line]) -> Result<Left, Memory>
         ensures { IfOk result (λ left. lines_at lines.now left ≡ lines.now) }
     {
@@ -59,7 +59,7 @@ impl Left {
         true
     }
 
-    /// How many places stand before that of a producer's first line.
+    /// Returns how many indices stand before that of the producer's first line, or `None` if this producer has no line left.
     fn first_of(&self, lines: &[Line], producer: u32) -> Option<usize>
         ensures first { IfSome result (λ at. IsFirstOf lines.now self.now producer at) }
         ensures within { IfSome result (λ at. at < length self.now) }
@@ -72,7 +72,7 @@ impl Left {
         None
     }
 
-    /// Takes the line at a place away, where it is the next one of this producer.
+    /// Removes the line with this index if it is the next one of this producer. Returns whether it was.
     pub(crate) fn take(&mut self, lines: &[Line], producer: u32, place: usize) -> bool
         ensures { MatchBool result (IsTaken lines.now self.old self.new producer place) (self.new ≡ self.old) }
     {

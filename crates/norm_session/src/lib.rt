@@ -1,4 +1,6 @@
-//! The turns of a session over the nodes' world (RFC 5740 section 5), each event of which the judge of journals accepts.
+//! A session (RFC 5740 section 5): the nodes of a script's profile, turn by turn over a network. `norm_program` calls [`run_session`] for all
+//! members and [`run_send`] for a sender whose receivers are elsewhere. [`Run`] is the same step by step. The judge of journals
+//! (`norm_journal`) accepts each event of it.
 #![tactic(auto)]
 
 mod arrivals;

@@ -1,4 +1,4 @@
-//! What a run notes of what it does.
+//! What a run adds to its journal.
 
 ghost use Rattle.std.specs.Prelude.{◌≡◌, ◌&&◌, [], Option, is_some, OnOk};
 ghost use Rattle.norm_journal.specs.declared.event.Event.TheVariants as event;
@@ -11,8 +11,8 @@ use norm_send_rules::{Job, News, Receipt, SendFault};
 use std::alloc::Global;
 use std::marker::Model;
 
-/// The journal of a run, or none where its sender is alone: nobody reads that one's, and it would grow with each datagram. Each push adds
-/// its event where the journal is kept, and else does nothing, so that it wants no memory.
+/// The journal of a run, or `None` if its sender is alone: nobody reads that journal, and it would grow with each datagram. Each push adds
+/// its event if the journal is kept. Otherwise it does nothing and needs no memory.
 #[derive(Drop)]
 pub(crate) struct KeptJournal {
     kept: Option<Journal>,
@@ -28,7 +28,7 @@ impl Model for KeptJournal {
 }
 
 impl KeptJournal {
-    /// What a run begins with. It takes no memory.
+    /// An empty journal, or none if the sender is alone. It takes no memory.
     pub(crate) fn new(alloc: Global, alone: bool) -> KeptJournal
         ensures { result ≡ kept_of alone [] }
     {
@@ -47,21 +47,21 @@ impl KeptJournal {
         self.kept.is_some()
     }
 
-    /// Whether the job of an offer is noted: that of a first offer is, where a journal is kept.
+    /// Whether the job of an offer is noted, except for a file: only if a journal is kept, and only with the first offer of a command.
     pub(crate) fn tells(&self, first: bool) -> bool
         ensures { result ≡ (first && is_some self.entry.now) }
     {
         first && self.kept.is_some()
     }
 
-    /// The journal, where it was kept.
+    /// Returns the journal if it was kept.
     pub(crate) fn into_journal(self) -> Option<Journal>
         ensures { result ≡ self }
     {
         self.kept
     }
 
-    /// The network was started.
+    /// Notes that the network was started.
     pub(crate) fn push_start(&mut self) -> Result<(), Memory>
         ensures { OnOk result (self.new ≡ noted self.old event.Start) }
     {
@@ -71,7 +71,7 @@ impl KeptJournal {
         }
     }
 
-    /// A turn began, at its moment.
+    /// Notes that a turn began, at its moment.
     pub(crate) fn push_turn(&mut self, t: u32, now: Moment) -> Result<(), Memory>
         ensures { OnOk result (self.new ≡ noted self.old (event.Turn t now)) }
     {
@@ -81,7 +81,7 @@ impl KeptJournal {
         }
     }
 
-    /// A command was pulled from its producer.
+    /// Notes that a command was pulled from its producer.
     pub(crate) fn push_pull(&mut self, by: Origin) -> Result<(), Memory>
         ensures { OnOk result (self.new ≡ noted self.old (event.Pull by)) }
     {
@@ -91,8 +91,8 @@ impl KeptJournal {
         }
     }
 
-    /// A command was offered to the sender, with its job where this is the first offer, and what the sender gave. The job is wanted only
-    /// where the journal is kept.
+    /// Notes an offer of a command and the sender's answer. `job` comes with the first offer, or, for a file, with the offer that accepts it. It
+    /// may be `None` if no journal is kept.
     pub(crate) fn push_job(
         &mut self,
         by: Origin,
@@ -107,7 +107,7 @@ impl KeptJournal {
         }
     }
 
-    /// A file of so many octets was offered to the sender, which refused it.
+    /// Notes that the sender refused a file by its name and its length in octets.
     pub(crate) fn push_length(
         &mut self,
         by: Origin,
@@ -123,7 +123,7 @@ impl KeptJournal {
         }
     }
 
-    /// A node ticked.
+    /// Notes a node's tick, and whether it gave a datagram.
     pub(crate) fn push_tick(&mut self, node: NodeId, sent: Sent) -> Result<(), Memory>
         ensures { OnOk result (self.new ≡ noted self.old (event.Tick node sent)) }
     {
@@ -133,7 +133,7 @@ impl KeptJournal {
         }
     }
 
-    /// A node's datagram was offered to the network.
+    /// Notes that a node's datagram was offered to the network.
     pub(crate) fn push_offer(&mut self, from: NodeId, octets: &[u8]) -> Result<(), Memory>
         ensures { OnOk result (self.new ≡ noted self.old (event.Offer from octets.now)) }
     {
@@ -143,7 +143,7 @@ impl KeptJournal {
         }
     }
 
-    /// A datagram was taken from the network.
+    /// Notes that a datagram was taken from the network.
     pub(crate) fn push_took(&mut self, to: NodeId, octets: &[u8]) -> Result<(), Memory>
         ensures { OnOk result (self.new ≡ noted self.old (event.Took to octets.now)) }
     {
@@ -153,7 +153,7 @@ impl KeptJournal {
         }
     }
 
-    /// The network had no datagram ready.
+    /// Notes a take that found no datagram ready.
     pub(crate) fn push_empty(&mut self) -> Result<(), Memory>
         ensures { OnOk result (self.new ≡ noted self.old event.Empty) }
     {
@@ -163,7 +163,7 @@ impl KeptJournal {
         }
     }
 
-    /// A receiver handed something up.
+    /// Notes that a receiver handed something up.
     pub(crate) fn push_up(
         &mut self,
         node: NodeId,
@@ -178,7 +178,7 @@ impl KeptJournal {
         }
     }
 
-    /// The sender told a change.
+    /// Notes a change that the sender reported.
     pub(crate) fn push_news(&mut self, news: News) -> Result<(), Memory>
         ensures { OnOk result (self.new ≡ noted self.old (event.News news)) }
     {
@@ -188,7 +188,7 @@ impl KeptJournal {
         }
     }
 
-    /// The run ended, and its summary was made.
+    /// Notes that the run ended with its summary.
     pub(crate) fn push_end(&mut self) -> Result<(), Memory>
         ensures { OnOk result (self.new ≡ noted self.old event.End) }
     {

@@ -1,4 +1,4 @@
-//! A run, taken apart.
+//! A run, taken apart: what it has made so far. [`run_session`](crate::run_session) returns its journal this way.
 
 ghost use Rattle.std.specs.Prelude.{◌≡◌};
 
@@ -12,7 +12,7 @@ use rand_pcg::Lcg64Xsh32;
 /// What a run has made so far.
 #[derive(Drop)]
 pub struct Parts {
-    /// Its journal; none if its sender is alone.
+    /// The run's journal, or `None` if its sender is alone.
     pub journal: Option<Journal>,
     pub draws: Lcg64Xsh32,
     pub totals: Totals,
@@ -20,13 +20,13 @@ pub struct Parts {
     pub turn: u32,
     /// That turn's moment.
     pub now: Moment,
-    /// The place in the script of the line whose command waits.
+    /// The index in the script of the line whose command waits.
     pub waiting: Option<usize>,
     pub world: World,
 }
 
 impl Run {
-    /// Takes a run apart. The places of the lines that were not pulled go with it.
+    /// Takes a run apart. Which lines were not pulled yet is lost.
     pub fn into_parts(self) -> Parts
         ensures journal { result.journal ≡ self.journal }
         ensures draws { result.draws ≡ self.draws }

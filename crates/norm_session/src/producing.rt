@@ -1,4 +1,4 @@
-//! Producers in threads of their own: each submits the places of its lines to a ring, from which the one thread pulls that runs the session.
+//! Producers in threads of their own. Each submits the indices of its lines to a ring, and the thread that runs the session pulls from it.
 
 ghost use Rattle.std.specs.Prelude.{◌≡◌, ◌≤◌, All, IfErr, IfOk, length, max};
 ghost use Rattle.norm_turns.specs.Causes.{HasCause, counted};
@@ -18,11 +18,11 @@ use std::sync::Wait;
 use std::thread;
 use std::thread::Threads;
 
-/// A session has at most so many producers, each in a thread of its own.
+/// The most producers of a session. Each has a thread of its own.
 // The key `producers` goes up to 4. A script with a greater number is refused.
 const MOST_PRODUCERS: usize = 4;
 
-/// What comes out of the ring.
+/// The ring's end at which the session pulls.
 #[derive(Drop)]
 struct Pulled<'g, R: Wait> {
     rt: &'g R,
@@ -41,7 +41,7 @@ impl<R: Wait> Arrivals for Pulled<'_, R> {
     }
 }
 
-/// Submits a place, again as long as the ring is full.
+/// Submits a line's index. If the ring is full, it yields the processor and tries again.
 fn insist<R: Wait>(rt: &R, ring: &Gate, seat: &mut Seat, place: u32)
     requires { seat.old.gate ≡ ring.now.id }
     ensures { seat.new.gate ≡ seat.old.gate }
@@ -58,7 +58,7 @@ fn insist<R: Wait>(rt: &R, ring: &Gate, seat: &mut Seat, place: u32)
     }
 }
 
-/// A producer submits the places of its lines in their order, and passes the turnstile before each.
+/// Submits the indices of one producer's lines in their order, and passes the turnstile before each.
 fn produce<R: Wait, G: Turnstile>(
     rt: &R,
     lines: &[Line],
@@ -81,7 +81,7 @@ fn produce<R: Wait, G: Turnstile>(
     }
 }
 
-/// All producers, each in a thread of its own. Where a thread cannot be started for one, it submits in this one.
+/// Runs all producers, each in a thread of its own. If a thread cannot be started for one, that one submits in this thread.
 fn produce_all<R: Threads + Wait + Sync, G: Turnstile + Sync>(
     rt: &R,
     lines: &[Line],
@@ -100,8 +100,8 @@ fn produce_all<R: Threads + Wait + Sync, G: Turnstile + Sync>(
     );
 }
 
-/// Works while a thread of their own runs the producers. Where it cannot be started they run before the work, so that the work finds in the
-/// ring all that they submit, and waits for no line that nobody will submit.
+/// Works while a thread of their own runs the producers. If that thread cannot be started, the producers run before the work. So the work
+/// finds all that they submit in the ring, and does not wait for a line that nobody will submit.
 fn work_beside<R: Threads + Wait + Sync, G: Turnstile + Sync, W: Work<Given = A> + Drop, A>(
     rt: &R,
     lines: &[Line],
@@ -138,7 +138,7 @@ fn work_beside<R: Threads + Wait + Sync, G: Turnstile + Sync, W: Work<Given = A>
     )
 }
 
-/// Calls a closure while a thread of their own runs the producers, or after they ran.
+/// Calls a closure while a thread of their own runs the producers, or after they ran if that thread cannot be started.
 fn beside_producers<R: Threads + Wait + Sync, G: Turnstile + Sync, F: FnMut() -> A, A>(
     rt: &R,
     lines: &[Line],
@@ -157,7 +157,7 @@ fn beside_producers<R: Threads + Wait + Sync, G: Turnstile + Sync, F: FnMut() ->
     made
 }
 
-/// The ring has a place for each line, so that producers can end before anything is pulled.
+/// A ring with a slot for each line, so that producers can end before anything is pulled, with a seat for each producer.
 fn ring_for(alloc: Global, script: &Script) -> Result<(Gate, Vec<Seat>, PullSeat), Memory>
     requires { CanRun script.now }
     ensures seats { IfOk result (λ made. All (λ s. s.gate ≡ made.0.id) made.1.items) }
@@ -169,7 +169,7 @@ fn ring_for(alloc: Global, script: &Script) -> Result<(Gate, Vec<Seat>, PullSeat
     Gate::new(alloc, u32::from(script.profile.producers), places)
 }
 
-/// A script's run over what comes out of the ring.
+/// Runs a script over what comes out of the ring.
 fn run_pulled<R: Wait, K: Sink, F: Fabric, D: Files, C: Clock>(
     rt: &R,
     alloc: Global,
@@ -208,7 +208,7 @@ fn run_pulled<R: Wait, K: Sink, F: Fabric, D: Files, C: Clock>(
     )
 }
 
-/// A script's run, with its sender alone or with all members: its producers submit in threads of their own what one loop pulls.
+/// Runs a script, with its sender alone or with all members. Its producers submit in threads of their own, and one loop pulls.
 pub(crate) fn run_produced<
     R: Threads + Wait + Sync,
     K: Sink,

@@ -1,4 +1,4 @@
-//! Files that commands name: their lengths, and their octets in pieces.
+//! Files that commands name. A run asks a file's length, offers the file to the sender, and reads its octets in pieces if it is accepted.
 
 ghost use Rattle.std.specs.Prelude.{◌≡◌, ◌<◌, ◌++◌, [], ℕ, List, Bool, Err, length, string_bytes, IfOk, IfErr, OnOk};
 ghost use Rattle.std.specs.Option.{option_map};
@@ -30,16 +30,16 @@ use norm_world::World;
 use std::alloc::Global;
 use std::marker::Model;
 
-/// What the sender gives to a file.
+/// What the sender answers to a file.
 #[derive(Drop)]
 pub(crate) enum FileGave {
-    /// It was accepted; with its job and the octets that were read, where these are kept.
+    /// It was accepted. If a journal is kept, `job` has the octets that were read.
     Accepted { job: Option<Job>, receipt: Receipt },
-    /// It was refused by its name and its length.
+    /// It was refused by its name and its length, before any octet was read.
     Refused { name: Octets, fault: SendFault },
 }
 
-/// The octets of a file that were read so far, where they are kept for its job; else the sender alone has them.
+/// The octets of a file that were read so far, if they are kept for its job. Otherwise only the sender has them.
 #[derive(Drop)]
 struct Copied {
     octets: Option<Vec<u8>>,
@@ -55,7 +55,7 @@ impl Model for Copied {
 }
 
 impl Copied {
-    /// None yet, with room for so many where they are kept.
+    /// No octets yet, with room for `len` octets if they are kept.
     fn of(alloc: Global, keeps: bool, len: u64) -> Result<Copied, Memory>
         ensures { IfOk result (λ copied. copied ≡ octets_at keeps []) }
     {
@@ -70,7 +70,7 @@ impl Copied {
         })
     }
 
-    /// The next ones were read.
+    /// Adds the octets that were read next.
     fn add(&mut self, piece: &[u8]) -> Result<(), Memory>
         ensures { OnOk result (self.new ≡ option_map (λ (octets : List ℕ). octets ++ piece.now) self.old) }
     {
@@ -83,7 +83,7 @@ impl Copied {
         }
     }
 
-    /// All of them.
+    /// Returns all octets, or `None` if they are not kept.
     fn into_octets(self) -> Option<Octets>
         ensures { result ≡ self }
     {
@@ -94,7 +94,6 @@ impl Copied {
     }
 }
 
-/// A name as a string of its own.
 fn string_of(name: &Text) -> Result<String, Memory>
     ensures { IfOk result (λ string. string_bytes string ≡ name.now) }
 {
@@ -102,7 +101,7 @@ fn string_of(name: &Text) -> Result<String, Memory>
     Ok(copy.into_inner())
 }
 
-/// What a fault of the files is to a run.
+/// The fault of a run for a fault of the files. An absent file becomes `Memory` if its name cannot be copied.
 fn fault_of(alloc: Global, fault: FileFault, name: &str) -> SessionFault
     ensures { IsFaultOf fault name.now result }
 {
@@ -117,7 +116,7 @@ fn fault_of(alloc: Global, fault: FileFault, name: &str) -> SessionFault
     }
 }
 
-/// How many octets the file of a name has.
+/// Returns the length of a file in octets.
 // Asked each time a file is offered, also while its command waits: what is sent is the file as it is then, and a file that waits takes no memory
 // for its octets.
 fn length_of<D: Files>(alloc: Global, files: &mut D, name: &str) -> Result<u64, SessionFault>
@@ -137,8 +136,8 @@ fn hold_octets(bytes: &[u8])
     ensures { AreOctets bytes.now }
 {}
 
-/// Reads the next octets of the file that was begun, at most so many as the buffer has, and hands them to the world. Answers how many were
-/// read then.
+/// Reads the next octets of the file that was begun, at most as many as the buffer holds, and hands them to the world. Returns how many
+/// octets were read in all.
 fn read_piece<D: Files>(
     alloc: Global,
     world: &mut World,
@@ -175,8 +174,8 @@ fn read_piece<D: Files>(
     }
 }
 
-/// Reads the octets of the file that was begun, in pieces as long as the buffer, and hands them to the world. Answers them where they are
-/// kept.
+/// Reads all octets of the file that was begun, in pieces as long as the buffer, and hands them to the world. Returns the octets if they
+/// are kept.
 fn read_all<D: Files>(
     alloc: Global,
     world: &mut World,
@@ -206,7 +205,7 @@ fn read_all<D: Files>(
     Ok(copied.into_octets())
 }
 
-/// The job of a file, where its octets are kept.
+/// Returns the job of a file if its octets are kept.
 fn job_of_file(alloc: Global, name: &str, octets: Option<Octets>) -> Result<Option<Job>, Memory>
     ensures { IfOk result (λ job. job ≡ option_map (λ (bytes : List ℕ). Job.File name.now bytes) octets) }
 {
@@ -219,7 +218,7 @@ fn job_of_file(alloc: Global, name: &str, octets: Option<Octets>) -> Result<Opti
     }
 }
 
-/// Reads a file that was begun, in pieces of a symbol. Answers the job that is told of it, where that is kept.
+/// Reads a file that was begun, in pieces of one symbol. Returns the job for the journal if its octets are kept.
 fn read_job<D: Files>(
     alloc: Global,
     world: &mut World,
@@ -244,7 +243,7 @@ fn read_job<D: Files>(
     Ok(job)
 }
 
-/// Reads a file that was begun, and lets it join the order; where it is not read it is given up.
+/// Reads a file that was begun and adds it to the transport order. If reading fails, the file is given up.
 fn accept_file<D: Files>(
     alloc: Global,
     world: &mut World,
@@ -279,7 +278,7 @@ fn accept_file<D: Files>(
     }
 }
 
-/// What is answered of a file that is not begun, by what is given back.
+/// The answer for a file that was not begun. If the sender gave the name back, it refused the file. If it did not, memory ran out.
 fn refusal_of(back: Option<Octets>, fault: SendFault) -> Result<FileGave, SessionFault>
     ensures { result ≡ refusal_of back fault }
 {
@@ -290,8 +289,8 @@ fn refusal_of(back: Option<Octets>, fault: SendFault) -> Result<FileGave, Sessio
     }
 }
 
-/// Offers a file to the sender, and reads it where it is not refused by its name and its length. Its octets are kept for its job where that
-/// is to be noted.
+/// Offers a file to the sender, and reads it unless the sender refuses it by its name and its length. If `keeps` is true, the octets are
+/// kept for the job in the journal.
 fn offer_file<D: Files>(
     alloc: Global,
     world: &mut World,
@@ -320,7 +319,7 @@ fn offer_file<D: Files>(
     }
 }
 
-/// How many octets a symbol has.
+/// The length of a symbol in octets.
 fn symbol_len(profile: &Profile) -> u16
     ensures { 0 < result }
 {
@@ -328,8 +327,8 @@ fn symbol_len(profile: &Profile) -> u16
 }
 
 impl Run {
-    /// A file that the sender refused by its name and its length is noted, and its line is written. The command waits where there was
-    /// only no room for it.
+    /// Notes a file that the sender refused by its name and its length, and writes the refusal's line if it has one. The command waits if the
+    /// sender only had no room for the file.
     fn note_length<K: Sink>(
         &mut self,
         by: Origin,
@@ -352,7 +351,7 @@ impl Run {
         write_line(has, &self.line, output)
     }
 
-    /// The command of a file is offered: its length is asked, and its octets are read in pieces where it is accepted.
+    /// Offers the command of a file: asks its length, and reads its octets in pieces if the sender accepts it.
     pub(crate) fn give_file<K: Sink, D: Files>(
         &mut self,
         line: &Line,

@@ -1,4 +1,4 @@
-//! A run so far.
+//! The state of a run between its calls.
 
 ghost use Rattle.std.specs.Prelude.{◌≡◌};
 
@@ -12,18 +12,23 @@ use rand_pcg::Lcg64Xsh32;
 use std::alloc::Global;
 use std::marker::Model;
 
-/// A run of a script so far: its nodes, and its journal unless its sender is alone.
+/// A run of a script so far: its nodes, and its journal unless its sender is alone. The order of calls:
+/// 1. [`start`](Run::start), which starts the network.
+/// 2. [`turns`](Run::turns), which does all turns. It begins each with [`begin_turn`](Run::begin_turn) and [`command`](Run::command). Then come
+///    [`tick_sender`](Run::tick_sender) and the offer, [`take_all`](Run::take_all) and [`serve_all`](Run::serve_all). After the command, the
+///    sender's tick and each take, [`tell_all`](Run::tell_all) reports the sender's news.
+/// 3. [`summarize`](Run::summarize), which ends the run.
 // Proof: a function's clause is said of every context (Context), from one stage of a turn to another. So a run keeps nothing of what it was begun
 // over, and the clause of a turn is that of its functions, one after the other.
 #[derive(Drop)]
 pub struct Run {
     pub(crate) alloc: Global,
     pub(crate) profile: Profile,
-    /// Whether the sender is alone, and the receivers are elsewhere.
+    /// Whether the receivers are elsewhere.
     pub(crate) alone: bool,
     pub(crate) world: World,
     pub(crate) journal: KeptJournal,
-    /// The line that is printed, in memory that is kept from one to the next.
+    /// The line that is printed. Its memory is used again for the next one.
     // A run prints many short lines, and none of them then takes memory of its own.
     pub(crate) line: Line,
     pub(crate) totals: Totals,

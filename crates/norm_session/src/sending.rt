@@ -1,4 +1,4 @@
-//! Ticks, and offers of what they gave.
+//! The sender's tick, and offers of datagrams to the network.
 
 ghost use Rattle.std.specs.Prelude.{◌≡◌, ◌≤◌, ℕ, length, IfOk, IfErr, OnOk};
 ghost use Rattle.norm_base.specs.Network.{Network};
@@ -15,11 +15,12 @@ use norm_base::{Datagram, Fabric, NodeId, Sent};
 use norm_turns::SessionFault;
 
 impl Run {
-    /// The sender ticks. What it gave is to be offered then.
+    /// Ticks the sender. Report its news next ([`tell_all`](Run::tell_all)). If this returns `Sent::Datagram`, [`offer`](Run::offer) the
+    /// datagram in `out` after that.
     ///
     /// # Errors
     ///
-    /// `Memory` where memory runs out.
+    /// `Memory` if memory runs out.
     pub fn tick_sender(&mut self, out: &mut Datagram) -> Result<Sent, SessionFault>
         ensures goes { IfOk result (λ said. (x : Context) (network : Network) (written : Pieces) → At x self.old Sending network written
             → IsTelling x self.new (after_sent self.old.p.sender said out.new (Taking 0)) network written) }
@@ -33,11 +34,11 @@ impl Run {
         Ok(sent)
     }
 
-    /// A node's datagram is offered to the network.
+    /// Offers a node's datagram to the network.
     ///
     /// # Errors
     ///
-    /// `Fabric` where the network failed, or `Memory`.
+    /// `Fabric` if the network failed, or `Memory`.
     pub fn offer<F: Fabric>(
         &mut self,
         fabric: &mut F,
@@ -56,11 +57,11 @@ impl Run {
         Ok(())
     }
 
-    /// What a tick gave is offered, if it gave something.
+    /// Offers the datagram of a tick, if the tick gave one.
     ///
     /// # Errors
     ///
-    /// `Fabric` where the network failed, or `Memory`.
+    /// `Fabric` if the network failed, or `Memory`.
     pub(crate) fn offer_sent<F: Fabric>(
         &mut self,
         fabric: &mut F,

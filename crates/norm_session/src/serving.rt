@@ -13,12 +13,11 @@ use norm_base::{Datagram, Fabric, NodeId, Sent, Sink};
 use norm_turns::SessionFault;
 
 impl Run {
-    /// A receiver's part of a turn: all that it handed up is taken, it ticks, and what it gave is offered. A node that is no receiver
-    /// has none.
+    /// Does a receiver's part of a turn: takes all its hand-ups, ticks it, and offers its datagram. Does nothing if the node is not a receiver.
     ///
     /// # Errors
     ///
-    /// `Write` or `Fabric` where a call failed, or `Memory`.
+    /// `Write` or `Fabric` if a call failed, or `Memory`.
     pub fn serve<F: Fabric, K: Sink>(
         &mut self,
         fabric: &mut F,
@@ -45,11 +44,11 @@ impl Run {
         }
     }
 
-    /// The parts of a turn of all receivers, in order of their ids. There are none where the sender is alone.
+    /// Does the parts of all receivers, in the order of their ids. Does nothing if the sender is alone.
     ///
     /// # Errors
     ///
-    /// As of [`serve`](Run::serve).
+    /// As for [`serve`](Run::serve).
     pub fn serve_all<F: Fabric, K: Sink>(
         &mut self,
         fabric: &mut F,

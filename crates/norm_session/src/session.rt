@@ -1,4 +1,4 @@
-//! A whole session (RFC 5740 section 5).
+//! A whole session (RFC 5740 section 5): [`run_session`] for all members, [`run_send`] for the sender alone. `norm_program` calls both.
 
 ghost use Rattle.std.specs.Prelude.{◌≡◌, List, Ok, Err, IfOk, IfErr};
 ghost use Rattle.norm_journal.specs.declared.event.Event.{Event};
@@ -23,27 +23,28 @@ use std::alloc::Global;
 use std::sync::Wait;
 use std::thread::Threads;
 
-/// How a session ended: its journal, and whether all was done. If not, the turns were spent.
+/// How a session ended. `whole` is false if the profile's turns were spent before everything was done.
 #[derive(Drop)]
 pub struct Ended {
     pub journal: Journal,
     pub whole: bool,
 }
 
-/// How a run of a script ended: its journal where that was kept, and whether all was done.
+/// How a run of a script ended: its journal if it was kept, and whether everything was done.
 #[derive(Drop)]
 pub(crate) struct Made {
     pub(crate) journal: Option<Journal>,
     pub(crate) whole: bool,
 }
 
-/// Runs a script's session: turn by turn, until all its commands were pulled and none waits, no watermark is open and the sender is
-/// idle, or until the profile's turns are spent. Each line is one write of the output, the summary is the last.
+/// Runs a script's session, turn by turn. It ends when all commands were pulled, none waits, no watermark is open and the sender is idle, or
+/// when the profile's turns are spent. It does at least one turn. Each line is one write of the output, and the summary is the last line.
+/// The producers run in threads of their own. If none can be started, they submit all their lines before the first turn.
 ///
 /// # Errors
 ///
-/// `Write`, `Fabric` or `Files` where a call of the output, the network or the files failed; `Absent` where a command's file is not
-/// there; or `Memory`, which also ends a run whose board has no place left for an outcome.
+/// `Write`, `Fabric` or `Files` if a call of the output, the network or the files failed; `Absent` if a command's file is not there; or
+/// `Memory`, also if the board has no room for an outcome or a count does not fit 64 bits.
 // Proof: a prefix of a lawful run is lawful, so takes and files of a prefix are not looked at again (safe_throughout).
 pub fn run_session<
     R: Threads + Wait + Sync,
@@ -85,15 +86,15 @@ pub fn run_session<
     }
 }
 
-/// Runs the sender of a script's session alone, its receivers elsewhere: the network is started for its node. Turn by turn it offers what
-/// the sender sends and takes what comes to it, up to the same end as [`run_session`]. A datagram that comes to any other node is passed
-/// over, and the summary counts no hand-up. Each line is one write of the output, the summary is the last. No journal is kept, so that its
-/// memory does not grow with what it offers and takes. Answers whether all was done; if not, the turns were spent.
+/// Runs only the sender of a script's session, whose receivers are elsewhere. The network is started for the sender's node. In each turn, it
+/// offers what the sender sends and takes what comes to the sender, and it ends as [`run_session`] does. A datagram for any other node is
+/// passed over, and the summary counts no hand-up. Each line is one write of the output, and the summary is the last line. No journal is
+/// kept, so memory does not grow with what is offered and taken. Returns whether everything was done. If not, the turns were spent.
 ///
 /// # Errors
 ///
-/// `Write`, `Fabric` or `Files` where a call of the output, the network or the files failed; `Absent` where a command's file is not
-/// there; or `Memory`, which also ends a run whose board has no place left for an outcome.
+/// `Write`, `Fabric` or `Files` if a call of the output, the network or the files failed; `Absent` if a command's file is not there; or
+/// `Memory`, also if the board has no room for an outcome or a count does not fit 64 bits.
 // No journal is kept, since nobody would read it and it would grow with each datagram. The clause says that there is one.
 pub fn run_send<
     R: Threads + Wait + Sync,
@@ -130,7 +131,7 @@ pub fn run_send<
     }
 }
 
-/// A script's run up to the end of its last turn, with its sender alone or with all members, over what its producers hand over.
+/// Runs a script to the end of its last turn, with its sender alone or with all members, over what its producers hand over.
 fn run_turns<R: Wait, A: Arrivals, K: Sink, F: Fabric, D: Files, C: Clock>(
     rt: &R,
     alloc: Global,
@@ -169,7 +170,7 @@ fn run_turns<R: Wait, A: Arrivals, K: Sink, F: Fabric, D: Files, C: Clock>(
     turned.and(Ok(run))
 }
 
-/// A script's run, with its sender alone or with all members, over what its producers hand over: its turns, and the summary.
+/// Runs a script, with its sender alone or with all members, over what its producers hand over: its turns, and then the summary.
 pub(crate) fn run_script<R: Wait, A: Arrivals, K: Sink, F: Fabric, D: Files, C: Clock>(
     rt: &R,
     alloc: Global,
@@ -214,14 +215,14 @@ fn made_of(
 }
 
 impl Run {
-    /// The journal of the run, where it was kept.
+    /// Returns the journal of the run if it was kept.
     fn into_journal(self) -> Option<Journal>
         ensures { result ≡ self.journal }
     {
         self.into_parts().journal
     }
 
-    /// The summary of a run whose last turn was done. Whether all was done.
+    /// Writes the summary after the last turn. Returns whether everything was done.
     fn finish<K: Sink>(&mut self, script: &Script, output: &mut K) -> Result<bool, SessionFault>
         ensures goes { IfOk result (λ whole. (x : Context) (network : Network) → AtLast x self.old network (K.pieces output.old) → x.script ≡ script.now
             → HasEnded x self.new whole network (K.pieces output.new)) }

@@ -1,4 +1,4 @@
-//! The beginning of a run.
+//! The beginning of a run: [`Run::start`].
 
 ghost use Rattle.std.specs.Prelude.{◌≡◌, ◌⊎◌, ◌∷◌, [], IfOk, IfErr, OnOk, OnErr};
 ghost use Rattle.norm_base.specs.Network.{Network, Starts};
@@ -21,7 +21,7 @@ use norm_turns::{SessionFault, first_draws};
 use norm_world::World;
 use std::alloc::Global;
 
-/// What the network is started for.
+/// Which nodes the network is started for.
 fn local_of(profile: &Profile, alone: bool) -> Local
     ensures { result ≡ local_of alone profile.now }
 {
@@ -32,7 +32,7 @@ fn local_of(profile: &Profile, alone: bool) -> Local
     }
 }
 
-/// What a run begins to keep: the network is started.
+/// The journal of a run at its beginning. It has the network's start already, which has to come next.
 fn begun_journal(alloc: Global, alone: bool) -> Result<KeptJournal, Memory>
     ensures { IfOk result (λ journal. journal ≡ kept_of alone (event.Start ∷ [])) }
 {
@@ -42,7 +42,7 @@ fn begun_journal(alloc: Global, alone: bool) -> Result<KeptJournal, Memory>
     Ok(journal)
 }
 
-/// The network is started with all members, or with the sender alone.
+/// Starts the network with all members, or with the sender alone.
 fn start_network<F: Fabric>(
     script: &Script,
     alone: bool,
@@ -58,7 +58,7 @@ fn start_network<F: Fabric>(
 }
 
 impl Run {
-    /// A run of the script as it begins, once the network is started.
+    /// A run at its beginning. Its journal has the network's start already, so start the network next.
     fn begun(alloc: Global, script: &Script, alone: bool) -> Result<Run, Memory>
         ensures { IfOk result (λ run. (x : Context) (network : Network) → IsBegun x script.now alone network → At x run Between network x.written) }
     {
@@ -86,11 +86,11 @@ impl Run {
         })
     }
 
-    /// The network is started with all members, or with the sender alone, and a run of the script begins.
+    /// Starts the network, with all members or with the sender alone, and begins a run of the script.
     ///
     /// # Errors
     ///
-    /// `Fabric` where the network failed, or `Memory`. Then nothing was done.
+    /// `Fabric` if the network failed, or `Memory`. Then nothing was done.
     pub fn start<F: Fabric>(
         alloc: Global,
         script: &Script,

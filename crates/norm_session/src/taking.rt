@@ -1,4 +1,4 @@
-//! Takes of datagrams from the network, and what comes of them.
+//! Takes datagrams from the network and delivers them. [`Run::take_all`] does this part of a turn.
 
 ghost use Rattle.std.specs.Prelude.{◌≡◌, ℕ, Some, None, IfOk, IfErr, OnOk};
 ghost use Rattle.norm_base.specs.Network.{Network};
@@ -16,8 +16,8 @@ use norm_turns::{MOST_TAKES, SessionFault, next_draw};
 use producer_gate::Board;
 
 impl Run {
-    /// A datagram comes to a node: to the sender, or to a receiver with the next draw. Any other node gets nothing, nor does a receiver
-    /// where the sender is alone.
+    /// Delivers a datagram to the sender, or to a receiver with the next draw. Does nothing if the node is not a member, or if it is a receiver
+    /// and the sender is alone.
     fn deliver(&mut self, to: NodeId, bytes: &[u8]) -> Result<(), SessionFault>
         ensures goes { OnOk result (Delivers self.old self.new to bytes.now) }
         ensures memory { IfErr result (λ fault. fault ≡ SessionFault.Memory) }
@@ -38,7 +38,7 @@ impl Run {
         Ok(())
     }
 
-    /// A datagram was taken, and is delivered.
+    /// Delivers and notes a datagram that was taken. Returns true.
     fn take_in(&mut self, to: NodeId, bytes: &[u8]) -> Result<bool, SessionFault>
         ensures goes { IfOk result (λ took. GoesOn self.old self.new (Some (to, bytes.now)) took) }
         ensures stops { IfErr result (λ fault. StopsAfter self.old (Some (to, bytes.now)) fault) }
@@ -49,7 +49,7 @@ impl Run {
         Ok(true)
     }
 
-    /// The network had no datagram ready.
+    /// Notes that the network had no datagram ready. Returns false.
     fn find_none(&mut self) -> Result<bool, SessionFault>
         ensures goes { IfOk result (λ took. GoesOn self.old self.new None took) }
         ensures stops { IfErr result (λ fault. StopsAfter self.old None fault) }
@@ -59,11 +59,11 @@ impl Run {
         Ok(false)
     }
 
-    /// Takes a datagram from the network, and delivers it. False where the network has none ready.
+    /// Takes a datagram from the network and delivers it. Returns false if the network has none ready.
     ///
     /// # Errors
     ///
-    /// `Fabric` where the network failed, or `Memory`.
+    /// `Fabric` if the network failed, or `Memory`.
     // Proof: each arm is a function with a clause for every network, so what is left of the call itself is short.
     pub fn take<F: Fabric>(
         &mut self,
@@ -82,12 +82,12 @@ impl Run {
         }
     }
 
-    /// Datagrams are taken and delivered until the network has none ready or a turn's many were taken. What the sender has to tell is told
-    /// after each.
+    /// Takes and delivers datagrams until the network has none ready, at most `MOST_TAKES` of them. After each it reports the sender's news
+    /// ([`tell_all`](Run::tell_all)).
     ///
     /// # Errors
     ///
-    /// `Write` or `Fabric` where a call failed, or `Memory`.
+    /// `Write` or `Fabric` if a call failed, or `Memory`.
     pub fn take_all<F: Fabric, K: Sink>(
         &mut self,
         fabric: &mut F,

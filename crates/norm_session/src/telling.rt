@@ -1,4 +1,5 @@
-//! What the sender has to tell: each change is noted as it is told, an outcome is published on the board, and then the line is written.
+//! The sender's news: a receiver is past a position, or a watermark ended. Each change is noted, an outcome is published on the board, and
+//! then its line is written.
 
 ghost use Rattle.std.specs.Prelude.{◌≡◌, ◌∷◌, [], ℕ, IfOk, IfErr, OnErr, OnOk};
 ghost use Rattle.norm_base.specs.Network.{Network};
@@ -20,7 +21,7 @@ use norm_send_rules::News;
 use norm_turns::{SessionFault, left_by, write_line};
 use producer_gate::Board;
 
-/// An outcome is published. Of any other change the board has nothing.
+/// Publishes the outcome of a watermark on the board. The board gets no other change. `Memory` also if it has no room.
 fn publish(board: &mut Board, news: &News) -> Result<(), Memory>
     ensures posted { OnOk result (board.new ≡ posting board.old (entries_in (event.News news.now ∷ []))) }
     ensures same { OnErr result (board.new ≡ board.old) }
@@ -35,7 +36,7 @@ fn publish(board: &mut Board, news: &News) -> Result<(), Memory>
 }
 
 impl Run {
-    /// A change is counted, and noted.
+    /// Counts a change and adds it to the journal. `Memory` also if a count does not fit 64 bits.
     fn note_news(&mut self, news: News) -> Result<(), SessionFault>
         ensures noted { OnOk result (self.new
             ≡ record self.old { journal = noted self.old.journal (event.News news); totals = with_news news self.old.totals }) }
@@ -50,12 +51,12 @@ impl Run {
         Ok(())
     }
 
-    /// The sender's next change is told, on the board too where it is an outcome, and its line is written. False where none is left, and then
-    /// nothing was done.
+    /// Reports the sender's next change: notes it, publishes it on the board if it is an outcome, and writes its line. Returns false if none is
+    /// left. Then nothing was done.
     ///
     /// # Errors
     ///
-    /// `Write` where the write failed, or `Memory`, also where a count or the board has no room.
+    /// `Write` if the write failed, or `Memory`, also if a count does not fit 64 bits or the board has no room.
     pub fn tell<K: Sink>(&mut self, board: &mut Board, output: &mut K) -> Result<bool, SessionFault>
         ensures goes { IfOk result (λ told. (x : Context) (place : Place) (network : Network) (many : ℕ)
             → IsTellingOf (with_posted x board.old) self.old place network (K.pieces output.old) many
@@ -79,11 +80,11 @@ impl Run {
         Ok(true)
     }
 
-    /// All changes are told that the sender has to tell, each with its line.
+    /// Reports all changes of the sender, each with its line. Call it after the command, after the sender's tick and after each take.
     ///
     /// # Errors
     ///
-    /// As of [`tell`](Run::tell).
+    /// As for [`tell`](Run::tell).
     pub fn tell_all<K: Sink>(
         &mut self,
         board: &mut Board,

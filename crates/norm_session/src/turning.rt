@@ -1,4 +1,4 @@
-//! Turns of a run, from its beginning to its end.
+//! The turns of a run. [`Run::turns`] does all of them, and a caller that drives a run itself asks [`Run::is_done`] after each turn.
 
 ghost use Rattle.std.specs.Prelude.{◌≡◌, ◌≤◌, ℕ, ◌==◌, ◌&&◌, ◌||◌, length, nat_le, is_none, slice_get, option_and_then, OnOk, IfErr};
 ghost use Rattle.norm_journal.specs.Judged.{is_done, is_whole};
@@ -22,7 +22,7 @@ use norm_turns::{SessionFault, moment_of};
 use producer_gate::Board;
 use std::sync::Wait;
 
-/// The profile's last turn.
+/// The number of the profile's last turn, counted from 1.
 fn last_turn(profile: &Profile) -> u32
     ensures value { result ≡ profile.now.turns }
     ensures least { 1 ≤ result }
@@ -30,14 +30,13 @@ fn last_turn(profile: &Profile) -> u32
     profile.turns
 }
 
-/// Whether all three hold.
 fn all_three(first: bool, second: bool, third: bool) -> bool
     ensures { result ≡ (first && (second && third)) }
 {
     first && second && third
 }
 
-/// Whether the first holds, and one of the others.
+/// Whether the first holds, and at least one of the others.
 fn with_either(first: bool, second: bool, third: bool) -> bool
     ensures { result ≡ (first && (second || third)) }
 {
@@ -45,14 +44,14 @@ fn with_either(first: bool, second: bool, third: bool) -> bool
 }
 
 impl Run {
-    /// Whether all of a script's commands were pulled.
+    /// Whether all commands of a script were pulled.
     pub(crate) fn has_pulled_all(&self, script: &Script) -> bool
         ensures { result ≡ (length (lines_at script.now.lines self.entry.now.left) == 0) }
     {
         self.left.is_empty(&script.lines)
     }
 
-    /// Whether none of a script's commands waits.
+    /// Whether no command of a script waits.
     fn has_none_waiting(&self, script: &Script) -> bool
         ensures { result ≡ is_none (option_and_then (slice_get script.now.lines) self.entry.now.waiting) }
     {
@@ -82,21 +81,21 @@ impl Run {
         all_three(pulled, none, idle)
     }
 
-    /// Whether the profile's last turn was done.
+    /// Whether the profile's last turn began.
     fn is_last(&self) -> bool
         ensures { result ≡ (self.entry.now.turn == self.entry.now.p.turns) }
     {
         self.turn == self.profile.turns
     }
 
-    /// Whether a turn was done.
+    /// Whether a turn began.
     fn has_turned(&self) -> bool
         ensures { result ≡ nat_le 1 self.entry.now.turn }
     {
         1 <= self.turn
     }
 
-    /// Whether the last turn was done: the first at which the run is whole, or the profile's last.
+    /// Whether the last turn was done. It is the first after which the run is whole, or the profile's last. Call it between turns.
     pub fn is_done(&self, script: &Script) -> bool
         ensures { (x : Context) (w : Rules) (place : Place) → HasAll x self.entry.now → x.script ≡ script.now → StandsFor self.entry.now.world w
             → result ≡ is_done (judged_of x self.entry.now w place) }
@@ -115,11 +114,12 @@ impl Run {
         self.profile.step
     }
 
-    /// The next turn begins, at its moment.
+    /// Begins the next turn. Its moment is its number times the profile's `step`. If `step` is 0, it is the clock's, which is asked once, or the
+    /// moment before if the clock went backwards.
     ///
     /// # Errors
     ///
-    /// `Memory` where memory runs out.
+    /// `Memory` if memory runs out.
     pub fn begin_turn<C: Clock>(&mut self, clock: &mut C) -> Result<(), SessionFault>
         ensures goes { OnOk result (BeginsTurn self.old self.new (C.moments clock.old) (C.moments clock.new)) }
         ensures stops { IfErr result (λ fault. StopsBeginning self.old fault (C.moments clock.old) (C.moments clock.new)) }
@@ -138,7 +138,7 @@ impl Run {
         Ok(())
     }
 
-    /// A turn begins with its command, and what that made to be told is told.
+    /// Begins a turn, does its command, and reports the sender's news.
     fn open_turn<R: Wait, A: Arrivals, K: Sink, D: Files, C: Clock>(
         &mut self,
         rt: &R,
@@ -163,7 +163,7 @@ impl Run {
         Ok(())
     }
 
-    /// The sender ticks, what it has to tell is told, and what it sent is offered.
+    /// Ticks the sender, reports its news, and offers what it sent.
     fn send<F: Fabric, K: Sink>(
         &mut self,
         fabric: &mut F,
@@ -186,7 +186,7 @@ impl Run {
         Ok(())
     }
 
-    /// What a turn does with the network: the sender's tick, the takes, and the receivers' parts.
+    /// Does what a turn does with the network: the sender's tick, the takes, and the receivers' parts.
     fn exchange<F: Fabric, K: Sink>(
         &mut self,
         fabric: &mut F,
@@ -208,7 +208,7 @@ impl Run {
         Ok(())
     }
 
-    /// One turn.
+    /// Does one turn: its command, and then what it does with the network.
     fn turn<R: Wait, A: Arrivals, K: Sink, F: Fabric, D: Files, C: Clock>(
         &mut self,
         rt: &R,
@@ -234,11 +234,11 @@ impl Run {
         Ok(())
     }
 
-    /// All turns: to the first at which the run is whole, or to the profile's last.
+    /// Does all turns, up to the first after which the run is whole, or the profile's last.
     ///
     /// # Errors
     ///
-    /// `Write`, `Fabric` or `Files` where a call failed, `Absent` where a command's file is not there, or `Memory`.
+    /// `Write`, `Fabric` or `Files` if a call failed, `Absent` if a command's file is not there, or `Memory`.
     // Proof: only the states know the end, so the loop has the profile's bound, and the judge's state says how many turns there were.
     pub fn turns<R: Wait, A: Arrivals, K: Sink, F: Fabric, D: Files, C: Clock>(
         &mut self,

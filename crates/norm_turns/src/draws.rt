@@ -1,4 +1,4 @@
-//! The draws of deliveries.
+//! The draws of deliveries, which decide how long receivers back off.
 
 ghost use Rattle.std.specs.Prelude.{◌≡◌};
 ghost use Rattle.norm_journal.specs.Draws.{first_draws, next_draw, draws_after};
@@ -8,7 +8,7 @@ use rand_core::SeedableRng;
 use rand_core::utils::NextWord;
 use rand_pcg::Lcg64Xsh32;
 
-/// The draws of a run as it begins: their seed is the one after the network's.
+/// The draws at the beginning of a run. Their seed is one more than the network's.
 #[tactic(auto, unfolding(norm_journal::specs::Draws::first_draws))]
 pub fn first_draws(profile: &Profile) -> Lcg64Xsh32
     ensures { result ≡ first_draws profile.now }
@@ -17,7 +17,7 @@ pub fn first_draws(profile: &Profile) -> Lcg64Xsh32
     Lcg64Xsh32::seed_from_u64(u64::from(profile.chance) + 1)
 }
 
-/// The next draw.
+/// Returns the next draw. A run uses one for each datagram that it delivers to a receiver.
 #[tactic(auto, unfolding(norm_journal::specs::Draws::next_draw, norm_journal::specs::Draws::draws_after))]
 pub fn next_draw(draws: &mut Lcg64Xsh32) -> u32
     ensures word { result ≡ next_draw draws.old }

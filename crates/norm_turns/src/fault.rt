@@ -7,18 +7,18 @@ ghost use Rattle.norm_turns.specs.declared.fault.SessionFault.TheVariants as fau
 use norm_base::{FabricFault, Failed, Memory, Text};
 use std::alloc::{AllocError, AllocFailed};
 
-/// Why a run stops before it is done.
+/// Why a run stops before it is done. `From` makes one of a failed write, a failed call of the network, and want of memory.
 #[derive(Debug, Drop)]
 pub enum SessionFault {
-    /// A write failed.
+    /// A write of the output failed.
     Write,
     /// A call of the network failed.
     Fabric,
     /// A call of the files failed.
     Files,
-    /// The file of this name is not there.
+    /// The file with this name is not there.
     Absent { name: Text },
-    /// There was no memory.
+    /// Memory ran out.
     Memory,
 }
 
@@ -46,7 +46,7 @@ impl From<Memory> for SessionFault {
     }
 }
 
-/// The output's write is the only call of a run that answers `Failed`.
+/// In a run, only the output's write answers `Failed`.
 impl From<Failed> for SessionFault {
     ghost from_gives = { λ e r. r ≡ fault.Write };
 

@@ -1,4 +1,4 @@
-//! Lines, each written in one piece.
+//! Writes lines, each in one piece.
 
 ghost use Rattle.std.specs.Prelude.{◌≡◌, ◌∷◌, [], Some, OnOk, IfErr};
 ghost use Rattle.std.specs.Option.{option_to_list};
@@ -13,11 +13,11 @@ use norm_journal::{Totals, end_line, up_line};
 use norm_order::Up;
 use norm_text::Line;
 
-/// The line of an event is written, in one piece, if it has one.
+/// Writes the line of an event in one piece. Does nothing if `has` is false: such an event has no line.
 ///
 /// # Errors
 ///
-/// `Write` where the write failed.
+/// `Write` if the write failed. Then a prefix of the line may have been written.
 pub fn write_line<K: Sink>(has: bool, line: &Line, output: &mut K) -> Result<(), SessionFault>
     ensures written { OnOk result (K.pieces output.new ≡ gained (K.pieces output.old) (option_to_list (line_if has line.now))) }
     ensures stops { IfErr result (λ fault. IsUnwritten fault (K.pieces output.old) (K.pieces output.new) (line_if has line.now)) }
@@ -31,11 +31,12 @@ pub fn write_line<K: Sink>(has: bool, line: &Line, output: &mut K) -> Result<(),
     Ok(())
 }
 
-/// Writes the line of a node's hand-up, in the instance that it is in, in one piece. It is made in `line`, whose memory is kept.
+/// Writes the line of a hand-up of a node that is in this instance, in one piece. The line is made in the memory of `line`.
 ///
 /// # Errors
 ///
-/// `Write` if the write failed, and then a front of the line may stand, or `Memory`. After `Memory` nothing was written.
+/// `Write` if the write failed, and then a prefix of the line may have been written. `Memory` if memory runs out, and then nothing was
+/// written.
 pub fn write_up<K: Sink>(
     line: &mut Line,
     node: NodeId,
@@ -51,11 +52,12 @@ pub fn write_up<K: Sink>(
     write_line(true, line, output)
 }
 
-/// Writes the summary's line of these counts, in one piece. It is made in `line`, whose memory is kept.
+/// Writes the summary's line of these counts in one piece. The line is made in the memory of `line`.
 ///
 /// # Errors
 ///
-/// `Write` if the write failed, and then a front of the line may stand, or `Memory`. After `Memory` nothing was written.
+/// `Write` if the write failed, and then a prefix of the line may have been written. `Memory` if memory runs out, and then nothing was
+/// written.
 pub fn write_end<K: Sink>(
     line: &mut Line,
     totals: &Totals,

@@ -1,4 +1,4 @@
-//! The line of a change that a sender tells.
+//! The line of a change that a sender reports.
 
 ghost use Rattle.std.specs.Prelude.{◌≡◌, IfOk, IfErr, OnOk};
 ghost use Rattle.std.specs.Option.{option_to_list};
@@ -19,11 +19,11 @@ use norm_sender::Sender;
 use norm_text::Line;
 use std::alloc::Global;
 
-/// A session has at most so many receivers.
+/// The most receivers of a session.
 // The key `receivers` goes up to 16. The loop ends earlier if fewer are left.
 const MOST_RECEIVERS: u32 = 16;
 
-/// The members that are not listed past a watermark, in order.
+/// The members that are not listed past a watermark, in order. `Memory` if memory runs out.
 fn left_past(alloc: Global, sender: &Sender, mark: u32) -> Result<Vec<NodeId>, Memory>
     ensures { IfOk result (λ left. (s : SenderState) → Stands sender.now s → left.items ≡ left_past s mark) }
 {
@@ -37,7 +37,7 @@ fn left_past(alloc: Global, sender: &Sender, mark: u32) -> Result<Vec<NodeId>, M
     Ok(left)
 }
 
-/// The members that a change speaks of as left, in order.
+/// Returns the members that are not listed past the watermark of this change, in order. If the change is a listing, there are none.
 ///
 /// # Errors
 ///
@@ -51,12 +51,13 @@ pub fn left_by(alloc: Global, sender: &Sender, news: &News) -> Result<Vec<NodeId
     }
 }
 
-/// Writes the line of a change that a sender told, in one piece, with the members that are left of a watermark by the sender's book. A
-/// watermark that is open has no line. It is made in `line`, whose memory is kept.
+/// Writes the line of a change that a sender reported, in one piece. The line of an expired watermark names the members that are not
+/// listed past it. A watermark that is open has no line. The line is made in the memory of `line`.
 ///
 /// # Errors
 ///
-/// `Write` if the write failed, and then a front of the line may stand, or `Memory`. After `Memory` nothing was written.
+/// `Write` if the write failed, and then a prefix of the line may have been written. `Memory` if memory runs out, and then nothing was
+/// written.
 pub fn write_news<K: Sink>(
     alloc: Global,
     line: &mut Line,

@@ -1,8 +1,9 @@
-//! The nodes of a session as one world (RFC 5740 section 5): a sender and its receivers, which stand for a list of events.
+//! The nodes of a session as one world (RFC 5740 section 5): [`World`] has a sender and its receivers. It stands for the list of its events.
+//! `norm_session` calls it.
 #![tactic(auto)]
 
 mod world;
 
 pub use crate::world::World;
-/// What is promised of lists of events: when they are lawful, and that lawful ones are safe.
+/// The laws of lists of events: when they are lawful, and that lawful ones are safe.
 pub use norm_safety::laws;

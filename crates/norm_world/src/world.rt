@@ -1,4 +1,4 @@
-//! The nodes of a session as one world.
+//! The nodes of a session as one world: [`World`].
 
 ghost use Rattle.std.specs.Prelude.{◌≡◌, ◌≢◌, ℕ, ◌+◌, ◌<◌, ◌++◌, true, List, [], Option, Some, IfOk, IfErr, OnErr, IfNone, IfSome, IsErr, IsSome, Err, length, slice_get};
 ghost use Rattle.norm_base.specs.Members.{is_receiver, is_node};
@@ -23,14 +23,15 @@ use std::marker::Model;
 
 /// A sender and the receivers of its profile, in the order of their ids.
 ///
-/// Each call is one event of the nodes' world: a command ([`job`](World::job)), a datagram that is delivered, a node's tick, an offer of what it gave, a hand-up that is
-/// taken, or news that are asked for. So a world stands for the list of the events so far, and what holds of each such list
-/// ([`laws`](crate::laws)) holds of what it did. It keeps no datagrams: that what is delivered was offered before is for
-/// whoever drives it.
+/// Each call is one event of the nodes' world: a command ([`job`](World::job)), a datagram that is delivered, a node's tick, an offer of
+/// what it gave, a hand-up that is taken, or news that are asked for. So a world stands for the list of the events so far, and what holds of
+/// each such list ([`laws`](crate::laws)) holds of what it did. It keeps no datagrams: its caller has to see that what is delivered was
+/// offered before.
 ///
-/// The command of a file may also come in pieces: [`begin_file`](World::begin_file), then [`file_piece`](World::file_piece) until all its
-/// octets are there, then [`end_file`](World::end_file), or at any time [`leave_file`](World::leave_file). From the first of them
-/// to the last no other call may come that moves the sender.
+/// The order of calls is free, except for two things. Before a receiver ticks ([`tick_receiver`](World::tick_receiver)), call
+/// [`take_up`](World::take_up) until it returns `None`. The command of a file may come in pieces: [`begin_file`](World::begin_file), then
+/// [`file_piece`](World::file_piece) until all octets are there, then [`end_file`](World::end_file), or at any time
+/// [`leave_file`](World::leave_file). From the first of them to the last, no other call that changes the sender may come.
 // The receivers lie in the order of their ids, one for each node of the profile. `place` goes by that; with a gap a datagram would go to another
 // node.
 #[derive(Debug, Drop)]
@@ -51,7 +52,7 @@ impl Model for World {
     ghost invariant = { λ w. length w.receivers.items ≡ w.profile.receivers };
 }
 
-/// The receivers of a profile as they begin, in the order of their ids.
+/// The receivers of a profile as they begin, in the order of their ids. `Memory` if memory runs out.
 fn receivers(alloc: Global, profile: &Profile) -> Result<Vec<Receiver>, Memory>
     ensures { IfOk result (λ receivers. AreBegun profile.now receivers.items profile.now.receivers) }
 {
@@ -63,7 +64,7 @@ fn receivers(alloc: Global, profile: &Profile) -> Result<Vec<Receiver>, Memory>
     Ok(receivers)
 }
 
-/// The place of a receiver among those of its profile.
+/// The index of a receiver among those of its profile.
 // Proof: the receiver at an index is that of its node, so laws by node need no list of states.
 fn place(profile: &Profile, node: NodeId) -> usize
     requires { is_receiver profile.now node ≡ true }
@@ -78,7 +79,7 @@ impl World {
     ///
     /// # Errors
     ///
-    /// `Memory` where memory runs out.
+    /// `Memory` if memory runs out.
     pub fn new(alloc: Global, profile: &Profile) -> Result<World, Memory>
         ensures profile { IfOk result (λ world. world.p ≡ profile.now) }
         ensures ready { IfOk result (λ world. IsReady world) }
@@ -133,12 +134,12 @@ impl World {
         self.receivers[place(&self.profile, node)].instance()
     }
 
-    /// A command of a producer.
+    /// Gives a producer's command to the sender.
     ///
     /// # Errors
     ///
-    /// The fault that the rules name, and with it the command, or `Memory` without it, which stands for every want of memory.
-    /// Then nothing changes.
+    /// The fault that the rules name, with the command, or `Memory` without it if memory runs out. After `Memory` nothing changed. After any
+    /// other fault nothing changed, except that a refused mark may have cut the open stream.
     pub fn job(
         &mut self,
         by: Origin,
@@ -155,12 +156,12 @@ impl World {
         self.sender.command(by, job, now)
     }
 
-    /// Begins a file of so many octets under a name. Only this call of a file takes memory.
+    /// Begins a file of `len` octets with this name. No other call for the file takes memory.
     ///
     /// # Errors
     ///
-    /// The fault by which the rules refuse each file of this name and length, and with it the name, or `Memory` without it. Then
-    /// nothing changes.
+    /// The fault by which the rules refuse each file of this name and length, with the name, or `Memory` without it if memory runs out. Then
+    /// nothing changed.
     pub fn begin_file(&mut self, name: Octets, len: u64) -> Result<(), (Option<Octets>, SendFault)>
         requires { IsReady self.old }
         ensures profile { self.new.p ≡ self.old.p }
@@ -173,7 +174,7 @@ impl World {
         self.sender.begin_file(name, len)
     }
 
-    /// Takes the next octets of the file that was begun, which has no more of them than its length.
+    /// Takes the next octets of the file that was begun. In all, they may not be more than its length.
     pub fn file_piece(&mut self, piece: &[u8])
         requires { IsMissing self.old (length piece.now) }
         ensures profile { self.new.p ≡ self.old.p }
@@ -184,7 +185,7 @@ impl World {
         self.sender.file_piece(piece);
     }
 
-    /// The file that was begun, all of whose octets are there, joins the order by the command of a producer.
+    /// Adds the file that was begun to the transport order, as this producer's command. All its octets must be there.
     pub fn end_file(&mut self, by: Origin, now: Moment) -> Receipt
         requires { IsFilled self.old }
         ensures profile { self.new.p ≡ self.old.p }
@@ -194,7 +195,7 @@ impl World {
         self.sender.end_file(by, now)
     }
 
-    /// Gives up the file that was begun. What was dropped for it stays dropped.
+    /// Gives up the file that was begun. What was dropped to make room for it stays dropped.
     pub fn leave_file(&mut self)
         requires { IsBegun self.old }
         ensures profile { self.new.p ≡ self.old.p }
@@ -204,13 +205,12 @@ impl World {
         self.sender.leave_file();
     }
 
-    /// A datagram comes to a node. A receiver gets it with a draw, for the back-off that may begin; to the sender it makes no
-    /// difference, and the sender takes no memory for it.
+    /// Delivers a datagram to a node. A receiver uses `draw` for the back-off that may begin. The sender ignores it and takes no memory.
     ///
     /// # Errors
     ///
-    /// `Memory` if memory runs out; all is then as if it had been lost. It comes only of datagrams for which a receiver may want memory
-    /// ([`Receiver::deliver`]), and never of the sender's.
+    /// `Memory` if memory runs out. Then all is as if the datagram had been lost. Only a receiver may need memory, and only for a datagram
+    /// that [`Receiver::deliver`] names.
     pub fn deliver(
         &mut self,
         to: NodeId,
@@ -236,7 +236,7 @@ impl World {
         Ok(())
     }
 
-    /// The sender ticks: it writes the datagram that is to be sent now, if there is one. It takes no memory.
+    /// Ticks the sender, which writes the datagram that is to be sent now, if there is one. It takes no memory.
     // Two calls in place of one that asks which node ticks: each is one event of the list, and its clause is that event's alone.
     pub fn tick_sender(&mut self, now: Moment, out: &mut Datagram) -> Sent
         requires { IsReady self.old }
@@ -247,8 +247,8 @@ impl World {
         self.sender.tick(now, out)
     }
 
-    /// A receiver ticks, all of whose hand-ups were taken: it writes the datagram that is to be sent now, if there is one. It takes no
-    /// memory.
+    /// Ticks a receiver, which writes the datagram that is to be sent now, if there is one. Call it after all hand-ups of the receiver were
+    /// taken. It takes no memory.
     pub fn tick_receiver(&mut self, node: NodeId, now: Moment, out: &mut Datagram) -> Sent
         requires receiver { is_receiver self.old.p node ≡ true }
         requires taken { AreTaken (receiver_of self.old node) }
@@ -260,14 +260,13 @@ impl World {
         self.receivers[place].tick(now, out)
     }
 
-    /// A node's datagram is offered to the network. Nothing of it is kept.
+    /// States that a node's datagram was offered to the network. It keeps nothing and does nothing.
     // The network and the journal have the octets. Kept here they would grow with the session, and the call could run out of memory.
     pub fn offered(&self, from: NodeId, bytes: &[u8])
         ensures { IsEvent self.now self.now (Offered from bytes.now) (λ answer. answer ≡ Silent) }
     {}
 
-    /// Takes the next hand-up of a receiver. `None` exactly where all that was handed up was taken, and then nothing changes.
-    /// It takes no memory.
+    /// Takes the next hand-up of a receiver. `None` if all were taken. Then nothing changed. It takes no memory.
     pub fn take_up(&mut self, node: NodeId) -> Option<Up>
         requires { is_receiver self.old.p node ≡ true }
         ensures profile { self.new.p ≡ self.old.p }
@@ -280,8 +279,7 @@ impl World {
         self.receivers[place].take_up()
     }
 
-    /// The sender's next change that was not told yet. `None` exactly where nothing is left to be told, and then nothing
-    /// changes. It takes no memory.
+    /// Takes the sender's next change that was not reported yet. `None` if none is left. Then nothing changed. It takes no memory.
     pub fn news(&mut self) -> Option<News>
         requires { IsReady self.old }
         ensures ready { IsReady self.new }

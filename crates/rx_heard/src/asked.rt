@@ -1,4 +1,4 @@
-//! What requests ask for, as they are read and before it is heard.
+//! [`Asked`]: what the requests of one message ask for, before they are merged.
 
 ghost use Rattle.std.specs.Prelude.{◌≡◌};
 ghost use Rattle.norm_receive_rules.specs.Heard.{heard_nothing};
@@ -7,7 +7,7 @@ use crate::heard::{Count, Span};
 use std::alloc::Global;
 use std::marker::Model;
 
-/// What requests ask for, in their order: source symbols and infos as spans, and counts of blocks.
+/// What requests ask for, in their order: source symbols and infos as spans, and counts for blocks.
 #[derive(Debug, Drop)]
 pub struct Asked {
     alloc: Global,
@@ -25,7 +25,7 @@ impl Model for Asked {
 }
 
 impl Asked {
-    /// Nothing is asked for. It takes no memory.
+    /// Creates an empty one. It takes no memory.
     pub fn new(alloc: Global) -> Asked
         ensures { result ≡ heard_nothing }
     {
@@ -37,14 +37,14 @@ impl Asked {
         }
     }
 
-    /// Another in which nothing is asked for. It takes no memory.
+    /// Creates another, empty one. It takes no memory.
     pub fn anew(&self) -> Asked
         ensures { result ≡ heard_nothing }
     {
         Asked::new(self.alloc)
     }
 
-    /// All is forgotten. The room stays.
+    /// Forgets everything. It keeps its memory.
     pub(crate) fn clear(&mut self)
         ensures { self.new ≡ heard_nothing }
     {

@@ -1,4 +1,4 @@
-//! What of all that requests ask for was not heard before: only that needs room.
+//! What of a message's requests needs room: everything from the first item on that was not heard before.
 
 ghost use Rattle.std.specs.Prelude.{◌≡◌, fold, true, IsTrue};
 ghost use Rattle.std.specs.List.{AllWithin};
@@ -10,7 +10,7 @@ ghost use Rattle.rx_heard.specs.Orderly.{AreApart, Rise};
 use crate::heard::{Count, Span};
 use crate::searching::{first_count, first_span};
 
-/// Whether all of a span lies in the one of these at a place, before which all end before it: then it adds nothing.
+/// Whether the span at index `place` takes in all of this span, which then adds nothing. All spans before the index end before this one.
 pub(crate) fn has_at(spans: &[Span], place: usize, span: &Span) -> bool
     requires ordered { AreApart spans.now }
     requires before { AllWithin (λ other. position_before other.last span.now.first ≡ true) spans.now 0 place }
@@ -24,7 +24,7 @@ pub(crate) fn has_at(spans: &[Span], place: usize, span: &Span) -> bool
     other.takes_in(span)
 }
 
-/// Whether all of a span lies in one of these, or it ends before it begins: then it adds nothing.
+/// Whether a span adds nothing: all of it lies in one of these spans, or it ends before it begins.
 fn has_span(spans: &[Span], span: &Span) -> bool
     requires { AreApart spans.now }
     ensures { IsTrue result → with_proper spans.now span.now ≡ spans.now }
@@ -35,7 +35,7 @@ fn has_span(spans: &[Span], span: &Span) -> bool
     has_at(spans, first_span(spans, span.first), span)
 }
 
-/// Whether as many symbols of a count's block are counted: then it adds nothing.
+/// Whether a count adds nothing: one of these counts asks for at least as many symbols of its block.
 fn has_count(counts: &[Count], count: &Count) -> bool
     requires { Rise counts.now }
     ensures { IsTrue result → with_count count.now counts.now ≡ counts.now }
@@ -47,7 +47,7 @@ fn has_count(counts: &[Count], count: &Count) -> bool
     counts[place].asks_for(count.of, count.lacking)
 }
 
-/// Of what is asked for, all from the first on that these spans have not.
+/// Returns the rest of `asked` from the first span on that does not lie in one of `spans`.
 pub(crate) fn fresh_spans<'a>(spans: &[Span], asked: &'a [Span]) -> &'a [Span]
     requires { AreApart spans.now }
     ensures same { fold with_proper spans.now result.now ≡ fold with_proper spans.now asked.now }
@@ -63,7 +63,7 @@ pub(crate) fn fresh_spans<'a>(spans: &[Span], asked: &'a [Span]) -> &'a [Span]
     rest
 }
 
-/// Of what is asked for, all from the first on that these counts have not.
+/// Returns the rest of `asked` from the first count on that exceeds what `counts` has for its block.
 pub(crate) fn fresh_counts<'a>(counts: &[Count], asked: &'a [Count]) -> &'a [Count]
     requires { Rise counts.now }
     ensures same { fold (λ counts c. with_count c counts) counts.now result.now ≡ fold (λ counts c. with_count c counts) counts.now asked.now }

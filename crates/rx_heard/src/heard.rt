@@ -1,4 +1,4 @@
-//! What a receiver heard others ask for while it backs off (RFC 5401 section 3.2.2).
+//! [`Heard`]: what a receiver heard others ask for while it backs off (RFC 5401 section 3.2.2).
 
 ghost use Rattle.std.specs.Prelude.{◌≡◌, ◌≤◌, ◌<◌, ◌+◌, ◌&&◌, nat_le, length, fold, vec_capacity, IfOk, OnErr, true, max, not};
 ghost use Rattle.fec_plan.specs.Points.{position_before, point_before, same_point};
@@ -15,11 +15,11 @@ use norm_base::Memory;
 use std::alloc::Global;
 use std::marker::Model;
 
-/// The most spans of symbols, the most spans of infos and the most counts that are kept of what was heard.
+/// The most spans of symbols, the most spans of infos, and the most counts that are kept.
 // Our own choice. A message that might pass it is not heard at all: at worst the receiver asks for what others asked for.
 const MOST_HEARD: usize = 4096;
 
-/// From one position to another, both included.
+/// The positions from `first` to `last`, both included.
 #[derive(Clone, Copy, Debug)]
 pub(crate) struct Span {
     pub first: Position,
@@ -37,7 +37,7 @@ impl Model for Span {
 }
 
 impl Span {
-    /// It and another that shares a position with it, as one.
+    /// Returns this span and one that shares a position with it, merged.
     fn joined(&self, other: &Span) -> Span
         ensures { result ≡ joined self.now other.now }
     {
@@ -52,14 +52,14 @@ impl Span {
         }
     }
 
-    /// Whether all of another lies in it.
+    /// Whether all of another span lies in this one.
     pub fn takes_in(&self, other: &Span) -> bool
         ensures { result ≡ (not (position_before other.now.first self.now.first) && not (position_before self.now.last other.now.last)) }
     {
         !other.first.is_before(&self.first) && !self.last.is_before(&other.last)
     }
 
-    /// Whether it ends before another begins.
+    /// Whether it ends before another span begins.
     fn ends_before(&self, other: &Span) -> bool
         ensures { result ≡ position_before self.now.last other.now.first }
     {
@@ -67,8 +67,8 @@ impl Span {
     }
 }
 
-/// One span more, for which there is room: what lies before it stays before it, what lies behind it behind, and it takes in
-/// all that it meets. Nothing is moved where it lies in one of them.
+/// Inserts a span, and merges it with all spans that share a position with it. There is room for it. Nothing moves if the span lies in one
+/// that is there.
 fn put_span(spans: &mut Vec<Span>, span: Span)
     requires ordered { AreApart spans.old.items }
     requires proper { is_proper span ≡ true }
@@ -98,7 +98,7 @@ fn put_span(spans: &mut Vec<Span>, span: Span)
     spans.push(more).unwrap();
 }
 
-/// One span more, for which there is room, where it does not end before it begins.
+/// Inserts a span unless it ends before it begins. There is room for it.
 fn put_proper(spans: &mut Vec<Span>, span: Span)
     requires ordered { AreApart spans.old.items }
     requires room { length spans.old.items < vec_capacity spans.old }
@@ -113,7 +113,7 @@ fn put_proper(spans: &mut Vec<Span>, span: Span)
     put_span(spans, span);
 }
 
-/// These spans more, for which there is room.
+/// Inserts these spans, except those that end before they begin. There is room for them.
 fn note_spans(spans: &mut Vec<Span>, more: &[Span])
     requires ordered { AreApart spans.old.items }
     requires room { length spans.old.items + length more.now ≤ vec_capacity spans.old }
@@ -129,7 +129,7 @@ fn note_spans(spans: &mut Vec<Span>, more: &[Span])
     }
 }
 
-/// So many symbols of a block.
+/// This many symbols of a block.
 #[derive(Clone, Copy, Debug)]
 pub(crate) struct Count {
     pub of: Point,
@@ -147,7 +147,7 @@ impl Model for Count {
 }
 
 impl Count {
-    /// The greater of it and one of the same block, in this one's place.
+    /// Returns the greater of this count and another one of the same block.
     fn greater(&self, other: &Count) -> Count
         ensures { result ≡ record { of = self.now.of; lacking = max self.now.lacking other.now.lacking } }
     {
@@ -157,7 +157,7 @@ impl Count {
         }
     }
 
-    /// Whether it is of the same block as another.
+    /// Whether both are of the same block.
     fn is_of(&self, other: &Count) -> bool
         ensures { result ≡ same_point self.now.of other.now.of }
     {
@@ -171,7 +171,7 @@ impl Count {
         self.of.is_before(&other.of)
     }
 
-    /// Whether it asks for as many symbols of a block.
+    /// Whether it asks for at least `wanted` symbols of a block.
     pub fn asks_for(&self, at: Point, wanted: u8) -> bool
         ensures { result ≡ (same_point self.now.of at && nat_le wanted self.now.lacking) }
     {
@@ -179,7 +179,7 @@ impl Count {
     }
 }
 
-/// One count more, for which there is room: of each block the greatest is kept.
+/// Inserts a count, or raises the one of the same block. There is room for it.
 fn put_count(counts: &mut Vec<Count>, count: Count)
     requires ordered { Rise counts.old.items }
     requires room { length counts.old.items < vec_capacity counts.old }
@@ -204,7 +204,7 @@ fn put_count(counts: &mut Vec<Count>, count: Count)
     counts.push(count).unwrap();
 }
 
-/// These counts more, for which there is room.
+/// Inserts these counts. There is room for them.
 fn note_counts(counts: &mut Vec<Count>, more: &[Count])
     requires ordered { Rise counts.old.items }
     requires room { length counts.old.items + length more.now ≤ vec_capacity counts.old }
@@ -220,15 +220,15 @@ fn note_counts(counts: &mut Vec<Count>, more: &[Count])
     }
 }
 
-/// Whether this many that are kept and this many more are within the bound.
+/// Whether `kept` items and `more` are within the bound together.
 fn are_kept(kept: usize, more: usize) -> bool
     ensures { result ≡ nat_le (kept + more) most_heard }
 {
     kept <= MOST_HEARD && more <= MOST_HEARD - kept
 }
 
-/// What others asked for: source symbols and infos as spans of which no two share a position, and of each block the greatest
-/// count, all in order, so that they can be searched.
+/// What others asked for: source symbols and infos as spans of which no two share a position, and for each block the greatest count. All
+/// lists are in ascending order, so that they can be searched by halves.
 #[derive(Debug, Drop)]
 pub struct Heard {
     alloc: Global,
@@ -250,7 +250,7 @@ impl Model for Heard {
 }
 
 impl Heard {
-    /// Nothing was heard. It takes no memory.
+    /// Creates an empty one. It takes no memory.
     pub fn new(alloc: Global) -> Heard
         ensures { result ≡ heard_nothing }
     {
@@ -262,14 +262,14 @@ impl Heard {
         }
     }
 
-    /// Another in which nothing was heard. It takes no memory.
+    /// Creates another, empty one. It takes no memory.
     pub fn anew(&self) -> Heard
         ensures { result ≡ heard_nothing }
     {
         Heard::new(self.alloc)
     }
 
-    /// All is forgotten. The room stays.
+    /// Forgets everything. It keeps its memory.
     pub fn clear(&mut self)
         ensures { self.new ≡ heard_nothing }
     {
@@ -278,7 +278,7 @@ impl Heard {
         self.counts.clear();
     }
 
-    /// Whether a message can be heard: with all that it names, heard before or not, no list passes the bound.
+    /// Whether no list can exceed its bound by this message, even if nothing in it was heard before.
     fn can_hear(&self, asked: &Asked) -> bool
         ensures { result ≡ can_hear self.now asked.now }
     {
@@ -287,7 +287,8 @@ impl Heard {
             && are_kept(self.counts.len(), asked.counts.len())
     }
 
-    /// Hears all that a message names, or nothing if a list might pass the bound then. What was heard before takes no room.
+    /// Merges everything that a message asks for, or nothing if a list might exceed its bound. It takes no memory if all of it was heard
+    /// before.
     ///
     /// # Errors
     ///

@@ -1,5 +1,5 @@
-//! What a receiver hears others ask for while it backs off (RFC 5401 section 3.2.2, RFC 5740 section 5.3): requests are read as
-//! a whole, and then heard.
+//! Hearing what others ask for while the receiver backs off (RFC 5401 section 3.2.2, RFC 5740 section 5.3). The requests of a message are
+//! first read as a whole, and then merged.
 
 ghost use Rattle.std.specs.Prelude.{◌≡◌, ◌<◌, ◌||◌, [], ◌∷◌, ◌++◌, IfOk, OnErr, filter, fold, map};
 ghost use Rattle.norm_ext.specs.Asking.{span, is_proper, named, named_spans, asked_spans, asked_counts, where_flag, has_flag, segment_flag, block_flag};
@@ -18,11 +18,11 @@ use norm_ext::flags::{WANT_BLOCK, WANT_INFO, WANT_OBJECT, WANT_SEGMENT};
 use norm_ext::items::{ends_of, has_flag, position_of, split_item, split_pair};
 use norm_ext::{Form, Request, Requests};
 
-/// The greatest number of a symbol that a message names.
+/// The greatest symbol that a message can name.
 // RFC 5510 section 5.1: 8 bits name a symbol. Encoding symbols go up to 254, so a span up to it reaches the end of any block.
 const LAST_SYMBOL: u8 = 255;
 
-/// How much of what a request names counts: the symbols themselves, their blocks, or their objects.
+/// How much a request means by what it names: the symbols themselves, their blocks, or their objects.
 #[derive(Clone, Copy, Debug)]
 pub(crate) enum Width {
     Symbols,
@@ -30,7 +30,7 @@ pub(crate) enum Width {
     Objects,
 }
 
-/// The span from one position to another, as wide as it counts.
+/// Returns the span from one position to another, widened to whole blocks or objects if the request means those.
 fn widened(width: Width, first: Position, last: Position) -> Span
     ensures { result ≡ widened width (span first last) }
 {
@@ -58,7 +58,7 @@ fn widened(width: Width, first: Position, last: Position) -> Span
     }
 }
 
-/// What items name, each by itself.
+/// Appends the span of each item.
 fn hear_items(
     spans: &mut Vec<Span>,
     profile: &Profile,
@@ -79,7 +79,7 @@ fn hear_items(
     Ok(())
 }
 
-/// What two positions name as the ends of a range, where it is not empty.
+/// Appends the span of a range, unless that is empty.
 fn put_pair(
     spans: &mut Vec<Span>,
     width: Width,
@@ -95,7 +95,7 @@ fn put_pair(
     Ok(())
 }
 
-/// What pairs of items name, where a range is not empty.
+/// Appends the span of each pair of items, which are the ends of a range. Empty ranges are left out.
 fn hear_ranges(
     spans: &mut Vec<Span>,
     profile: &Profile,
@@ -116,7 +116,7 @@ fn hear_ranges(
     Ok(())
 }
 
-/// What a request names, so wide.
+/// Appends the spans of a request's items or ranges. Erasures have none.
 fn hear_named(
     spans: &mut Vec<Span>,
     profile: &Profile,
@@ -133,7 +133,7 @@ fn hear_named(
     }
 }
 
-/// The count that an item's place says.
+/// Returns the count that an item of erasures means: its symbol number is how many symbols its block lacks.
 fn count_at(at: Position) -> Count
     ensures { result ≡ record { of = point_of at; lacking = at.symbol } }
 {
@@ -143,7 +143,7 @@ fn count_at(at: Position) -> Count
     }
 }
 
-/// The counts that items say.
+/// Appends the count of each item.
 fn hear_counts(
     counts: &mut Vec<Count>,
     profile: &Profile,
@@ -163,7 +163,7 @@ fn hear_counts(
     Ok(())
 }
 
-/// What a request names, so wide, where its flags have this one.
+/// Appends the spans of a request if its flags have this one. `kind` is the flag, and how much the request means by it.
 fn hear_where(
     spans: &mut Vec<Span>,
     profile: &Profile,
@@ -180,7 +180,7 @@ fn hear_where(
     hear_named(spans, profile, known, kind.1, request)
 }
 
-/// The spans of source symbols that a request asks for.
+/// Appends the spans of source symbols that a request asks for.
 fn hear_symbols(
     spans: &mut Vec<Span>,
     profile: &Profile,
@@ -207,7 +207,7 @@ fn hear_symbols(
     Ok(())
 }
 
-/// The infos that a request asks for.
+/// Appends the infos that a request asks for.
 fn hear_infos(
     spans: &mut Vec<Span>,
     profile: &Profile,
@@ -219,14 +219,14 @@ fn hear_infos(
     hear_where(spans, profile, known, (WANT_INFO, Width::Objects), request)
 }
 
-/// Whether the flags of erasures ask for the symbols of blocks.
+/// Whether the flags of erasures ask for symbols of blocks.
 fn wants_symbols(flags: u8) -> bool
     ensures { result ≡ (has_flag flags segment_flag || has_flag flags block_flag) }
 {
     has_flag(flags, WANT_SEGMENT) || has_flag(flags, WANT_BLOCK)
 }
 
-/// The counts that a request asks for.
+/// Appends the counts that a request asks for.
 fn hear_lacking(
     counts: &mut Vec<Count>,
     profile: &Profile,
@@ -247,7 +247,7 @@ fn hear_lacking(
 }
 
 impl Asked {
-    /// A request more. Where memory runs out, some of it may have been read.
+    /// Reads a request. If memory runs out, some of it may have been read.
     fn read_request(
         &mut self,
         profile: &Profile,
@@ -261,7 +261,7 @@ impl Asked {
         hear_lacking(&mut self.counts, profile, known, request)
     }
 
-    /// These requests more. Where memory runs out, some of them may have been read.
+    /// Reads these requests. If memory runs out, some of them may have been read.
     fn read_requests(
         &mut self,
         profile: &Profile,
@@ -277,11 +277,11 @@ impl Asked {
         Ok(())
     }
 
-    /// All that these requests ask for, in place of what was asked for before.
+    /// Reads all these requests, after forgetting what was read before.
     ///
     /// # Errors
     ///
-    /// `Memory` if memory runs out.
+    /// `Memory` if memory runs out; some requests may have been read then.
     pub(crate) fn read(
         &mut self,
         profile: &Profile,
@@ -295,11 +295,12 @@ impl Asked {
     }
 }
 
-/// The requests of a message are heard, all or none. The room in which they are read holds them then.
+/// Merges the requests of a message into `heard`: all of them, or none if a list might exceed its bound. `asked` is only a buffer. `known`
+/// tells which index an object id stands for.
 ///
 /// # Errors
 ///
-/// `Memory` if memory runs out; what was heard is then as it was.
+/// `Memory` if memory runs out; `heard` is unchanged then.
 pub fn hear_requests(
     heard: &mut Heard,
     asked: &mut Asked,

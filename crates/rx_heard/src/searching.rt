@@ -1,4 +1,4 @@
-//! Whether others asked for what is needed (RFC 5401 section 3.2.2), by a search of what was heard.
+//! Whether others asked for what is needed (RFC 5401 section 3.2.2), by a search in what was heard.
 
 ghost use Rattle.std.specs.Prelude.{◌≡◌, ◌+◌, ◌-◌, ◌≤◌, ◌<◌, ◌&&◌, ◌||◌, true, false, length};
 ghost use Rattle.std.specs.List.{AllWithin};
@@ -11,11 +11,11 @@ ghost use Rattle.rx_heard.specs.Orderly.{AreApart, Rise};
 use crate::heard::{Count, Heard, Span};
 use fec_plan::{LAST_BLOCK, Point, Position};
 
-/// A block of an object of which nothing is known may have so many symbols.
+/// The most symbols that a block may have if nothing is known of its object.
 // One more than the greatest number of a symbol: without a plan nothing says how many symbols a block has.
 const WIDEST: u16 = 256;
 
-/// The first of these spans that does not end before a position, or how many they are.
+/// Returns the index of the first span that does not end before a position, or the number of spans if all do.
 // Proof: the closure has a clause and the list is ordered, so partition_point decides all before and all after the index.
 pub(crate) fn first_span(spans: &[Span], at: Position) -> usize
     requires { AreApart spans.now }
@@ -30,7 +30,7 @@ pub(crate) fn first_span(spans: &[Span], at: Position) -> usize
     )
 }
 
-/// The first of these counts that is of no block before this one, or how many they are.
+/// Returns the index of the first count whose block is this one or a later one, or the number of counts if there is none.
 pub(crate) fn first_count(counts: &[Count], at: Point) -> usize
     requires { Rise counts.now }
     ensures bound { result ≤ length counts.now }
@@ -57,7 +57,7 @@ fn is_asked(spans: &[Span], at: Position) -> bool
     !at.is_before(&span.first)
 }
 
-/// Whether one of these counts asks for as many symbols of a block.
+/// Whether one of these counts asks for at least `wanted` symbols of a block.
 fn asks_as_many(counts: &[Count], at: Point, wanted: u8) -> bool
     requires { Rise counts.now }
     ensures { result ≡ asks_as_many counts.now at wanted }
@@ -69,7 +69,7 @@ fn asks_as_many(counts: &[Count], at: Point, wanted: u8) -> bool
     counts[place].asks_for(at, wanted)
 }
 
-/// The source symbol behind a position, where blocks have so many.
+/// Returns the source symbol after a position if blocks have `width` of them.
 // Proof: a span that ends between two positions of one object ends before the last one's block does, so the next block has a number.
 fn symbol_behind(width: u16, at: Position) -> Position
     requires few { width ≤ 256 }
@@ -89,7 +89,7 @@ fn symbol_behind(width: u16, at: Position) -> Position
     }
 }
 
-/// Whether all source symbols of an object from one to another were asked for, where its blocks have so many.
+/// Whether these spans have all source symbols of an object from `first` to `last`, if its blocks have `width` of them.
 fn covers(spans: &[Span], width: u16, first: Position, last: Position) -> bool
     requires ordered { AreApart spans.now }
     requires few { width ≤ 256 }
@@ -116,7 +116,7 @@ fn covers(spans: &[Span], width: u16, first: Position, last: Position) -> bool
 }
 
 impl Heard {
-    /// Whether the info of an object was asked for.
+    /// Whether others asked for the info of an object.
     pub fn has_info(&self, index: u32) -> bool
         ensures { result ≡ info_heard self.now index }
     {
@@ -128,14 +128,14 @@ impl Heard {
         is_asked(self.infos.as_slice(), at)
     }
 
-    /// Whether a source symbol was asked for.
+    /// Whether others asked for a source symbol.
     pub fn has_symbol(&self, at: Position) -> bool
         ensures { result ≡ is_asked self.now.symbols at }
     {
         is_asked(self.symbols.as_slice(), at)
     }
 
-    /// Whether all source symbols from a block of an object to another were asked for, where the blocks have so many.
+    /// Whether others asked for all source symbols of the blocks `first` to `last` of an object, if blocks have `width` of them.
     fn has_blocks(&self, width: u16, index: u32, first: u32, last: u32) -> bool
         requires few { width ≤ 256 }
         requires first { IsBlock first }
@@ -155,14 +155,14 @@ impl Heard {
         covers(self.symbols.as_slice(), width, begin, end)
     }
 
-    /// Whether all of an object of which nothing is known was asked for, and its info. Its blocks may be of any width.
+    /// Whether others asked for all of an object and its info. Nothing is known of the object, so its blocks may have any width.
     pub fn has_object(&self, index: u32) -> bool
         ensures { result ≡ (blocks_heard self.now 256 index 0 last_block && info_heard self.now index) }
     {
         self.has_blocks(WIDEST, index, 0, LAST_BLOCK) && self.has_info(index)
     }
 
-    /// Whether as many symbols of a block were asked for, or all of its source symbols, which are so many.
+    /// Whether others asked for at least `wanted` symbols of a block, or for all its `width` source symbols.
     pub fn has_symbols(&self, at: Point, width: u8, wanted: u8) -> bool
         requires { IsBlock at.block }
         ensures { result ≡ (asks_as_many self.now.counts at wanted || blocks_heard self.now width at.index at.block at.block) }
@@ -171,7 +171,7 @@ impl Heard {
             || self.has_blocks(u16::from(width), at.index, at.block, at.block)
     }
 
-    /// Whether all of a stream from a block on was asked for, where its blocks have so many source symbols.
+    /// Whether others asked for everything of a stream from a block on. Its blocks have `width` source symbols.
     pub fn has_rest(&self, width: u8, index: u32, block: u32) -> bool
         requires { IsBlock block }
         ensures { result ≡ blocks_heard self.now width index block last_block }

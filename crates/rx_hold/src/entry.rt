@@ -1,6 +1,6 @@
-//! What is held of one object of either kind: data or a file, or a stream.
+//! What is held of one object: data or a file, or a stream.
 //!
-//! This module alone decides which of the two it is: `making` when the object is taken up, `asking` for what it needs, and `handing` for
+//! Only this module knows which of the two an object is. `making` creates an [`Entry`], `asking` tells what it needs, and `handing` tells
 //! what it hands up.
 
 ghost use Rattle.std.specs.Prelude.{ℕ, ◌≡◌, ◌≤◌, ◌<◌, ◌+◌, ◌*◌, IfOk, OnErr, None, Some, is_some, length};
@@ -24,17 +24,17 @@ use rs_block::Solver;
 use rx_object::Object;
 use rx_stream::Stream;
 
-/// What is held of data or a file, or of a stream.
+/// What is held of one object.
 #[derive(Debug, Drop)]
 pub enum Entry {
-    /// An object of data or a file, which is handed up whole.
+    /// Data or a file, which is handed up whole.
     Object(Object),
     /// A stream, which is handed up segment by segment.
     Stream(Stream),
 }
 
 impl Entry {
-    /// The transmission information.
+    /// Returns the transmission information.
     pub fn fti(&self) -> Fti
         ensures { result ≡ (entry_of self.now).plan.fti }
     {
@@ -44,7 +44,7 @@ impl Entry {
         }
     }
 
-    /// The flags.
+    /// Returns the flags.
     pub fn flags(&self) -> u8
         ensures { result ≡ (entry_of self.now).plan.flags }
     {
@@ -61,7 +61,7 @@ impl Entry {
         is_stream(self.flags())
     }
 
-    /// How it is cut.
+    /// Returns how it is cut.
     pub fn plan(&self) -> Plan
         ensures { result ≡ cut_of_plan (entry_of self.now).plan }
     {
@@ -81,7 +81,7 @@ impl Entry {
         }
     }
 
-    /// The block of the next source symbol that is to be handed up: of data and files the first.
+    /// Returns the block of the next source symbol to hand up: 0 for data and files.
     pub fn first_block(&self) -> u32
         ensures { result ≡ (entry_of self.now).point.block }
     {
@@ -91,7 +91,7 @@ impl Entry {
         }
     }
 
-    /// The next source symbol that is to be handed up, in its block.
+    /// Returns the next source symbol to hand up, within its block: 0 for data and files.
     pub fn first_symbol(&self) -> u8
         ensures { result ≡ (entry_of self.now).point.symbol }
     {
@@ -112,7 +112,7 @@ impl Entry {
         }
     }
 
-    /// How many symbols a block that was not handed up whole lacks to as many as it has source symbols.
+    /// Returns how many more symbols a block needs to be decoded. The block was not handed up whole.
     pub fn lacking(&self, block: u32) -> u8
         requires reached { (entry_of self.now).point.block ≤ block }
         requires block { block < blocks (cut_of_plan (entry_of self.now).plan) }
@@ -124,7 +124,7 @@ impl Entry {
         }
     }
 
-    /// A block is seen, whether what came with it is kept or not. Of data and files nothing is kept of that.
+    /// Notes that a block was seen, whether or not its symbol was kept. Data and files keep nothing of that.
     pub fn see(&mut self, block: u32)
         requires { IsOfKind self.old }
         ensures state { entry_of self.new ≡ with_seen block (entry_of self.old) }
@@ -148,12 +148,12 @@ impl Entry {
         }
     }
 
-    /// A symbol comes, of a block that was not handed up whole: it is kept where it is news, and a block of which none is
-    /// lacking then is solved: of data or a file by `solver`, and of a stream by `stream_solver`.
+    /// Keeps a symbol if it is new, of a block that was not handed up whole. If the block lacks no more symbols then, it is decoded by
+    /// `solver`, or by `stream_solver` if this is a stream.
     ///
     /// # Errors
     ///
-    /// `Memory` where memory runs out, which a symbol of a stream takes; then nothing changes.
+    /// `Memory` if memory runs out, which can happen for a stream only; then nothing changes.
     pub fn offer(
         &mut self,
         id: PayloadId,

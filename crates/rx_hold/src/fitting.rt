@@ -1,4 +1,4 @@
-//! How transmission information fits what is held, and the object that is taken up with it (RFC 5740 section 5.3 on EXT_FTI).
+//! Taking objects up if their transmission information fits (RFC 5740 section 5.3 on EXT_FTI).
 
 ghost use Rattle.std.specs.Prelude.{ℕ, ◌≡◌, ◌==◌, ◌&&◌, ◌||◌, ◌<◌, ◌≤◌, ◌+◌, ◌^◌, false, if◌then◌else◌, IfErr, IfOk, OnErr, MatchResult, None, Some, nat_le, nat_lt};
 ghost use Rattle.norm_ext.specs.declared.fti.Fti.{Fti as FtiValue};
@@ -20,11 +20,11 @@ use norm_ext::Fti;
 use norm_receive_rules::Fit;
 use std::alloc::Global;
 
-/// For how many hand-ups room is taken with an object: a stream's open and its loss. Data and files need one.
+/// How many hand-ups get room when an object is taken up: a stream's open and its loss. Data and files need one.
 // A stream's open and its loss are all that comes beside the hand-ups of its symbols, of which its end is one. Any more would find no room.
 const FIRST_UPS: usize = 2;
 
-/// Whether both say the same plan; of a stream the length says nothing.
+/// Whether both mean the same plan. The length of a stream is not compared.
 fn is_same(fti: &Fti, flags: u8, known: &Fti, known_flags: u8) -> bool
     ensures { result ≡ are_same fti.now flags known.now known_flags }
 {
@@ -35,7 +35,7 @@ fn is_same(fti: &Fti, flags: u8, known: &Fti, known_flags: u8) -> bool
         && (is_stream(flags) || fti.l == known.l)
 }
 
-/// The word that transmission information gets, where this is the one that is known.
+/// Returns `Known` if transmission information matches the known plan, and `Unfit` otherwise.
 fn known_word(fti: &Fti, flags: u8, known: &Fti, known_flags: u8) -> Fit
     ensures word { result ≡ (if are_same fti.now flags known.now known_flags then fit_word.Known else fit_word.Unfit) }
     ensures other { result ≡ fit_word.Taken → ⊥ }
@@ -46,7 +46,7 @@ fn known_word(fti: &Fti, flags: u8, known: &Fti, known_flags: u8) -> Fit
     Fit::Unfit
 }
 
-/// Whether a plan with these symbols, and the blocks that transmission information says, is of the profile.
+/// Whether symbols of `e` octets and the block sizes of transmission information are those of the profile.
 fn is_of(profile: &Profile, e: u16, fti: &Fti) -> bool
     ensures { result ≡ (e == profile.now.e && fti.now.b == profile.now.b && fti.now.max_n == profile.now.max_n) }
 {
@@ -54,7 +54,7 @@ fn is_of(profile: &Profile, e: u16, fti: &Fti) -> bool
 }
 
 impl Front {
-    /// Whether an object that is not over is too far ahead, or there is no room for its octets.
+    /// Whether a new object is too far ahead, or there is no room for its octets.
     fn is_away(&self, index: u32, fti: &Fti, flags: u8) -> bool
         requires front { IsFront self.now }
         requires reached { self.now.point ≤ index }
@@ -66,7 +66,7 @@ impl Front {
             || self.taken + room_of(&profile, fti, flags) > u64::from(profile.octets)
     }
 
-    /// The plan by which an object is taken up with this transmission information, or the word that it gets instead.
+    /// Returns the plan by which to take an object up, or the result that its transmission information gets instead.
     fn plan_for(&self, index: u32, fti: &Fti, flags: u8) -> Result<Plan, Fit>
         requires { IsFront self.now }
         ensures word { (s : Holding) → StandsFor (front_view self.now) s → MatchResult result (λ _. fit_of self.now.profile s index fti.now flags ≡ fit_word.Taken)
@@ -95,7 +95,7 @@ impl Front {
         Ok(plan)
     }
 
-    /// Takes up an object with this plan, and with it room for its first hand-ups.
+    /// Takes up an object with this plan, and reserves room for its first hand-ups. If memory runs out nothing changes.
     fn take_up(
         &mut self,
         alloc: Global,
@@ -128,11 +128,11 @@ impl Front {
         Ok(())
     }
 
-    /// The transmission information of an object, and its flags, come: where they fit and are new, the object is taken up.
+    /// Takes an object up if its transmission information and flags fit and are new.
     ///
     /// # Errors
     ///
-    /// `Memory` where memory runs out; then nothing changes.
+    /// `Memory` if memory runs out; then nothing changes.
     pub fn fti(&mut self, alloc: Global, index: u32, fti: &Fti, flags: u8) -> Result<Fit, Memory>
         requires front { IsFront self.old }
         requires last { index < 4294967295 }
@@ -153,7 +153,7 @@ impl Front {
         }
     }
 
-    /// Takes back the plan of an object of which nothing is held.
+    /// Removes an object of which nothing is held, so that it has no plan again.
     pub fn untake(&mut self, index: u32)
         requires front { IsFront self.old }
         requires unused { IsUnused (front_view self.old) index }

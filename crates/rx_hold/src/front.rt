@@ -1,4 +1,4 @@
-//! The objects from the hand-up point on, and what was handed up of those before it.
+//! The objects from the hand-up point on, and the hand-ups that wait to be taken. [`Hold`](crate::Hold) wraps it.
 
 ghost use Rattle.std.specs.Prelude.{◌≡◌, ◌||◌, nat_lt, not, ◌+◌, ◌-◌, ◌<◌, ◌≤◌, ◌*◌, IfOk, OnErr, MatchOption, None, Some, length, option_copied, option_map, is_some, false, slice_set, ⊤};
 ghost use Rattle.fec_plan.specs.Partition.{blocks};
@@ -33,20 +33,20 @@ pub struct Front {
     pub profile: Profile,
     /// The index of the object at the hand-up point.
     pub point: u32,
-    /// The places of the 256 objects from there on.
+    /// The 256 slots of the objects from there on.
     pub ring: VecDeque<Option<Seat>>,
-    /// The octets that the objects in the ring take.
+    /// The octets that the objects in the ring take: of a stream, its whole buffer.
     pub taken: u64,
-    /// How many hand-ups may come of what is held.
+    /// How many hand-ups may still come of the objects in the ring: the sum of their seats' `waiting`.
     // The sum over all seats. `ups` has room for this many beside what it holds. If it were less, a hand-up could find no room.
     pub waiting: usize,
-    /// The hand-ups that were not taken yet. There is room for those that may come.
+    /// The hand-ups that were not taken yet. There is room for `waiting` more.
     pub ups: VecDeque<Up>,
-    /// Whether an object was lost.
+    /// Whether an object was lost in this instance.
     pub lost: bool,
 }
 
-/// Whether an info is too long, or the object has none.
+/// Whether an info is too long, or the object's flags lack INFO.
 fn is_bad_info(profile: &Profile, flags: u8, info: &[u8]) -> bool
     ensures { result ≡ (nat_lt profile.now.e (length info.now) || not (says_info flags)) }
 {
@@ -54,7 +54,7 @@ fn is_bad_info(profile: &Profile, flags: u8, info: &[u8]) -> bool
 }
 
 impl Front {
-    /// The object with an index that is at the hand-up point or behind it.
+    /// Returns the object with an index at or after the hand-up point.
     pub fn entry(&self, index: u32) -> Option<&Entry>
         requires { self.now.point ≤ index }
         ensures { option_map entry_of (option_copied result) ≡ entry_at (states_of self.now.ring.items) (index - self.now.point) }
@@ -62,7 +62,7 @@ impl Front {
         entry_at(&self.ring, self.point, index)
     }
 
-    /// The block of the next source symbol that is to be handed up.
+    /// Returns the block of the next source symbol to hand up.
     pub fn first_block(&self) -> u32
         ensures { result ≡ (point_of_front self.now).block }
     {
@@ -72,7 +72,7 @@ impl Front {
         }
     }
 
-    /// The next source symbol that is to be handed up, in its block.
+    /// Returns the next source symbol to hand up, within its block.
     pub fn first_symbol(&self) -> u8
         ensures { result ≡ (point_of_front self.now).symbol }
     {
@@ -82,11 +82,11 @@ impl Front {
         }
     }
 
-    /// Takes room for so many hand-ups more than may come of what is held.
+    /// Reserves room for this many hand-ups beyond those that may come of what is held.
     ///
     /// # Errors
     ///
-    /// `Memory` where memory runs out; then nothing changes.
+    /// `Memory` if memory runs out; then nothing changes.
     pub fn reserve(&mut self, more: usize) -> Result<(), Memory>
         requires front { IsFront self.old }
         requires few { more ≤ 4294967296 }
@@ -102,7 +102,7 @@ impl Front {
         Ok(())
     }
 
-    /// Puts an object at its place, which is free.
+    /// Puts an object into its slot, which is free.
     pub fn seat(&mut self, place: usize, seat: Seat, octets: u64)
         requires front { IsFront self.old }
         requires room { HasRoom seat.waiting self.old }
@@ -122,7 +122,7 @@ impl Front {
         self.taken += octets;
     }
 
-    /// How the object with an index is cut. `None` exactly where it has no plan.
+    /// Returns how an object is cut. `None` if it has no plan.
     pub fn plan(&self, index: u32) -> Option<Plan>
         requires front { IsFront self.now }
         requires reached { self.now.point ≤ index }
@@ -135,7 +135,7 @@ impl Front {
         }
     }
 
-    /// The flags of the object with an index. `None` exactly where it has no plan.
+    /// Returns the flags of an object. `None` if it has no plan.
     pub fn flags(&self, index: u32) -> Option<u8>
         requires front { IsFront self.now }
         requires reached { self.now.point ≤ index }
@@ -148,7 +148,7 @@ impl Front {
         }
     }
 
-    /// Whether the info of the object with an index is held.
+    /// Whether the info of an object is held.
     pub fn has_info(&self, index: u32) -> bool
         requires front { IsFront self.now }
         requires reached { self.now.point ≤ index }
@@ -160,7 +160,7 @@ impl Front {
         }
     }
 
-    /// What is lacking of a block that was not handed up whole.
+    /// Returns what a block lacks that was not handed up whole.
     pub fn missing(&self, index: u32, block: u32) -> Missing
         requires front { IsFront self.now }
         requires reached { point_before (point_at index block) (point_of (point_of_front self.now)) ≡ false }
@@ -189,11 +189,11 @@ impl Front {
         }
     }
 
-    /// A symbol comes to the object at a place, of a block that was not handed up whole.
+    /// Keeps a symbol of the object in a slot if it is new. Its block was not handed up whole, and there is room for one more hand-up.
     ///
     /// # Errors
     ///
-    /// `Memory` where memory runs out; then nothing changes.
+    /// `Memory` if memory runs out; then nothing changes.
     pub fn offer(
         &mut self,
         place: usize,
@@ -223,7 +223,7 @@ impl Front {
         Ok(word)
     }
 
-    /// A block is seen of the object at a place.
+    /// Notes that a block was seen of the object in a slot.
     pub fn see(&mut self, place: usize, block: u32)
         requires front { IsFront self.old }
         requires place { place < 256 }
@@ -235,7 +235,7 @@ impl Front {
         see_at(&mut self.ring, place, block);
     }
 
-    /// Keeps the info of the object at a place, which is there and lacks it.
+    /// Keeps the info of the object in a slot, which lacks it.
     pub fn put_info(&mut self, place: usize, info: Octets)
         requires front { IsFront self.old }
         requires place { place < 256 }
@@ -248,7 +248,7 @@ impl Front {
         put_info_at(&mut self.ring, place, info);
     }
 
-    /// The word that an info gets.
+    /// Returns what [`keep_info`](Front::keep_info) does with an info, without keeping it.
     fn info_word(&self, index: u32, info: &[u8]) -> Put
         requires { IsFront self.now }
         ensures word { (s : Holding) → StandsFor (front_view self.now) s → result ≡ put_info_of self.now.profile s index info.now }
@@ -270,11 +270,11 @@ impl Front {
         Put::Kept
     }
 
-    /// The info of an object comes.
+    /// Keeps the info of an object if it is new.
     ///
     /// # Errors
     ///
-    /// `Memory` where memory runs out; then nothing changes.
+    /// `Memory` if memory runs out; then nothing changes.
     pub fn keep_info(&mut self, alloc: Global, index: u32, info: &[u8]) -> Result<Put, Memory>
         requires { IsFront self.old }
         ensures sound { IsFront self.new }
@@ -292,7 +292,7 @@ impl Front {
         Ok(word)
     }
 
-    /// A block of the object with an index is seen. Of one that was handed up or lost nothing is kept of that.
+    /// Notes that a block of an object was seen. It changes nothing if the object was handed up or lost.
     pub fn see_block(&mut self, index: u32, block: u32)
         requires { IsFront self.old }
         ensures sound { IsFront self.new }
@@ -308,11 +308,11 @@ impl Front {
         }
     }
 
-    /// A symbol of an object comes.
+    /// Keeps a symbol of an object if it is new.
     ///
     /// # Errors
     ///
-    /// `Memory` where memory runs out; then nothing changes.
+    /// `Memory` if memory runs out; then nothing changes.
     pub fn put(
         &mut self,
         index: u32,

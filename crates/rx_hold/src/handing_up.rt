@@ -1,4 +1,4 @@
-//! Handing up in transport order (RFC 5740 section 5.3): what is at the first place, as far as it goes.
+//! Handing up in transport order (RFC 5740 section 5.3): what is ready of the object in the first slot.
 
 ghost use Rattle.std.specs.Prelude.{ℕ, ◌≡◌, ◌==◌, ◌&&◌, ◌+◌, ◌<◌, ◌≤◌, ◌++◌, ◌∷◌, [], MatchOption, IsTrue, None, Some, false, length, slice_set, true};
 ghost use Rattle.std.specs.VecDeque.{deque_capacity};
@@ -17,7 +17,7 @@ use norm_order::Up;
 use std::collections::VecDeque;
 
 impl Seat {
-    /// Hands up the next segment of a stream, where that is there: there is room for so many hand-ups fewer then.
+    /// Hands up the next segment of a stream if it is there, and gives up the room for `told` hand-ups.
     fn hand_on(&mut self, told: usize) -> Option<Up>
         requires { is_stream self.old.entry ≡ true → told ≤ self.old.waiting }
         ensures { HandsOn self.old.entry told result self.old self.new }
@@ -28,7 +28,7 @@ impl Seat {
     }
 }
 
-/// Whether a stream is at the first place.
+/// Whether the first slot has a stream.
 fn is_stream_first(ring: &VecDeque<Option<Seat>>) -> bool
     ensures { result ≡ has_stream (at_place ring.now.items 0) }
 {
@@ -38,7 +38,7 @@ fn is_stream_first(ring: &VecDeque<Option<Seat>>) -> bool
     }
 }
 
-/// Whether an object of data or a file that is whole is at the first place.
+/// Whether the first slot has a whole object of data or a file.
 fn is_whole_first(ring: &VecDeque<Option<Seat>>) -> bool
     ensures { result ≡ has_whole (at_place ring.now.items 0) }
 {
@@ -48,7 +48,7 @@ fn is_whole_first(ring: &VecDeque<Option<Seat>>) -> bool
     }
 }
 
-/// The hand-up of what was at a place, an object of data or a file that is whole.
+/// Returns the hand-up of a whole object of data or a file.
 fn up_at(place: Option<Seat>) -> Up
     requires { has_whole place ≡ true }
     ensures { MatchOption (object_of place) ⊥ (λ o. result ≡ up_of o) }
@@ -60,7 +60,7 @@ fn up_at(place: Option<Seat>) -> Up
     }
 }
 
-/// The octets that what is at a place takes.
+/// Returns how many octets the object in a slot takes.
 pub fn octets_of(profile: &Profile, place: &Option<Seat>) -> u64
     ensures { result ≡ octets_at profile.now place.now }
 {
@@ -70,7 +70,7 @@ pub fn octets_of(profile: &Profile, place: &Option<Seat>) -> u64
     }
 }
 
-/// For how many hand-ups of what is at a place there is room.
+/// Returns how many hand-ups of the object in a slot have room reserved.
 pub fn waiting_of(place: &Option<Seat>) -> usize
     ensures { result ≡ waiting_at place.now }
 {
@@ -80,7 +80,7 @@ pub fn waiting_of(place: &Option<Seat>) -> usize
     }
 }
 
-/// Hands up the next segment of a stream at the first place, where that is there.
+/// Hands up the next segment of a stream in the first slot if it is there, and gives up the room for `told` hand-ups.
 // Proof: match on &mut ring[0] keeps the arm that writes nothing apart.
 fn hand_on(ring: &mut VecDeque<Option<Seat>>, told: usize) -> Option<Up>
     requires some { 0 < length ring.old.items }
@@ -95,7 +95,7 @@ fn hand_on(ring: &mut VecDeque<Option<Seat>>, told: usize) -> Option<Up>
     }
 }
 
-/// Takes what is at the first place, and makes the place behind the last one the last.
+/// Takes the object out of the first slot, and moves the ring on by one slot.
 fn shift(ring: &mut VecDeque<Option<Seat>>) -> Option<Seat>
     requires some { 0 < length ring.old.items }
     requires room { length ring.old.items ≤ deque_capacity ring.old }
@@ -112,7 +112,7 @@ fn shift(ring: &mut VecDeque<Option<Seat>>) -> Option<Seat>
     }
 }
 
-/// How many hand-ups come with a segment, where the stream is opened with it or not.
+/// Returns how many hand-ups a segment causes: two if it opens the stream, otherwise one.
 fn told_with(opens: bool) -> usize
     ensures { result ≡ told_with opens }
 {
@@ -122,7 +122,6 @@ fn told_with(opens: bool) -> usize
     1
 }
 
-/// Whether a hand-up is the end of a stream.
 fn is_end(up: &Up) -> bool
     ensures { result ≡ is_end_up up.now }
 {
@@ -133,7 +132,7 @@ fn is_end(up: &Up) -> bool
     }
 }
 
-/// Puts a hand-up behind those that wait, for which there is room.
+/// Appends a hand-up, which has room.
 pub fn push(ups: &mut VecDeque<Up>, up: Up)
     requires { length ups.old.items < deque_capacity ups.old }
     ensures items { ups.new.items ≡ ups.old.items ++ up ∷ [] }
@@ -143,7 +142,7 @@ pub fn push(ups: &mut VecDeque<Up>, up: Up)
     ups.push_back(up).unwrap();
 }
 
-/// Tells a hand-up of the stream with an index, and before it that the stream is opened, where it is.
+/// Appends a hand-up of a stream, after the stream's open if `opens`.
 fn tell(ups: &mut VecDeque<Up>, opens: bool, index: u32, up: Up)
     requires { length ups.old.items + told_with opens ≤ deque_capacity ups.old }
     ensures items { ups.new.items ≡ ups.old.items ++ told_ups opens index up }
@@ -158,14 +157,14 @@ fn tell(ups: &mut VecDeque<Up>, opens: bool, index: u32, up: Up)
 }
 
 impl Front {
-    /// Whether the hand-up point is where its object begins.
+    /// Whether nothing of the object at the hand-up point was handed up yet.
     fn is_at_start(&self) -> bool
         ensures { result ≡ ((point_of_front self.now).block == 0 && (point_of_front self.now).symbol == 0) }
     {
         self.first_block() == 0 && self.first_symbol() == 0
     }
 
-    /// Leaves the first place behind, and gives what was there.
+    /// Moves the hand-up point to the next object, and returns what was in the first slot.
     pub fn pass_first(&mut self) -> Option<Seat>
         requires places { 0 < length self.old.ring.items }
         requires room { length self.old.ring.items ≤ deque_capacity self.old.ring }
@@ -185,7 +184,7 @@ impl Front {
         first
     }
 
-    /// Hands up the first object, which is no stream, where it is there and whole, and says whether it did.
+    /// Hands up the first object if it is there and whole. It is no stream. Returns whether it did.
     fn hand_up_object(&mut self) -> bool
         requires front { IsFront self.old }
         requires object { has_stream (at_place self.old.ring.items 0) ≡ false }
@@ -205,7 +204,7 @@ impl Front {
         true
     }
 
-    /// Hands up the next segment of the first object, which is a stream, where that is there, and says whether it did.
+    /// Hands up the next segment of the first object, a stream, if it is there. Returns whether it did.
     fn hand_up_stream(&mut self) -> bool
         requires front { IsFront self.old }
         requires stream { has_stream (at_place self.old.ring.items 0) ≡ true }
@@ -232,7 +231,7 @@ impl Front {
         true
     }
 
-    /// Hands up what is next, where it is there, and says whether it did. It takes no memory.
+    /// Hands up what is next if it is there. Returns whether it did. It takes no memory.
     fn hand_up_first(&mut self) -> bool
         requires { IsFront self.old }
         ensures sound { IsFront self.new }
@@ -249,7 +248,7 @@ impl Front {
         self.hand_up_object()
     }
 
-    /// Hands up all that can be. It takes no memory.
+    /// Hands up everything that is ready. It takes no memory.
     // Proof: each round leaves fewer symbols to hand up (left_in), so the bound of the rules is never met before the loop ends.
     pub fn advance(&mut self)
         requires { IsFront self.old }

@@ -1,4 +1,4 @@
-//! What a receiver holds of objects that it did not hand up yet.
+//! [`Hold`]: what a receiver holds of objects that it has not handed up yet.
 
 ghost use Rattle.std.specs.Prelude.{ℕ, ◌≡◌, ◌<◌, ◌≤◌, ◌+◌, [], IfOk, IfNone, IfSome, MatchOption, OnErr, is_some, length, not, option_map, false, ⊤};
 ghost use Rattle.fec_plan.specs.Partition.{blocks};
@@ -36,19 +36,24 @@ use std::alloc::Global;
 use std::collections::VecDeque;
 use std::marker::Model;
 
-/// The octets of a segment's place, which stand before its own.
+/// The octets of a segment's header, which precede its data.
 // RFC 5740 section 4.2.1: a stream's symbol begins with the eight octets of payload_len, payload_msg_start and payload_offset.
 const SEGMENT_PLACE: usize = 8;
 
-/// What a receiver holds.
+/// What a receiver holds. For each message:
+/// 1. [`fti`](Hold::fti) takes the object up. Without its plan, [`put`](Hold::put) and [`put_info`](Hold::put_info) keep nothing.
+/// 2. [`put`](Hold::put) or [`put_info`](Hold::put_info), and [`see`](Hold::see). If `put` fails, [`untake`](Hold::untake) undoes `fti`.
+/// 3. [`advance`](Hold::advance). For a squelch, call [`lose_before`](Hold::lose_before) instead of all three.
+///
+/// Then call [`next_up`](Hold::next_up) until it returns `None`.
 // What is held of one object has crates of its own (rx_object, rx_stream), so that no check has to bear both.
 #[derive(Debug, Drop)]
 pub struct Hold {
     alloc: Global,
     front: Front,
-    /// Solves the blocks of data and files.
+    /// Solves blocks of data and files.
     solver: Solver,
-    /// Solves those of streams.
+    /// Solves blocks of streams.
     // Two solvers, because a segment is coded with its place and so has eight octets more than a symbol of data or a file.
     stream_solver: Solver,
 }
@@ -67,11 +72,11 @@ impl Model for Hold {
 }
 
 impl Hold {
-    /// Nothing is held.
+    /// Creates an empty hold.
     ///
     /// # Errors
     ///
-    /// `Memory` where memory runs out.
+    /// `Memory` if memory runs out.
     pub fn new(alloc: Global, profile: &Profile) -> Result<Hold, Memory>
         ensures empty { IfOk result (λ hold. hold ≡ empty_hold profile.now) }
         ensures begun { IfOk result (λ hold. StandsFor hold holding_nothing) }
@@ -98,12 +103,11 @@ impl Hold {
         })
     }
 
-    /// A hold of this profile of which nothing is held, for an instance that begins: it takes the place of this one once
-    /// nothing can fail any more.
+    /// Creates an empty hold of the same profile, for a new instance. Replace this hold by it once nothing can fail any more.
     ///
     /// # Errors
     ///
-    /// `Memory` where memory runs out.
+    /// `Memory` if memory runs out.
     // Made before the old one goes: if memory runs out in the message that begins an instance, all must stay as it was.
     pub fn anew(&self) -> Result<Hold, Memory>
         ensures empty { IfOk result (λ hold. hold ≡ empty_hold self.now.p) }
@@ -113,7 +117,7 @@ impl Hold {
         Hold::new(self.alloc, &self.front.profile)
     }
 
-    /// All is forgotten, as the receiver enters another instance. It takes no memory.
+    /// Forgets everything, for another instance. It takes no memory.
     // Only tests call it so far. It stays for programs over this crate: a receiver takes `anew`, and keeps the old hold if memory runs out.
     pub fn clear(&mut self)
         ensures empty { self.new ≡ empty_hold self.old.p }
@@ -129,7 +133,7 @@ impl Hold {
         self.front.lost = false;
     }
 
-    /// The next source symbol that is to be handed up.
+    /// Returns the hand-up point: the next source symbol to hand up.
     pub fn hand_up(&self) -> Place
         ensures exact { position result.index result.block result.symbol ≡ self.now.point }
         ensures state { (s : Holding) → StandsFor self.now s → position result.index result.block result.symbol ≡ s.point }
@@ -141,7 +145,7 @@ impl Hold {
         }
     }
 
-    /// How an object is cut. `None` exactly where it has no plan.
+    /// Returns how an object is cut. `None` if it has no plan.
     pub fn plan(&self, index: u32) -> Option<Plan>
         requires { self.now.point.index ≤ index }
         ensures exact { result ≡ plan_in self.now index }
@@ -150,7 +154,7 @@ impl Hold {
         self.front.plan(index)
     }
 
-    /// The flags of an object. `None` exactly where it has no plan.
+    /// Returns the flags of an object. `None` if it has no plan.
     pub fn flags(&self, index: u32) -> Option<u8>
         requires { self.now.point.index ≤ index }
         ensures exact { result ≡ flags_in self.now index }
@@ -167,7 +171,7 @@ impl Hold {
         self.front.has_info(index)
     }
 
-    /// Whether a symbol is held.
+    /// Whether a symbol is held, at or after the block of the hand-up point.
     pub fn holds(&self, at: Position) -> bool
         requires { point_before (point_of at) (point_of self.now.point) ≡ false }
         ensures { (s : Holding) → StandsFor self.now s → result ≡ holds s at }
@@ -175,7 +179,7 @@ impl Hold {
         self.front.holds(at.index, at.block, at.symbol)
     }
 
-    /// What is lacking of a block. Where the object has a plan, the block is one of its.
+    /// Returns what a block lacks. It is at or after the block of the hand-up point, and within the object if that has a plan.
     pub fn missing(&self, index: u32, block: u32) -> Missing
         requires reached { point_before (point_at index block) (point_of self.now.point) ≡ false }
         requires block { MatchOption (plan_in self.now index) ⊤ (λ cut. block < blocks cut) }
@@ -184,8 +188,7 @@ impl Hold {
         self.front.missing(index, block)
     }
 
-    /// The first block of an object that lacks symbols. `None` where it has no plan, or all its blocks are done. Of data and files it takes
-    /// constant time, and of a stream it looks at one block more than there is room for, at most.
+    /// Returns the first block of an object that lacks symbols. `None` if it has no plan, or all its blocks are done. It takes constant time.
     pub fn first_short(&self, index: u32) -> Option<u32>
         requires { self.now.point.index ≤ index }
         ensures exact { (s : Holding) → StandsFor self.now s → result ≡ first_short_at s index }
@@ -196,7 +199,7 @@ impl Hold {
         self.front.first_short(index)
     }
 
-    /// The first block of an object behind one that lacks symbols that lacks symbols too. `None` where each is done.
+    /// Returns the next incomplete block of an object after this one. `None` if all later blocks are done. It takes constant time.
     pub fn next_short(&self, index: u32, block: u32) -> Option<u32>
         requires reached { self.now.point.index ≤ index }
         requires short { IsShortIn self.now index block }
@@ -208,7 +211,7 @@ impl Hold {
         self.front.next_short(index, block)
     }
 
-    /// The greatest block that was seen of a stream. `None` exactly where no stream has the index.
+    /// Returns the greatest block that was seen of a stream. `None` if this index has no stream.
     pub fn seen(&self, index: u32) -> Option<u32>
         requires { self.now.point.index ≤ index }
         ensures { (s : Holding) → StandsFor self.now s → result ≡ seen_at s index }
@@ -216,8 +219,8 @@ impl Hold {
         self.front.seen(index)
     }
 
-    /// The place of a stream's end, where that is held or given by what is held of its block. `None` where that is not so, or no
-    /// stream has the index. It looks at each block from the next segment's on, at one of which nothing is held for a moment only.
+    /// Returns the position of a stream's end, if the end is held or its block is done. `None` otherwise, and if this index has no stream. It
+    /// looks at each block that the stream has room for, but a block without symbols costs little.
     pub fn end(&self, index: u32) -> Option<PayloadId>
         requires { self.now.point.index ≤ index }
         ensures { (s : Holding) → StandsFor self.now s → option_map (λ (id : Name). position index id.block id.symbol) result ≡ end_at self.now.p s index }
@@ -232,14 +235,14 @@ impl Hold {
         self.front.lost
     }
 
-    /// How many hand-ups were not taken yet.
+    /// Returns how many hand-ups wait to be taken.
     pub fn ups(&self) -> usize
         ensures { result ≡ length self.now.ups }
     {
         self.front.ups.len()
     }
 
-    /// A block is seen, whether what came with it is kept or not: of a stream the greatest one is kept.
+    /// Notes that a block was seen, whether or not its symbol was kept. A stream keeps the greatest block, and other objects keep nothing.
     pub fn see(&mut self, at: Point)
         ensures profile { self.new.p ≡ self.old.p }
         ensures state { (s : Holding) → StandsFor self.old s → StandsFor self.new (sees_block at s) }
@@ -247,7 +250,7 @@ impl Hold {
         self.front.see_block(at.index, at.block);
     }
 
-    /// Takes the next hand-up, where one is left. `None` where all were taken; then nothing changes.
+    /// Takes the next hand-up. `None` if all were taken; then nothing changes.
     pub fn next_up(&mut self) -> Option<Up>
         ensures profile { self.new.p ≡ self.old.p }
         ensures none { IfNone result ((self.old.ups ≡ []) × (self.new ≡ self.old)) }
@@ -258,15 +261,17 @@ impl Hold {
         self.front.ups.pop_front()
     }
 
-    /// A symbol of an object comes: it is kept where it is news. What can be handed up by it waits for `advance`.
+    /// Keeps a symbol of an object if it is new. Call [`advance`](Hold::advance) to hand up what it completed.
     ///
-    /// The first word that applies: `Had` where the object was handed up or lost, the symbol is held, or its block is done; `Away`
-    /// where the object has no plan, or there is no room for a stream's block; `Unfit` where it has no such encoded symbol, or the
-    /// payload is not the symbol's; `Kept`.
+    /// Returns the first result that applies:
+    /// - `Had` if the object was handed up or lost, the symbol is held, or its block is done.
+    /// - `Away` if the object has no plan, or its stream has no room for the block yet.
+    /// - `Unfit` if the object has no such encoded symbol, or the payload does not have its length.
+    /// - `Kept`.
     ///
     /// # Errors
     ///
-    /// `Memory` where memory runs out; then nothing changes.
+    /// `Memory` if memory runs out; then nothing changes.
     pub fn put(&mut self, index: u32, id: PayloadId, payload: &[u8]) -> Result<Put, Memory>
         ensures profile { self.new.p ≡ self.old.p }
         ensures state { IfOk result (λ word. (s : Holding) → StandsFor self.old s
@@ -283,16 +288,18 @@ impl Hold {
         )
     }
 
-    /// The transmission information of an object, and its flags, come: where they fit and are new, the object is taken up. Data and
-    /// files take all the memory that their symbols need; a stream takes that of each symbol as it comes.
+    /// Takes an object up if its transmission information and flags fit and are new. Data and files take all the memory that their symbols
+    /// need. A stream takes that of one block, and more for each symbol as it comes.
     ///
-    /// The first word that applies: `Known` where the object has this plan already, or was handed up or lost; `Away` where it is 256
-    /// objects or more ahead, or is new and there is no room for its octets, which of a stream are those of its buffer; `Unfit` where
-    /// the plan is refused, is not the one that is known, or is not of the profile; `Taken`. Of a stream the length says nothing.
+    /// Returns the first result that applies:
+    /// - `Known` if the object has this plan already, or was handed up or lost. The length of a stream is not compared.
+    /// - `Away` if it is 256 objects or more ahead, or is new and there is no room for its octets. A stream counts with its whole buffer.
+    /// - `Unfit` if the plan is refused, differs from the known one, or is not of the profile.
+    /// - `Taken`.
     ///
     /// # Errors
     ///
-    /// `Memory` where memory runs out; then nothing changes.
+    /// `Memory` if memory runs out; then nothing changes.
     pub fn fti(&mut self, index: u32, fti: &Fti, flags: u8) -> Result<Fit, Memory>
         requires { index < 4294967295 }
         ensures profile { self.new.p ≡ self.old.p }
@@ -305,7 +312,7 @@ impl Hold {
         self.front.fti(self.alloc, index, fti, flags)
     }
 
-    /// Takes back the plan of an object. The last call of `fti` took it up, and nothing was put to it since.
+    /// Undoes the last [`fti`](Hold::fti), which returned `Taken`. Nothing of the object was put or seen since.
     pub fn untake(&mut self, index: u32)
         requires { IsUnused self.old index }
         ensures profile { self.new.p ≡ self.old.p }
@@ -314,14 +321,17 @@ impl Hold {
         self.front.untake(index);
     }
 
-    /// The info of an object comes: it is kept where it is news.
+    /// Keeps the info of an object if it is new.
     ///
-    /// The first word that applies: `Had` where the object was handed up or lost, or its info is held; `Away` where it has
-    /// no plan; `Unfit` where the info is above `e` octets or the object's flags have no INFO; `Kept`.
+    /// Returns the first result that applies:
+    /// - `Had` if the object was handed up or lost, or its info is held.
+    /// - `Away` if it has no plan.
+    /// - `Unfit` if the info has more than `e` octets, or the object's flags lack INFO.
+    /// - `Kept`.
     ///
     /// # Errors
     ///
-    /// `Memory` where memory runs out; then nothing changes.
+    /// `Memory` if memory runs out; then nothing changes.
     pub fn put_info(&mut self, index: u32, info: &[u8]) -> Result<Put, Memory>
         ensures profile { self.new.p ≡ self.old.p }
         ensures state { IfOk result (λ word. (s : Holding) → StandsFor self.old s
@@ -331,8 +341,8 @@ impl Hold {
         self.front.keep_info(self.alloc, index, info)
     }
 
-    /// Hands up all that can be: objects of data and files that are whole, of a stream its open, each next segment that is there,
-    /// and its end. It takes no memory.
+    /// Hands up everything that is ready, in order: each whole object of data or a file, and of a stream its open, each next segment, and its
+    /// end. It takes no memory.
     pub fn advance(&mut self)
         ensures profile { self.new.p ≡ self.old.p }
         ensures state { (s : Holding) → StandsFor self.old s → StandsFor self.new (handed_up self.old.p s) }
@@ -341,13 +351,15 @@ impl Hold {
         self.front.advance();
     }
 
-    /// The sender's window begins at this block of this object: what is not there before it is lost, of a stream within which it begins
-    /// the rest where the next segment is in a block that was dropped and is not there. It takes first all the memory that the
-    /// hand-ups need.
+    /// Gives up what is missing before the sender's window, which begins at this block. It hands up what is ready of each earlier object, and
+    /// reports the object as lost if anything is left. If the window begins within a stream whose next segment is missing and was dropped,
+    /// the rest of the stream is lost too. An object without a plan counts as such a stream if `block` is above 0.
+    ///
+    /// All memory for the hand-ups is reserved first.
     ///
     /// # Errors
     ///
-    /// `Memory` where memory runs out; then nothing changes.
+    /// `Memory` if memory runs out; then nothing changes.
     pub fn lose_before(&mut self, index: u32, block: u32) -> Result<(), Memory>
         requires { index < 4294967295 }
         ensures profile { self.new.p ≡ self.old.p }

@@ -1,8 +1,9 @@
-//! What a NORM receiver holds of objects of either kind, data and files or streams, until it hands them up (RFC 5740 section 5.3).
+//! What a NORM receiver holds of the sender's objects (data, files and streams) until it hands them up (RFC 5740 section 5.3).
 //!
-//! [`Hold`] is what a receiver drives. It stands on `Front`: the hand-up point, what was handed up before it, and a ring of the 256
-//! objects from there on, each an `Entry` in its `Seat`. An `Entry` is an object of `rx_object` or a stream of `rx_stream`, and alone decides
-//! which. `fitting` takes objects up, `handing_up` hands up what comes next, and `losing` goes to where the sender's window begins.
+//! Callers meet [`Hold`]; `norm_receiver` drives it. A `Hold` wraps a `Front`: the hand-up point, the hand-ups that wait to be taken, and a
+//! ring of 256 slots for the objects from the hand-up point on. Each object is an `Entry` in its `Seat`. Only `Entry` knows whether it is an
+//! object of `rx_object` or a stream of `rx_stream`. `fitting` takes objects up, `handing_up` hands up what comes next, and `losing` moves to
+//! the beginning of the sender's window.
 #![tactic(auto)]
 
 mod entry;

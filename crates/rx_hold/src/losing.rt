@@ -15,7 +15,8 @@ use norm_base::Memory;
 use norm_order::Up;
 use std::collections::VecDeque;
 
-/// Whether what is at the first place is cut off before this block: there is nothing, or a stream whose next segment is missing.
+/// Whether the object in the first slot is cut off if the window begins at this block of it. A stream is if its next segment is missing and
+/// in an earlier block. An empty slot is if the block is above 0.
 fn is_first_cut_off(ring: &VecDeque<Option<Seat>>, block: u32) -> bool
     ensures { result ≡ cut_by_place block (at_place ring.now.items 0) }
 {
@@ -26,7 +27,7 @@ fn is_first_cut_off(ring: &VecDeque<Option<Seat>>, block: u32) -> bool
 }
 
 impl Front {
-    /// The object at the hand-up point is lost, or the rest of it. It takes no memory.
+    /// Loses the object at the hand-up point, or the rest of it. It takes no memory.
     fn lose_first(&mut self)
         requires front { IsFront self.old }
         requires room { HasRoom 1 self.old }
@@ -44,7 +45,7 @@ impl Front {
         self.lost = true;
     }
 
-    /// Hands up what is there of the objects before an index, in order; what is left of each is lost. It takes no memory.
+    /// Hands up what is ready of the objects before an index, in order, and loses what is left of each. It takes no memory.
     fn lose_all_before(&mut self, index: u32)
         requires front { IsFront self.old }
         requires room { HasRoom (index - self.old.point + 1) self.old }
@@ -62,7 +63,7 @@ impl Front {
         }
     }
 
-    /// Whether the window begins within the object at the hand-up point, and that is cut off.
+    /// Whether the window begins within the object at the hand-up point, and that object is cut off.
     fn is_cut_off(&self, index: u32, block: u32) -> bool
         requires { IsFront self.now }
         ensures exact { (s : Holding) → StandsFor (front_view self.now) s
@@ -73,7 +74,7 @@ impl Front {
         self.point == index && cut
     }
 
-    /// The sender's window begins at this block: what is not there before it is lost. It takes no memory.
+    /// Gives up what is missing before the sender's window, which begins at this block. It takes no memory.
     pub fn lose_before(&mut self, index: u32, block: u32)
         requires front { IsFront self.old }
         requires room { HasRoom (index - self.old.point + 1) self.old }
@@ -91,12 +92,11 @@ impl Front {
         }
     }
 
-    /// The sender's window begins at this block: what is not there before it is lost. It takes first all the memory that the hand-ups
-    /// need.
+    /// Gives up what is missing before the sender's window, which begins at this block. All memory for the hand-ups is reserved first.
     ///
     /// # Errors
     ///
-    /// `Memory` where memory runs out; then nothing changes.
+    /// `Memory` if memory runs out; then nothing changes.
     pub fn squelch(&mut self, index: u32, block: u32) -> Result<(), Memory>
         requires front { IsFront self.old }
         requires last { index < 4294967295 }

@@ -1,5 +1,5 @@
-//! What a receiver asks of what it holds to say what it needs (RFC 5740 section 5.3): the first block that is not done, how far a stream
-//! was seen, and where it ends.
+//! What a receiver asks its hold in order to say what it needs (RFC 5740 section 5.3): the first incomplete block, how far a stream was seen,
+//! and its end.
 
 ghost use Rattle.std.specs.Prelude.{◌≡◌, ◌≤◌, ◌<◌, ◌+◌, IfSome, false, option_map};
 ghost use Rattle.fec_plan.specs.Payload.{Name};
@@ -17,7 +17,7 @@ use crate::ring::entry_at;
 use fec_plan::PayloadId;
 
 impl Front {
-    /// The first block of an object that lacks symbols. `None` where it has no plan, or all its blocks are done.
+    /// Returns the first block of an object that lacks symbols. `None` if it has no plan, or all its blocks are done.
     pub fn first_short(&self, index: u32) -> Option<u32>
         requires front { IsFront self.now }
         requires reached { self.now.point ≤ index }
@@ -32,7 +32,7 @@ impl Front {
         }
     }
 
-    /// The first block of an object behind one that lacks symbols that lacks symbols too. `None` where each is done.
+    /// Returns the next incomplete block of an object after this one. `None` if all later blocks are done.
     pub fn next_short(&self, index: u32, block: u32) -> Option<u32>
         requires front { IsFront self.now }
         requires reached { self.now.point ≤ index }
@@ -48,7 +48,7 @@ impl Front {
         }
     }
 
-    /// The greatest block that was seen of a stream. `None` where no stream has the index.
+    /// Returns the greatest block that was seen of a stream. `None` if this index has no stream.
     pub fn seen(&self, index: u32) -> Option<u32>
         requires front { IsFront self.now }
         requires reached { self.now.point ≤ index }
@@ -60,8 +60,7 @@ impl Front {
         }
     }
 
-    /// The place of a stream's end, where that is held or given by what is held of its block. `None` where that is not so, or no
-    /// stream has the index.
+    /// Returns the position of a stream's end, if the end is held or its block is done. `None` otherwise, and if this index has no stream.
     pub fn end(&self, index: u32) -> Option<PayloadId>
         requires front { IsFront self.now }
         requires reached { self.now.point ≤ index }

@@ -1,12 +1,12 @@
-//! Where hand-ups stand, and what was handed up by it.
+//! The hand-up point, and whether a flush position lies before it.
 
 ghost use Rattle.std.specs.Prelude.{◌≡◌, ◌&&◌, not};
 ghost use Rattle.fec_plan.specs.Points.{position, position_before};
 
 use fec_plan::Position;
 
-/// Where the next source symbol is that is to be handed up. A stream whose last block was handed up, of those that 24 bits name, goes
-/// on behind it, at a block that no message names.
+/// The next source symbol to hand up. If the last block that 24 bits can name was handed up, a stream goes on at block 16,777,216, which no
+/// message names.
 // No `Position`: after the last block that 24 bits name, 16,777,215, a stream goes on at block 16,777,216. No symbol has that block, so a stream
 // that did not end there waits until a squelch makes the rest of it lost.
 #[derive(Clone, Copy, Debug, PartialEq, Eq)]
@@ -17,7 +17,7 @@ pub struct Place {
 }
 
 impl Place {
-    /// Whether it is behind a position, so that nothing through that is left to be handed up.
+    /// Whether everything up to and including a position lies before the hand-up point.
     fn is_behind(&self, at: &Position) -> bool
         ensures { result ≡ position_before at.now (position self.now.index self.now.block self.now.symbol) }
     {
@@ -30,7 +30,8 @@ impl Place {
         at.symbol < self.symbol
     }
 
-    /// Whether all through a position was handed up. If an object was lost, it is not: the hand-up point went past that object too.
+    /// Whether everything up to and including a position was handed up. It was not if an object was lost: the hand-up point went past that
+    /// too.
     pub fn all_handed_up(&self, at: &Position, has_lost: bool) -> bool
         ensures { result ≡ (position_before at.now (position self.now.index self.now.block self.now.symbol) && not has_lost) }
     {

@@ -1,4 +1,4 @@
-//! The places of the 256 objects from the hand-up point on.
+//! The ring of 256 slots for the objects from the hand-up point on.
 
 ghost use Rattle.std.specs.Prelude.{◌≡◌, ◌-◌, ◌<◌, ◌≤◌, [], MatchOption, IfOk, OnErr, None, Some, length, option_copied, option_map, replicate, slice_set, ⊤};
 ghost use Rattle.std.specs.VecDeque.{deque_capacity};
@@ -17,17 +17,17 @@ use std::collections::VecDeque;
 // As many as a sender's window may have (key `window`, up to 256). An object further ahead gets `Away`, and is asked for again later.
 pub const PLACES: usize = 256;
 
-/// What is at a place: an object of either kind.
+/// An object in its slot.
 // `waiting` counts one hand-up for each symbol of a stream that was kept, and two for its open and its loss, less those that were handed up. Data
 // and files take two with the object. That much room is there before a symbol is kept; if it were not, handing up could fail for want of memory.
 #[derive(Debug, Drop)]
 pub struct Seat {
     pub entry: Entry,
-    /// For how many hand-ups of it there is room.
+    /// How many hand-ups of it have room reserved.
     pub waiting: usize,
 }
 
-/// The object with an index that is at the hand-up point or behind it.
+/// Returns the object with an index at or after the hand-up point `point`.
 pub fn entry_at(ring: &VecDeque<Option<Seat>>, point: u32, index: u32) -> Option<&Entry>
     requires { point ≤ index }
     ensures { option_copied result ≡ option_map (λ seat. seat.entry) (at_place ring.now.items (index - point)) }
@@ -38,7 +38,7 @@ pub fn entry_at(ring: &VecDeque<Option<Seat>>, point: u32, index: u32) -> Option
     }
 }
 
-/// Makes each of the places empty, in a ring that has room for them.
+/// Fills a ring that has room for them with empty slots.
 pub fn fill(ring: &mut VecDeque<Option<Seat>>)
     requires empty { ring.old.items ≡ [] }
     requires room { 256 ≤ deque_capacity ring.old }
@@ -51,7 +51,7 @@ pub fn fill(ring: &mut VecDeque<Option<Seat>>)
     }
 }
 
-/// Whether a stream is at a place.
+/// Whether a slot has a stream.
 pub fn is_stream_at(ring: &VecDeque<Option<Seat>>, place: usize) -> bool
     ensures { result ≡ stream_at (at_place ring.now.items place) }
 {
@@ -61,7 +61,8 @@ pub fn is_stream_at(ring: &VecDeque<Option<Seat>>, place: usize) -> bool
     }
 }
 
-/// How many hand-ups more a symbol may make that got this word: a stream's that is kept, a segment. Data and files make one in all.
+/// Returns how many further hand-ups a symbol may cause, by what became of it: one if a stream kept it, otherwise none. Data and files are
+/// handed up once in all, which was counted when they were taken up.
 pub fn counted(is_stream: bool, word: Put) -> usize
     ensures { result ≡ counted is_stream word }
 {
@@ -75,7 +76,7 @@ pub fn counted(is_stream: bool, word: Put) -> usize
 }
 
 impl Seat {
-    /// Offers a symbol, and counts the hand-up that it may make.
+    /// Keeps a symbol if it is new, and counts the hand-up that it may cause.
     fn offer(
         &mut self,
         id: PayloadId,
@@ -96,7 +97,7 @@ impl Seat {
         Ok(word)
     }
 
-    /// A block is seen.
+    /// Notes that a block was seen.
     fn see(&mut self, block: u32)
         requires { IsOfKind self.old.entry }
         ensures { IsSeen block self.old self.new }
@@ -104,7 +105,6 @@ impl Seat {
         self.entry.see(block);
     }
 
-    /// Keeps the info.
     fn put_info(&mut self, info: Octets)
         requires kind { IsOfKind self.old.entry }
         requires new { (entry_of self.old.entry).info ≡ None }
@@ -114,7 +114,7 @@ impl Seat {
     }
 }
 
-/// Offers a symbol to what is at a place.
+/// Keeps a symbol of the object in a slot if it is new. `Away` if the slot is empty.
 pub fn offer_at(
     ring: &mut VecDeque<Option<Seat>>,
     place: usize,
@@ -139,7 +139,7 @@ pub fn offer_at(
     }
 }
 
-/// A block is seen of what is at a place.
+/// Notes that a block was seen of the object in a slot, if there is one.
 pub fn see_at(ring: &mut VecDeque<Option<Seat>>, place: usize, block: u32)
     requires place { place < length ring.old.items }
     requires kind { MatchOption (at_place ring.old.items place) ⊤ (λ seat. IsOfKind seat.entry) }
@@ -151,7 +151,7 @@ pub fn see_at(ring: &mut VecDeque<Option<Seat>>, place: usize, block: u32)
     }
 }
 
-/// Takes what is at a place.
+/// Takes the object out of a slot.
 pub fn take_at(ring: &mut VecDeque<Option<Seat>>, place: usize) -> Option<Seat>
     requires { place < length ring.old.items }
     ensures found { result ≡ at_place ring.old.items place }
@@ -161,7 +161,7 @@ pub fn take_at(ring: &mut VecDeque<Option<Seat>>, place: usize) -> Option<Seat>
     ring[place].take()
 }
 
-/// Keeps the info of what is at a place, where it is there.
+/// Keeps the info of the object in a slot, if there is one.
 pub fn put_info_at(ring: &mut VecDeque<Option<Seat>>, place: usize, info: Octets)
     requires place { place < length ring.old.items }
     requires kind { MatchOption (at_place ring.old.items place) ⊤ (λ seat. IsOfKind seat.entry) }

@@ -1,5 +1,5 @@
-//! The symbols of one block, kept in place: a block's row has as many places as the block has source symbols, each of so
-//! many octets, and beside it stands for each place the id of the symbol that lies there.
+//! The symbols of one block, decoded in place. A block has a slot for each of its source symbols: `size` octets in its row, and the id of the
+//! symbol that came into it, which stays after decoding.
 
 ghost use Rattle.std.specs.Prelude.{ℕ, ◌≡◌, ◌==◌, ◌<◌, ◌≤◌, ◌+◌, ◌*◌, ◌≢◌, length, false, slice_index, IsTrue, EachIndex, MatchOption};
 ghost use Rattle.std.specs.Bool.{Decides};
@@ -11,18 +11,18 @@ ghost use Rattle.rx_object.specs.Places.{AreApart, free_places, has_id, pieces, 
 use norm_order::put_padded;
 use rs_block::Solver;
 
-/// The id of a place where no symbol lies.
+/// The id of a free slot.
 // No symbol has this id: a block has at most 255 encoded symbols (RFC 5510 section 8), with the ids 0 to 254.
 pub const FREE: u8 = 255;
 
-/// The first place that is free. `None` exactly where none is.
+/// Returns the first free slot. `None` if there is none.
 fn first_free(ids: &[u8]) -> Option<usize>
     ensures { MatchOption result (EachIndex ids.now (λ i. slice_index ids.now i ≢ 255)) (λ i. (i < length ids.now) × (slice_index ids.now i ≡ 255)) }
 {
     ids.iter().position(|id| *id == FREE)
 }
 
-/// A place that is free: the symbol's own one where it is a source symbol and its place is free, and else the first one.
+/// Returns a free slot: the symbol's own one if it is a source symbol and that slot is free, otherwise the first free one.
 fn free_place(ids: &[u8], symbol: u8) -> usize
     requires { 0 < free_places ids.now }
     ensures within { result < length ids.now }
@@ -37,7 +37,7 @@ fn free_place(ids: &[u8], symbol: u8) -> usize
     first_free(ids).unwrap()
 }
 
-/// Puts a symbol that is new into a free place.
+/// Puts a new symbol into a free slot.
 fn keep(ids: &mut [u8], row: &mut [u8], size: usize, symbol: u8, payload: &[u8])
     requires id { symbol < 255 }
     requires new { has_id symbol ids.old ≡ false }
@@ -56,7 +56,7 @@ fn keep(ids: &mut [u8], row: &mut [u8], size: usize, symbol: u8, payload: &[u8])
     put_padded(&mut row[start..start + size], payload);
 }
 
-/// Whether each place has its own source symbol.
+/// Whether each slot has its own source symbol.
 fn are_own(ids: &[u8]) -> bool
     ensures { Decides result (EachIndex ids.now (λ i. slice_index ids.now i ≡ i)) }
 {
@@ -68,7 +68,7 @@ fn are_own(ids: &[u8]) -> bool
     true
 }
 
-/// Puts the source symbols of a block of which no place is free into their places.
+/// Replaces the symbols of a block without free slots by its source symbols.
 fn solve(solver: &mut Solver, ids: &[u8], row: &mut [u8])
     requires some { 1 ≤ length ids.now }
     requires few { length ids.now ≤ solver.old.k }
@@ -85,8 +85,8 @@ fn solve(solver: &mut Solver, ids: &[u8], row: &mut [u8])
     solver.solve_in(ids, row);
 }
 
-/// Puts a symbol that is new into a block that lacks so many. As the last one that is lacking comes, the block's source
-/// symbols come to lie at their places. The solver is for blocks of at least as many source symbols of this size.
+/// Puts a new symbol into a block that lacks `lacking`. With the last one, the block's source symbols replace the symbols that came. The
+/// solver is for blocks of at least as many source symbols, of `size` octets each.
 // Proof: what is held is a function of ids, so one more symbol changes one value, and no order of arrival counts.
 pub fn put(
     solver: &mut Solver,

@@ -1,4 +1,4 @@
-//! What is held of one object.
+//! [`Object`]: what is held of one object of data or a file.
 
 ghost use Rattle.std.specs.Prelude.{ℕ, ◌≡◌, ◌==◌, ◌<◌, ◌≤◌, ◌*◌, ◌+◌, ◌-◌, IfOk, IsTrue, None, Some, is_some, true, false, length, take, slice_get, slice_index};
 ghost use Rattle.norm_base.specs.Settings.{Settings};
@@ -33,7 +33,8 @@ use short_blocks::Shorts;
 use std::alloc::Global;
 use std::marker::Model;
 
-/// What is held of an object of data or a file. The rows of its blocks are one buffer, which is handed up as it is.
+/// What is held of an object of data or a file. [`offer`](Object::offer) symbols in any order, and [`put_info`](Object::put_info) once. When
+/// it [`is_whole`](Object::is_whole), [`into_up`](Object::into_up) hands up the one buffer that has all its octets.
 #[derive(Debug, Drop)]
 pub struct Object {
     index: u32,
@@ -41,10 +42,10 @@ pub struct Object {
     flags: u8,
     info: Option<Octets>,
     rows: Rows,
-    /// For each block how many symbols are held.
+    /// How many symbols are held of each block.
     // Always as many as the block has places that are not free. A greater count would end a block early, with zeros for what did not come.
     counts: Vec<u8>,
-    /// The blocks that are not done.
+    /// The incomplete blocks.
     shorts: Shorts,
 }
 
@@ -62,7 +63,7 @@ impl Model for Object {
     ghost invariant = { IsObject };
 }
 
-/// Whether a payload is that of an encoded symbol of an object.
+/// Whether a symbol is an encoded symbol of an object, and the payload has its length.
 fn is_payload(plan: &Plan, block: u32, symbol: u8, payload: &[u8]) -> bool
     ensures exact { result ≡ is_payload plan.now block symbol payload.now }
     ensures id { IsTrue result → symbol < 255 }
@@ -72,7 +73,7 @@ fn is_payload(plan: &Plan, block: u32, symbol: u8, payload: &[u8]) -> bool
         && payload.len() == usize::from(plan.symbol_octets(block, symbol))
 }
 
-/// A block lacked so many symbols, and one came: it is done where that was the last.
+/// Notes that a symbol came for a block that lacked this many: settles the block if that was the last one.
 fn note(shorts: &mut Shorts, block: u32, lacked: u8)
     requires reached { shorts.old.start ≤ block }
     requires short { is_short shorts.old block ≡ true }
@@ -84,7 +85,7 @@ fn note(shorts: &mut Shorts, block: u32, lacked: u8)
     }
 }
 
-/// The kind that flags say.
+/// Returns the kind that the flags say: a file or data.
 fn kind_of(flags: u8) -> Kind
     ensures { result ≡ kind_of flags }
 {
@@ -94,7 +95,7 @@ fn kind_of(flags: u8) -> Kind
     Kind::Data
 }
 
-/// The info of an object that has one.
+/// Returns the info of an object if its flags have one.
 fn told_info(flags: u8, info: Option<Octets>) -> Option<Octets>
     ensures { result ≡ elim (says_info flags) [ true ↦ info | false ↦ None ] }
 {
@@ -104,7 +105,7 @@ fn told_info(flags: u8, info: Option<Octets>) -> Option<Octets>
     None
 }
 
-/// The first octets of these.
+/// Returns the first `len` octets of these.
 fn front_of(octets: Vec<u8>, len: usize) -> Octets
     ensures exact { result ≡ take len octets.items }
     ensures bytes { (i : ℕ) → slice_index octets.items i < 256 }
@@ -115,11 +116,11 @@ fn front_of(octets: Vec<u8>, len: usize) -> Octets
 }
 
 impl Object {
-    /// An object of data or a file of which nothing is held. It takes all the memory that its symbols need.
+    /// Creates an object of which nothing is held. It takes all the memory that its symbols need.
     ///
     /// # Errors
     ///
-    /// `Memory` where memory runs out.
+    /// `Memory` if memory runs out.
     pub fn new(
         alloc: Global,
         index: u32,
@@ -147,35 +148,35 @@ impl Object {
         })
     }
 
-    /// The object's transmission information.
+    /// Returns the transmission information.
     pub fn fti(&self) -> Fti
         ensures { result ≡ self.now.plan.fti }
     {
         self.fti
     }
 
-    /// How many octets the object has.
+    /// Returns how many octets the object has.
     pub fn octets(&self) -> u64
         ensures { result ≡ self.now.plan.fti.l }
     {
         self.fti.l
     }
 
-    /// Its flags.
+    /// Returns the flags.
     pub fn flags(&self) -> u8
         ensures { result ≡ self.now.plan.flags }
     {
         self.flags
     }
 
-    /// How it is cut.
+    /// Returns how the object is cut.
     pub fn plan(&self) -> Plan
         ensures { result ≡ cut_of_plan self.now.plan }
     {
         self.rows.plan
     }
 
-    /// Whether its info is held.
+    /// Whether the info is held.
     pub fn has_info(&self) -> bool
         ensures { result ≡ is_some self.now.info }
     {
@@ -193,7 +194,7 @@ impl Object {
         self.rows.holds(block, symbol)
     }
 
-    /// How many symbols a block lacks to as many as it has source symbols.
+    /// Returns how many more symbols a block needs to be decoded.
     pub fn lacking(&self, block: u32) -> u8
         requires { block < blocks (cut_of_plan self.now.plan) }
         ensures { result ≡ lacking (alone self.now) self.now.plan block }
@@ -201,14 +202,14 @@ impl Object {
         self.rows.plan.source_len(block) - self.counts[block as usize]
     }
 
-    /// Whether a block is one of the object's and lacks nothing.
+    /// Whether a block is one of the object's and is done.
     fn is_done(&self, block: u32) -> bool
         ensures { result ≡ is_done (alone self.now) self.now.plan block }
     {
         block < self.rows.plan.blocks() && self.lacking(block) == 0
     }
 
-    /// Whether a payload is that of an encoded symbol of the object.
+    /// Whether a symbol is an encoded symbol of the object, and the payload has its length.
     fn fits(&self, block: u32, symbol: u8, payload: &[u8]) -> bool
         ensures exact { result ≡ is_payload (cut_of_plan self.now.plan) block symbol payload.now }
         ensures id { IsTrue result → symbol < 255 }
@@ -217,14 +218,14 @@ impl Object {
         is_payload(&self.rows.plan, block, symbol, payload)
     }
 
-    /// The first block that is not done. `None` where all are. It takes constant time.
+    /// Returns the first incomplete block. `None` if all are done. It takes constant time.
     pub fn first_short(&self) -> Option<u32>
         ensures { result ≡ slice_get (short_blocks self.now) 0 }
     {
         self.shorts.first()
     }
 
-    /// The first block behind one that lacks symbols that lacks symbols too. `None` where each is done. It takes constant time.
+    /// Returns the next incomplete block after this one, which is incomplete. `None` if all later blocks are done. It takes constant time.
     pub fn next_short(&self, block: u32) -> Option<u32>
         requires block { block < blocks (cut_of_plan self.now.plan) }
         requires short { is_done (alone self.now) self.now.plan block ≡ false }
@@ -233,21 +234,21 @@ impl Object {
         self.shorts.next(block)
     }
 
-    /// Whether each block is done.
+    /// Whether all blocks are done.
     fn all_done(&self) -> bool
         ensures { result ≡ list_all (is_done (alone self.now) self.now.plan) (range_with_len 0 (blocks (cut_of_plan self.now.plan))) }
     {
         self.shorts.first().is_none()
     }
 
-    /// Whether the object's info is held where it has one.
+    /// Whether the info is held, or the object has none.
     fn has_its_info(&self) -> bool
         ensures { result ≡ has_its_info (alone self.now) self.now.plan }
     {
         !has_flag(self.flags, INFO) || self.info.is_some()
     }
 
-    /// Whether the object is whole: its info is held where it has one, and each block is done. It takes constant time.
+    /// Whether the object can be handed up: all blocks are done, and if it has an info, that is held. It takes constant time.
     pub fn is_whole(&self) -> bool
         ensures { result ≡ is_whole (alone self.now) self.now.plan }
     {
@@ -262,7 +263,7 @@ impl Object {
         self.info = Some(info);
     }
 
-    /// Keeps a symbol that is not held, of a block that is not done.
+    /// Keeps a new symbol of an incomplete block.
     fn put(&mut self, block: u32, symbol: u8, payload: &[u8], solver: &mut Solver)
         requires id { symbol < 255 }
         requires new { holds (alone self.old) (position self.old.plan.index block symbol) ≡ false }
@@ -278,8 +279,12 @@ impl Object {
         note(&mut self.shorts, block, lacking);
     }
 
-    /// A symbol of the object comes: it is kept where it is news, and a block that is done by it is solved by the solver that
-    /// is lent. It takes no memory.
+    /// Keeps a symbol if it is new. If its block lacks no more symbols then, `solver` decodes it. It takes no memory.
+    ///
+    /// Returns the first result that applies:
+    /// - `Had` if the symbol is held, or its block is done.
+    /// - `Unfit` if the object has no such encoded symbol, or the payload does not have its length.
+    /// - `Kept`.
     pub fn offer(&mut self, block: u32, symbol: u8, payload: &[u8], solver: &mut Solver) -> Put
         requires solver { solver.old ≡ record { k = self.old.plan.fti.b; size = self.old.plan.fti.e } }
         ensures word { (p : Settings) → result ≡ put_by p (alone self.old) self.old.plan (position self.old.plan.index block symbol) payload.now }
@@ -299,7 +304,7 @@ impl Object {
         Put::Kept
     }
 
-    /// The hand-up of an object that is whole. It takes no memory, and copies no octets.
+    /// Returns the hand-up of a whole object. It takes no memory, and copies no octets.
     // Proof: each symbol is whole or reaches as far as is taken (Covers), so it need not be known which one is the last.
     pub fn into_up(self) -> Up
         requires { is_whole (alone self) self.plan ≡ true }

@@ -1,4 +1,4 @@
-//! The blocks of an object, one behind the other in one buffer.
+//! [`Rows`]: the blocks of an object, one after another in one buffer.
 
 ghost use Rattle.std.specs.Prelude.{ℕ, [], ◌≡◌, ◌≢◌, ◌<◌, ◌≤◌, ◌*◌, ◌+◌, ◌^◌, IfOk, Some, is_some, true, false, length, replicate};
 ghost use Rattle.fec_plan.specs.Partition.{blocks, all_symbols};
@@ -14,23 +14,23 @@ use rs_block::Solver;
 use std::alloc::Global;
 use symbol_mask::IdMask;
 
-/// A place for each source symbol of an object, block by block.
+/// A slot for each source symbol of an object, block by block.
 // One buffer for the whole object, made with its plan: a hand-up cuts it to the object's length and gives it away, with no copy and no memory.
 // Source symbols lie at their places, so of a block that lacked some only the places are written that had another symbol.
 #[derive(Debug, Drop)]
 pub struct Rows {
     /// How the object is cut.
     pub plan: Plan,
-    /// The octets of all places.
+    /// The octets of all slots.
     pub octets: Vec<u8>,
-    /// For each place the id of the symbol that lies there.
+    /// The id of the symbol that came into each slot, or [`FREE`]. It stays after the block was decoded.
     pub ids: Vec<u8>,
-    /// For each block the ids of its places as a set.
+    /// The ids of the symbols that came of each block, as a set.
     // The ids of a block twice: `ids` says which symbol lies where, this in one look whether a symbol came, in whatever order they come.
     pub masks: Vec<IdMask>,
 }
 
-/// The first place of a block.
+/// Returns the first slot of a block.
 fn start_of(plan: &Plan, block: u32) -> usize
     requires object { is_some plan.now.l ≡ true }
     ensures exact { result ≡ start_of plan.now block }
@@ -39,7 +39,7 @@ fn start_of(plan: &Plan, block: u32) -> usize
     plan.symbol_number(block, 0) as usize
 }
 
-/// The place behind the last one of a block.
+/// Returns the slot after the last one of a block.
 fn end_of(plan: &Plan, block: u32) -> usize
     requires object { is_some plan.now.l ≡ true }
     ensures { result ≡ end_of plan.now block }
@@ -47,7 +47,7 @@ fn end_of(plan: &Plan, block: u32) -> usize
     start_of(plan, block) + usize::from(plan.source_len(block))
 }
 
-/// So many empty sets.
+/// Returns this many empty sets.
 fn empty_masks(alloc: Global, count: u32) -> Result<Vec<IdMask>, Memory>
     ensures { IfOk result (λ masks. masks.items ≡ replicate count []) }
 {
@@ -58,7 +58,7 @@ fn empty_masks(alloc: Global, count: u32) -> Result<Vec<IdMask>, Memory>
     Ok(masks)
 }
 
-/// Puts a symbol that is new into a block that lacks so many, and solves the block that is whole by it.
+/// Puts a new symbol into a block that lacks `lacking`, and decodes the block if that was the last one.
 // Proof: it takes lent slices, so the written parts are known. A method on the vectors would leave take n (new ++ drop ..).
 fn put_at(
     plan: &Plan,
@@ -98,11 +98,11 @@ fn put_at(
 }
 
 impl Rows {
-    /// Places that are all free. It takes all the memory that the symbols of the object need.
+    /// Creates free slots. It takes all the memory that the symbols of the object need.
     ///
     /// # Errors
     ///
-    /// `Memory` where memory runs out.
+    /// `Memory` if memory runs out.
     pub fn new(alloc: Global, plan: &Plan) -> Result<Rows, Memory>
         requires object { is_some plan.now.l ≡ true }
         requires most { (l : ℕ) → plan.now.l ≡ Some l → l ≤ 16777216 }
@@ -124,7 +124,7 @@ impl Rows {
         })
     }
 
-    /// Whether a symbol lies in a block. It takes constant time.
+    /// Whether a symbol of a block came. It takes constant time.
     pub fn holds(&self, block: u32, symbol: u8) -> bool
         requires rows { AreRows self.now }
         requires block { block < blocks self.now.plan }
@@ -134,7 +134,7 @@ impl Rows {
         self.masks[block as usize].contains(symbol)
     }
 
-    /// Puts a symbol that is new into a block that lacks so many, and solves the block that is whole by it. It takes no memory.
+    /// Puts a new symbol into a block that lacks `lacking`, and decodes the block if that was the last one. It takes no memory.
     pub fn put(&mut self, block: u32, symbol: u8, payload: &[u8], lacking: u8, solver: &mut Solver)
         requires rows { AreRows self.old }
         requires block { block < blocks self.old.plan }

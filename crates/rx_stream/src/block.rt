@@ -1,4 +1,4 @@
-//! The symbols of one block, which are solved in place.
+//! [`Block`]: the symbols of one block of a stream, which are decoded in place.
 
 ghost use Rattle.std.specs.Prelude.{ℕ, true, false, List, [], ◌≡◌, ◌≢◌, ◌==◌, ◌<◌, ◌≤◌, ◌-◌, ◌+◌, MatchOption, EachIndex, IfSome, OnErr, OnOk, IfOk, is_some, length, insert, option_copied, nat_lt, slice_index};
 ghost use Rattle.std.specs.Bool.{Decides};
@@ -20,22 +20,22 @@ use std::marker::Model;
 use std::mem;
 use symbol_mask::IdMask;
 
-/// What is held of a block: [`put`](Block::put) keeps a symbol that is new while some are lacking, and as the last one that
-/// is lacking comes, the block's source symbols come to lie in its rows.
+/// What is held of a block. [`put`](Block::put) each new symbol while the block lacks some. With the last one that it lacks, the block's
+/// source symbols replace the symbols that came.
 // A row for each symbol, in the order of ids: a stream's octets then stand once, and what is held is listed in the order of the rules. A symbol
 // that comes in order costs a comparison with the last id. `ids`, `mask` and `rows` speak of the same symbols; if one went apart, a block would be
 // solved from rows that are not what their ids say.
 #[derive(Debug, Drop)]
 pub struct Block {
     k: u8,
-    /// Octets of a symbol as it is coded.
+    /// The octets of a coded symbol.
     size: usize,
-    /// The ids of the symbols that came, in order.
+    /// The ids of the symbols that came, in ascending order.
     ids: Vec<u8>,
-    /// The same ids as a set, which tells in constant time whether one came.
+    /// The same ids as a set, which tells in constant time whether a symbol came.
     // The ids twice, because symbols come in any order: the list says what lies where, and this in one look whether a symbol came.
     mask: IdMask,
-    /// A row for each of them: its octets, or where none is lacking those of a source symbol.
+    /// The octets of each symbol in `ids`. After the block was decoded, those of its source symbols 0 to k - 1.
     rows: Vec<Row>,
 }
 
@@ -50,7 +50,7 @@ impl Model for Block {
     ghost invariant = { λ b. BlockKept b.k b.size b.ids.items b.mask b.rows.items };
 }
 
-/// Whether an id is above all of these, as that of a symbol that comes in order is: the last of them tells.
+/// Whether an id is above all of these, as that of a symbol that comes in order is.
 fn is_above_all(ids: &[u8], id: u8) -> bool
     requires { Rises ids.now }
     ensures { result ≡ true → AllByRecursion (λ (x : ℕ). x < id) ids.now }
@@ -61,7 +61,7 @@ fn is_above_all(ids: &[u8], id: u8) -> bool
     ids[ids.len() - 1] < id
 }
 
-/// Where an id belongs among ids that rise. For one that comes in order it takes constant time.
+/// Returns the index at which to insert an id into ascending ids. It takes constant time for a symbol that comes in order.
 fn place_for(ids: &[u8], id: u8) -> usize
     requires { Rises ids.now }
     ensures { IsPlace id ids.now result }
@@ -77,7 +77,7 @@ fn place_for(ids: &[u8], id: u8) -> usize
     ids.len()
 }
 
-/// Where an id stands.
+/// Returns the index of an id.
 fn position_of(ids: &[u8], id: u8) -> Option<usize>
     ensures { MatchOption result
         (EachIndex ids.now (λ i. slice_index ids.now i ≢ id))
@@ -86,7 +86,7 @@ fn position_of(ids: &[u8], id: u8) -> Option<usize>
     ids.iter().position(|other| *other == id)
 }
 
-/// Puts an id, and its row, where they belong.
+/// Inserts an id and its row at their index, and returns that. If memory runs out nothing changes.
 // Proof: the id and its row go to one index, so they are one insertion into the list of ids with rows (listed_more).
 fn keep(
     ids: &mut Vec<u8>,
@@ -113,7 +113,7 @@ fn keep(
     Ok(place)
 }
 
-/// Whether each id is its own place, as where a block's source symbols came and no other.
+/// Whether each id equals its own index. For a full block that means that exactly its source symbols came.
 fn are_own(ids: &[u8]) -> bool
     requires { Rises ids.now }
     ensures { Decides result (EachIndex ids.now (λ i. slice_index ids.now i ≡ i)) }
@@ -126,7 +126,7 @@ fn are_own(ids: &[u8]) -> bool
     usize::from(ids[last]) == last
 }
 
-/// Solves a block of which none is lacking. Where its own source symbols came nothing is done.
+/// Decodes a block if it lacks no symbols. Does nothing if its own source symbols came.
 // Proof: encoding the solved rows gives what came, so solving in place leaves the listed symbols as they were (encoded_again).
 fn settle(k: u8, ids: &[u8], rows: &mut [Row], solver: &mut Solver)
     requires some { 1 ≤ k }
@@ -153,7 +153,7 @@ fn settle(k: u8, ids: &[u8], rows: &mut [Row], solver: &mut Solver)
 impl Block {
     ghost use Rattle.rx_stream.specs.BlockState.{BlockState};
 
-    /// A block of which nothing came, of `k` source symbols of `size` octets. It takes no memory.
+    /// Creates an empty block of `k` source symbols of `size` octets. It takes no memory.
     pub fn new(alloc: Global, k: u8, size: usize) -> Block
         requires some { 1 ≤ k }
         requires least { 8 ≤ size }
@@ -169,14 +169,14 @@ impl Block {
         }
     }
 
-    /// Whether the symbol with an id came. It takes constant time.
+    /// Whether a symbol came. It takes constant time.
     pub fn has(&self, id: u8) -> bool
         ensures { result ≡ has_id self.now id }
     {
         self.mask.contains(id)
     }
 
-    /// How many symbols are lacking to as many as there are source symbols.
+    /// Returns how many more symbols the block needs to be decoded.
     pub fn lacks(&self) -> u8
         ensures exact { result ≡ lacks self.now }
         ensures most { result ≤ self.now.k }
@@ -184,11 +184,11 @@ impl Block {
         self.k - self.ids.len() as u8
     }
 
-    /// A symbol comes that is new, while some are lacking. It takes the memory of one symbol, and none for solving.
+    /// Adds a new symbol to a block that lacks some. It takes the memory of one symbol, and none for decoding.
     ///
     /// # Errors
     ///
-    /// `Memory` where memory runs out; then nothing changes.
+    /// `Memory` if memory runs out; then nothing changes.
     pub fn put(
         &mut self,
         alloc: Global,
@@ -208,7 +208,7 @@ impl Block {
         Ok(())
     }
 
-    /// A source symbol as it is coded, where it came or none is lacking.
+    /// Returns a source symbol as it is coded, if it came or the block was decoded.
     pub fn row(&self, symbol: u8) -> Option<&Row>
         requires { symbol < self.now.k }
         ensures coded { IsRow self.now.size (source_of self.now symbol) (option_copied result) }
@@ -223,7 +223,7 @@ impl Block {
         }
     }
 
-    /// Whether a source symbol is there, and is a segment of no octets, where a segment has at most `most`.
+    /// Whether a source symbol is there, and is a segment without octets. `most` is the most octets of a segment.
     fn is_end(&self, most: u16, symbol: u8) -> bool
         requires symbol { symbol < self.now.k }
         requires most { self.now.size ≡ most + 8 }
@@ -235,8 +235,8 @@ impl Block {
         }
     }
 
-    /// The first source symbol that is there and is a segment of no octets, where a segment has at most `most`. Of a block of
-    /// which nothing came it takes constant time.
+    /// Returns the first source symbol that is there and is a segment without octets. `most` is the most octets of a segment. It takes
+    /// constant time if the block is empty.
     pub fn end(&self, most: u16) -> Option<u8>
         requires { self.now.size ≡ most + 8 }
         ensures { result ≡ end_in_block most self.now }
@@ -253,7 +253,7 @@ impl Block {
         None
     }
 
-    /// The rows of a block each of whose source symbols is there. It takes no memory.
+    /// Returns the rows of a block whose source symbols are all there. It takes no memory.
     pub fn into_rows(self) -> Vec<Row>
         requires { (symbol : ℕ) → symbol < self.k → is_some (source_of self symbol) ≡ true }
         ensures count { length result.items ≡ self.k }

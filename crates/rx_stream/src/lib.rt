@@ -1,8 +1,8 @@
 //! What a NORM receiver holds of one stream until its segments are handed up (RFC 5740 sections 4.2.1 and 5.3).
 //!
-//! A receiver drives a [`Stream`] for each stream that it takes up: it offers each symbol that comes, and takes the hand-up of
-//! each segment that is there next. The stream stands on a ring of [`Block`]s, of which any k symbols give the segments back (RFC
-//! 5510 section 8.3), and whose symbols lie in [`Row`]s. One [`Solver`](rs_block::Solver) serves all streams of a profile.
+//! Callers meet [`Stream`]; `rx_hold` has one for each stream that was taken up, offers it each symbol, and takes each next segment from it.
+//! A stream keeps its symbols in a ring of [`Block`]s, each symbol in a [`Row`]. Any k symbols of a block give back its segments (RFC 5510
+//! section 8.3). One [`Solver`](rs_block::Solver) serves all streams of a profile.
 #![tactic(auto)]
 
 mod block;

@@ -1,4 +1,4 @@
-//! The octets of one symbol, as they are coded: those that are sent of it, and zeros behind them.
+//! The octets of one symbol as it is coded: those that are sent of it, and zeros up to the size of a symbol.
 
 ghost use Rattle.std.specs.Prelude.{◌≡◌, ◌≤◌, ◌+◌, IfOk, length, min, take, drop};
 ghost use Rattle.norm_ext.specs.Numbers.{number};
@@ -11,11 +11,11 @@ use norm_order::put_padded;
 use rs_block::Row;
 use std::alloc::Global;
 
-/// A symbol of `size` octets that was sent with these.
+/// Returns a symbol of `size` octets, of which these were sent.
 ///
 /// # Errors
 ///
-/// `Memory` where memory runs out.
+/// `Memory` if memory runs out.
 pub fn coded_row(alloc: Global, payload: &[u8], size: usize) -> Result<Row, Memory>
     requires { length payload.now ≤ size }
     ensures { IfOk result (λ row. row ≡ padded size payload.now) }
@@ -25,7 +25,7 @@ pub fn coded_row(alloc: Global, payload: &[u8], size: usize) -> Result<Row, Memo
     Ok(Row::of(octets))
 }
 
-/// How many octets of its own a segment that is coded so has: as many as it says, and at most so many.
+/// Returns how many octets of data a coded segment has: as many as it says, and at most `most`.
 pub fn segment_len(row: &Row, most: u16) -> u16
     requires { 8 ≤ length row.now }
     ensures { result ≡ min (number 2 0 row.now) most }
@@ -34,7 +34,7 @@ pub fn segment_len(row: &Row, most: u16) -> u16
     read_16(row.octets(), 0).min(most)
 }
 
-/// Where the segment that is coded so stands in its stream, as it says.
+/// Returns the offset in the stream that a coded segment says it has.
 pub fn offset_of(row: &Row) -> u32
     requires { 8 ≤ length row.now }
     ensures { result ≡ number 4 4 row.now }
@@ -42,7 +42,7 @@ pub fn offset_of(row: &Row) -> u32
     read_32(row.octets(), 4)
 }
 
-/// The first octets of the segment that is coded so, without its place. It takes no memory.
+/// Returns the first `len` octets of a coded segment's data, without its header. It takes no memory.
 pub fn segment_of(row: Row, len: usize) -> Octets
     requires { 8 + len ≤ length row }
     ensures { result ≡ take len (drop 8 row) }

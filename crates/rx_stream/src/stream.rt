@@ -1,4 +1,4 @@
-//! The blocks of one stream, from its next segment on.
+//! [`Stream`]: the blocks of one stream from its next segment on.
 
 ghost use Rattle.std.specs.Prelude.{ℕ, List, [], ◌≡◌, ◌==◌, ◌<◌, ◌≤◌, ◌+◌, IfOk, IsTrue, OnErr, MatchOption, IfSome, length, max, min, not, is_some, true, false, Some, None, replicate, slice_index_or, slice_set, option_copied, option_map, cond, nat_lt, unwrap_or, take, drop, ◌∷◌, ◌++◌};
 ghost use Rattle.std.specs.List.{AllByRecursion};
@@ -37,8 +37,8 @@ use std::collections::VecDeque;
 use std::marker::Model;
 use std::mem;
 
-/// What is held of a stream. Symbols are offered in any order, of any block from the next segment's on, and segments are
-/// handed up in order.
+/// What is held of a stream. [`offer`](Stream::offer) symbols in any order, from the block of the next segment on. Then call
+/// [`hand_up`](Stream::hand_up) until it returns `None` or the stream's end.
 // There is a spare row for each segment that is left of the first block. With one less a hand-up would need memory.
 #[derive(Debug, Drop)]
 pub struct Stream {
@@ -50,15 +50,15 @@ pub struct Stream {
     seen: u32,
     info: Option<Octets>,
     plan: Plan,
-    /// The block of the next segment, and the segment in it.
+    /// The block of the next segment, and the segment's symbol in it.
     first: u32,
     symbol: u8,
-    /// The blocks from that one on.
+    /// The blocks from `first` on.
     ring: VecDeque<Block>,
-    /// Rows in which the segments of the first block are handed up from the next one on, one for each. Those of a block that
-    /// was passed serve for the next block.
+    /// Buffers for handing up the first block, one for each segment of it that is left. After a block was handed up, its rows serve for the
+    /// next block.
     spares: Vec<Row>,
-    /// Which of the ring's blocks are not done.
+    /// Which blocks of the ring are incomplete.
     shorts: Shorts,
 }
 
@@ -74,7 +74,7 @@ impl Model for Stream {
     ghost invariant = { λ s. StreamKept (record { index = s.index; fti = s.fti; flags = s.flags; seen = s.seen }) s.plan s.first s.symbol s.ring.items s.spares.items s.shorts };
 }
 
-/// Whether a payload is one segment of at most `e` octets, and nothing behind it.
+/// Whether a payload is exactly one segment of at most `e` octets.
 fn is_one_segment(e: u16, payload: &[u8]) -> bool
     ensures exact { (p : Settings) → p.e ≡ e → result ≡ is_segment p payload.now }
     ensures sent { IsTrue result → (8 ≤ length payload.now) × (8 + number 2 0 payload.now ≡ length payload.now) × (length payload.now ≤ e + 8) }
@@ -86,7 +86,7 @@ fn is_one_segment(e: u16, payload: &[u8]) -> bool
     len <= e && payload.len() == PLACE + usize::from(len)
 }
 
-/// Whether a symbol is an encoded symbol of a stream that is cut so, and the payload is its.
+/// Whether a symbol is an encoded symbol of a stream with this plan, and the payload fits it.
 fn fits(plan: &Plan, block: u32, symbol: u8, payload: &[u8]) -> bool
     requires { plan.now.l ≡ None }
     ensures exact { (p : Settings) → p.e ≡ plan.now.e → result ≡ fits_cut p plan.now block symbol payload.now }
@@ -107,7 +107,7 @@ fn fits(plan: &Plan, block: u32, symbol: u8, payload: &[u8]) -> bool
     payload.len() == usize::from(plan.e()) + PLACE
 }
 
-/// Puts empty blocks into a ring that has room for them.
+/// Fills a ring that has room for them with `room` empty blocks.
 fn fill(alloc: Global, k: u8, size: usize, ring: &mut VecDeque<Block>, room: usize)
     requires empty { ring.old.items ≡ [] }
     requires room { room ≤ deque_capacity ring.old }
@@ -122,7 +122,7 @@ fn fill(alloc: Global, k: u8, size: usize, ring: &mut VecDeque<Block>, room: usi
     }
 }
 
-/// Keeps a symbol of the block at a place.
+/// Keeps a symbol of the block in a slot.
 fn put_at(
     ring: &mut VecDeque<Block>,
     place: usize,
@@ -141,7 +141,7 @@ fn put_at(
     ring[place].put(alloc, symbol, payload, solver)
 }
 
-/// A symbol came of the block at a place, which lacked some: it is done where none is lacking now.
+/// Notes that a symbol came for the block in a slot, which was incomplete: settles the block if it is done now.
 fn note(ring: &VecDeque<Block>, place: usize, shorts: &mut Shorts, block: u32)
     requires place { place < length ring.now.items }
     requires reached { shorts.old.start ≤ block }
@@ -154,7 +154,8 @@ fn note(ring: &VecDeque<Block>, place: usize, shorts: &mut Shorts, block: u32)
     }
 }
 
-/// The block that was found, or the one behind the ring where none was, which lacks all its symbols: where the stream has it.
+/// Returns the block that was found, or the one after the ring if none was, which lacks all its symbols. `None` if the stream has no such
+/// block.
 fn first_of(found: Option<u32>, behind: u32, blocks: u32) -> Option<u32>
     ensures { result ≡ cond (nat_lt (unwrap_or found behind) blocks) (Some (unwrap_or found behind)) None }
 {
@@ -165,7 +166,7 @@ fn first_of(found: Option<u32>, behind: u32, blocks: u32) -> Option<u32>
     None
 }
 
-/// The block behind a ring.
+/// Returns the block after a ring.
 fn behind_ring(first: u32, ring: &VecDeque<Block>) -> u32
     requires named { first ≤ 16777216 }
     requires few { length ring.now.items < 65536 }
@@ -174,7 +175,7 @@ fn behind_ring(first: u32, ring: &VecDeque<Block>) -> u32
     first + ring.len() as u32
 }
 
-/// The place of a block behind the first one.
+/// Returns the slot of a block.
 fn place_of(first: u32, block: u32) -> usize
     requires { first ≤ block }
     ensures { result + first ≡ block }
@@ -182,7 +183,7 @@ fn place_of(first: u32, block: u32) -> usize
     (block - first) as usize
 }
 
-/// Whether a place lies behind the ring.
+/// Whether a slot lies outside the ring.
 fn is_beyond(ring: &VecDeque<Block>, place: usize) -> bool
     ensures beyond { result ≡ true → length ring.now.items ≤ place }
     ensures within { result ≡ false → place < length ring.now.items }
@@ -190,8 +191,7 @@ fn is_beyond(ring: &VecDeque<Block>, place: usize) -> bool
     place >= ring.len()
 }
 
-/// Takes the first block away, each of whose source symbols is there, and puts another behind the last one. The rows of the
-/// block are given back.
+/// Replaces the first block, whose source symbols are all there, by an empty one at the end. Returns the rows of the first block.
 // Proof: replace and rotate_left need no room to be shown.
 fn shift(ring: &mut VecDeque<Block>, block: Block) -> Vec<Row>
     requires some { 0 < length ring.old.items }
@@ -205,7 +205,7 @@ fn shift(ring: &mut VecDeque<Block>, block: Block) -> Vec<Row>
     first.into_rows()
 }
 
-/// So many rows of zeros.
+/// Returns this many rows of zeros.
 fn spare_rows(alloc: Global, count: u8, size: usize) -> Result<Vec<Row>, Memory>
     ensures count { IfOk result (λ rows. length rows.items ≡ count) }
     ensures sizes { IfOk result (λ rows. AllByRecursion (λ (row : List ℕ). length row ≡ size) rows.items) }
@@ -217,7 +217,7 @@ fn spare_rows(alloc: Global, count: u8, size: usize) -> Result<Vec<Row>, Memory>
     Ok(rows)
 }
 
-/// The first octets of a segment, in one of the spare rows.
+/// Returns the first `len` octets of a segment's data, copied into one of the spare rows.
 // An unfinished block needs its own row to be solved, so a hand-up goes into a spare one. There are as many spares as segments left.
 fn copy_of(row: &Row, spares: &mut Vec<Row>, len: usize) -> Octets
     requires some { 0 < length spares.old.items }
@@ -236,11 +236,12 @@ fn copy_of(row: &Row, spares: &mut Vec<Row>, len: usize) -> Octets
 impl Stream {
     ghost use Rattle.rx_stream.specs.StreamState.{StreamState};
 
-    /// A stream of which nothing is held, with room for so many blocks.
+    /// Creates a stream of which nothing is held, with room for `room` blocks. It takes the memory of these empty blocks, and that to hand up
+    /// one block.
     ///
     /// # Errors
     ///
-    /// `Memory` where memory runs out.
+    /// `Memory` if memory runs out.
     pub fn new(
         alloc: Global,
         index: u32,
@@ -281,63 +282,63 @@ impl Stream {
         })
     }
 
-    /// A block is seen, whether what came with it is kept or not.
+    /// Notes that a block was seen, whether or not its symbol was kept.
     pub fn see(&mut self, block: u32)
         ensures { self.new ≡ record self.old { plan = record (self.old.plan) { seen = max self.old.plan.seen block } } }
     {
         self.seen = self.seen.max(block);
     }
 
-    /// The stream's transmission information.
+    /// Returns the transmission information.
     pub fn fti(&self) -> Fti
         ensures { result ≡ self.now.plan.fti }
     {
         self.fti
     }
 
-    /// How the stream is cut.
+    /// Returns how the stream is cut.
     pub fn plan(&self) -> Plan
         ensures { result ≡ cut_of_plan self.now.plan }
     {
         self.plan
     }
 
-    /// The stream's flags.
+    /// Returns the flags.
     pub fn flags(&self) -> u8
         ensures { result ≡ self.now.plan.flags }
     {
         self.flags
     }
 
-    /// The greatest block that was seen.
+    /// Returns the greatest block that was seen.
     pub fn seen(&self) -> u32
         ensures { result ≡ self.now.plan.seen }
     {
         self.seen
     }
 
-    /// The block of the next segment.
+    /// Returns the block of the next segment.
     pub fn first_block(&self) -> u32
         ensures { result ≡ self.now.point.block }
     {
         self.first
     }
 
-    /// The next segment in its block.
+    /// Returns the symbol of the next segment, within its block.
     pub fn first_symbol(&self) -> u8
         ensures { result ≡ self.now.point.symbol }
     {
         self.symbol
     }
 
-    /// Whether the stream's info is held.
+    /// Whether the info is held.
     pub fn has_info(&self) -> bool
         ensures { result ≡ is_some self.now.info }
     {
         self.info.is_some()
     }
 
-    /// Whether the stream's info is held where it has one: its segments wait for it.
+    /// Whether the info is held, or the stream has none. No segment is handed up before that.
     pub fn has_its_info(&self) -> bool
         ensures { result ≡ has_its_info (alone self.now) self.now.plan }
     {
@@ -364,7 +365,7 @@ impl Stream {
         self.ring[place].has(symbol)
     }
 
-    /// How many symbols a block from the next segment's on lacks to as many as it has source symbols.
+    /// Returns how many more symbols a block needs to be decoded. The block is the next segment's or a later one.
     pub fn lacking(&self, block: u32) -> u8
         requires { self.now.point.block ≤ block }
         ensures { result ≡ lacking (alone self.now) self.now.plan block }
@@ -376,7 +377,7 @@ impl Stream {
         self.ring[place].lacks()
     }
 
-    /// Whether none of a block from the next segment's on is lacking.
+    /// Whether a block has enough symbols to be decoded. It is the next segment's or a later one.
     fn is_done(&self, block: u32) -> bool
         requires { self.now.point.block ≤ block }
         ensures { result ≡ is_done (alone self.now) self.now.plan block }
@@ -384,7 +385,7 @@ impl Stream {
         self.lacking(block) == 0
     }
 
-    /// The first block from the next segment's on that lacks symbols. It takes constant time.
+    /// Returns the first incomplete block from the next segment's on. It takes constant time.
     pub fn first_short(&self) -> Option<u32>
         ensures { IsShortFrom (alone self.now) self.now.plan self.now.point.block result }
     {
@@ -393,7 +394,7 @@ impl Stream {
         first_of(self.shorts.first(), behind, blocks)
     }
 
-    /// The first block behind one that lacks symbols that lacks symbols too. It takes constant time.
+    /// Returns the next incomplete block after this one, which is incomplete. It takes constant time.
     pub fn next_short(&self, block: u32) -> Option<u32>
         requires reached { self.now.point.block ≤ block }
         requires block { block < blocks (cut_of_plan self.now.plan) }
@@ -409,7 +410,7 @@ impl Stream {
         first_of(self.shorts.next(block), behind, blocks)
     }
 
-    /// Whether there is no room for a block.
+    /// Whether there is no room for a block yet.
     fn is_far(&self, block: u32) -> bool
         requires { self.now.point.block ≤ block }
         ensures exact { (p : Settings) → IsOf p self.now → result ≡ is_far p (alone self.now) self.now.plan block }
@@ -418,7 +419,7 @@ impl Stream {
         is_beyond(&self.ring, place_of(self.first, block))
     }
 
-    /// Whether a symbol is an encoded one of the stream, and the payload is its.
+    /// Whether a symbol is an encoded symbol of the stream, and the payload fits it.
     fn suits(&self, block: u32, symbol: u8, payload: &[u8]) -> bool
         ensures exact { (p : Settings) → IsOf p self.now → result ≡ not (is_misfit p self.now.plan (position self.now.plan.index block symbol) payload.now) }
         ensures small { result ≡ true → symbol < 255 }
@@ -428,7 +429,7 @@ impl Stream {
         fits(&self.plan, block, symbol, payload)
     }
 
-    /// The word that a symbol gets, of a block from the next segment's on.
+    /// Returns what [`offer`](Stream::offer) does with a symbol, without keeping it.
     // Proof: the tests of the rules are private methods with these tests as clauses, so nothing of what is kept is opened here.
     fn word(&self, block: u32, symbol: u8, payload: &[u8]) -> Put
         requires { self.now.point.block ≤ block }
@@ -450,7 +451,7 @@ impl Stream {
         Put::Kept
     }
 
-    /// Keeps a symbol.
+    /// Keeps a symbol, which is new. If memory runs out nothing changes.
     fn keep(
         &mut self,
         block: u32,
@@ -471,16 +472,18 @@ impl Stream {
         Ok(())
     }
 
-    /// A symbol comes, of a block from the next segment's on: it is kept where it is news, and a block of which none is
-    /// lacking then is solved.
+    /// Keeps a symbol if it is new, of a block from the next segment's on. If the block lacks no more symbols then, `solver` decodes it.
     ///
-    /// The first word that applies: `Had` where the symbol is held, or none of its block is lacking; `Away` where there is
-    /// no room for its block; `Unfit` where it is no encoded symbol of the stream, or the payload is not one segment of at
-    /// most `e` octets, or of another symbol not of `e` + 8; `Kept`.
+    /// Returns the first result that applies:
+    /// - `Had` if the symbol is held, or its block is done.
+    /// - `Away` if there is no room for its block yet.
+    /// - `Unfit` if the stream has no such encoded symbol, or the payload has the wrong form. A source symbol is one segment of at most `e`
+    ///   octets, and any other symbol has `e` + 8 octets.
+    /// - `Kept`.
     ///
     /// # Errors
     ///
-    /// `Memory` where memory runs out; then nothing changes.
+    /// `Memory` if memory runs out; then nothing changes.
     pub fn offer(
         &mut self,
         block: u32,
@@ -503,8 +506,8 @@ impl Stream {
         Ok(word)
     }
 
-    /// The next segment as it is coded, where it is there: the eight octets of its place and its own ones, with zeros
-    /// behind them.
+    /// Returns the next segment as it is coded, if it is there: the eight octets of its header, its data, and zeros up to the size of a
+    /// symbol.
     pub fn next(&self) -> Option<&Row>
         ensures coded { IsRow (self.now.plan.fti.e + 8) (next_segment (alone self.now) self.now.plan) (option_copied result) }
         ensures long { IfSome (option_copied result) (λ row. length row ≡ self.now.plan.fti.e + 8) }
@@ -512,7 +515,7 @@ impl Stream {
         self.ring[0].row(self.symbol)
     }
 
-    /// The octets of the next segment. The one behind it is the next then, and of a block that ends by it nothing is kept.
+    /// Takes the data of the next segment, and goes on to the segment after it. The block is dropped with its last segment.
     fn take_segment(&mut self, len: u16) -> Octets
         requires { MatchOption (next_segment (alone self.old) self.old.plan) ⊥ (λ symbol. len ≡ min (number 2 0 symbol) self.old.plan.fti.e) }
         ensures octets { IfSome (next_segment (alone self.old) self.old.plan) (λ symbol. result ≡ take len (drop 8 symbol)) }
@@ -536,10 +539,8 @@ impl Stream {
         bytes
     }
 
-    /// The next segment is handed up, where it is there, and the stream's info where it has one: the one behind it is the next
-    /// then, and of a block that ends by it nothing is kept. The end, a segment of no octets, is handed up and stays: nothing
-    /// comes behind it. It takes no memory. Each hand-up leaves fewer segments that can be handed up of what is held, so that their
-    /// number is known before.
+    /// Hands up the next segment if it is there, and goes on to the segment after it. If the stream has an info, that must be held too. The
+    /// end, a segment without octets, is handed up as `StreamEnd` and stays the next segment: nothing comes after it. It takes no memory.
     pub fn hand_up(&mut self) -> Option<Up>
         ensures up { (p : Settings) → p.e ≡ self.old.plan.fti.e → result ≡ next_up p self.old }
         ensures state { self.new ≡ handed_on result self.old }
@@ -566,8 +567,8 @@ impl Stream {
         })
     }
 
-    /// The place of the stream's end, where it is held or given by what is held of its block. It looks at each block from the
-    /// next segment's on, at one of which nothing is held for a moment only.
+    /// Returns the position of the stream's end, if the end is held or its block is done. It looks at each block of the ring, but a block
+    /// without symbols takes constant time.
     // Proof: the first of a loop over a range is find over it: this loop goes over blocks, that of Block::end over symbols.
     pub fn end(&self) -> Option<PayloadId>
         ensures { (p : Settings) → p.e ≡ self.now.plan.fti.e

@@ -1,4 +1,4 @@
-//! What an object of either kind needs: its first block that is not done, how far a stream was seen, and where it ends.
+//! What an object of either kind needs: its first incomplete block, how far a stream was seen, and its end.
 
 ghost use Rattle.std.specs.Prelude.{◌≡◌, ◌+◌, option_map};
 ghost use Rattle.norm_base.specs.Settings.{Settings};
@@ -22,7 +22,7 @@ impl Entry {
         }
     }
 
-    /// Returns the next block after this one that lacks symbols. This one lacks some.
+    /// Returns the next incomplete block after this one, which is incomplete.
     pub fn next_short(&self, block: u32) -> Option<u32>
         requires { IsShort (entry_of self.now) block }
         ensures { IsShortFrom (alone_in (entry_of self.now)) (entry_of self.now).plan (block + 1) result }
@@ -33,7 +33,7 @@ impl Entry {
         }
     }
 
-    /// Returns the greatest block that was seen of a stream.
+    /// Returns the greatest block that was seen of a stream. `None` for data and files.
     pub fn seen(&self) -> Option<u32>
         ensures { result ≡ seen_in self.now }
     {
@@ -43,7 +43,7 @@ impl Entry {
         }
     }
 
-    /// Returns where a stream ends, if that is known.
+    /// Returns a stream's end, if that is known. `None` for data and files.
     pub fn end(&self) -> Option<PayloadId>
         ensures { (p : Settings) → p.e ≡ (entry_of self.now).plan.fti.e
             → option_map (λ (id : Name). position (entry_of self.now).plan.index id.block id.symbol) result ≡ end_in p self.now }

@@ -1,4 +1,4 @@
-//! What is handed up of an object of either kind: data and files whole, and a stream segment by segment.
+//! What an object of either kind hands up: data and files whole, and a stream segment by segment.
 
 ghost use Rattle.std.specs.Prelude.{◌≡◌, MatchOption, is_none, true};
 ghost use Rattle.norm_receive_rules.specs.HandingUp.{next_segment};
@@ -37,7 +37,7 @@ impl Entry {
         }
     }
 
-    /// Returns the hand-up of an object of data or a file that is whole.
+    /// Returns the hand-up of a whole object of data or a file.
     pub fn into_up(self) -> Up
         requires { is_whole_object self ≡ true }
         ensures { MatchOption (object_in self) ⊥ (λ o. result ≡ up_of o) }
@@ -49,7 +49,7 @@ impl Entry {
         }
     }
 
-    /// Whether this is a stream whose next segment is in a block before this one, and is missing.
+    /// Whether this is a stream whose next segment is missing and in a block before this one.
     pub fn is_cut_off(&self, block: u32) -> bool
         ensures { result ≡ cut_by_entry block self.now }
     {
@@ -59,7 +59,7 @@ impl Entry {
         }
     }
 
-    /// Hands up the next segment of a stream, if it is there. Data and files do not go on.
+    /// Hands up the next segment of a stream, or its end, if it is there. `None` for data and files.
     pub fn hand_on(&mut self) -> Option<Up>
         ensures { GoesOn self.old result self.new }
     {

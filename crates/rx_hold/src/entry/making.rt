@@ -1,4 +1,4 @@
-//! An object of either kind as it is taken up: its plan, its room, and what is held of it then.
+//! Creating an object of either kind: its plan, the octets that it takes, and its empty [`Entry`].
 
 ghost use Rattle.std.specs.Prelude.{◌≡◌, ◌<◌, ◌≤◌, ◌^◌, false, IfOk, MatchResult, None, Some};
 ghost use Rattle.fec_plan.specs.Partition.{first_fault};
@@ -25,7 +25,7 @@ pub fn is_stream(flags: u8) -> bool
     has_flag(flags, STREAM)
 }
 
-/// How many octets an object takes: its length, and of a stream its buffer.
+/// Returns how many octets an object takes: the length of data or a file, or the size of a stream's buffer.
 pub fn room_of(profile: &Profile, fti: &Fti, flags: u8) -> u64
     ensures exact { result ≡ room_of profile.now fti.now flags }
     ensures most { result < 2 ^ 48 }
@@ -36,7 +36,7 @@ pub fn room_of(profile: &Profile, fti: &Fti, flags: u8) -> u64
     fti.l
 }
 
-/// The plan of an object with this transmission information, or what is wrong with it.
+/// Returns the plan of an object with this transmission information, or what is wrong with it.
 pub fn plan_by(fti: &Fti, flags: u8) -> Result<Plan, PlanFault>
     ensures { MatchResult result (λ plan. (first_fault (cut_by fti.now flags) ≡ None) × (plan ≡ cut_by fti.now flags)) (λ fault. first_fault (cut_by fti.now flags) ≡ Some fault) }
 {
@@ -47,8 +47,8 @@ pub fn plan_by(fti: &Fti, flags: u8) -> Result<Plan, PlanFault>
 }
 
 impl Entry {
-    /// An object of which nothing is held. It takes the memory that its symbols need if it is data or a file, and of a stream that of
-    /// the segments that are handed up.
+    /// Creates an object of which nothing is held. Data and files take all the memory that their symbols need. A stream takes an empty ring
+    /// and the memory to hand up one block's segments.
     ///
     /// # Errors
     ///
