@@ -1,4 +1,4 @@
-//! The closing of a repair round.
+//! Closes the open repair round (RFC 5740 section 5.4). Each tick does this first.
 
 ghost use Rattle.std.specs.Prelude.{◌≡◌};
 ghost use Rattle.norm_send_rules.specs.Ticking.{closed_where_due};
@@ -9,7 +9,7 @@ use crate::parts::Parts;
 use norm_base::Moment;
 
 impl Parts {
-    /// Closes the open round, where its closing moment is reached.
+    /// Closes the open round if its closing moment has come. What it asked for is wanted from then on.
     pub(crate) fn close_where_due(&mut self, now: Moment)
         ensures profile { self.new.profile ≡ self.old.profile }
         ensures stands { SenderMoves (kept_of self.old) (kept_of self.new) (λ p s. closed_where_due p now s) }

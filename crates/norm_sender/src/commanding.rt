@@ -1,4 +1,4 @@
-//! Commands (RFC 5740 section 5.1): each goes to its rule, and a refusal gives it back but for want of memory.
+//! Passes each command to its rule (RFC 5740 section 5.1). A refused command is given back, unless memory ran out.
 
 ghost use Rattle.std.specs.Prelude.{ℕ, ◌≡◌, ◌≢◌, List, [], length, Some, Err, IfOk, IfErr, IsErr};
 ghost use Rattle.norm_base.specs.Settings.{InRange};
@@ -17,10 +17,10 @@ use crate::parts::{Parts, hold_range};
 use norm_base::{InstanceId, Kind, NodeId, Octets};
 use norm_send_rules::{EnqueueFault, Job, MarkFault, Receipt, SendFault};
 
-/// What a command is answered: a receipt, or the fault, with the command but for want of memory.
+/// The receipt of a command, or the command and the fault. The command is `None` if memory ran out.
 pub(crate) type Answer = Result<Receipt, (Option<Job>, SendFault)>;
 
-/// What a refused opening is answered.
+/// Returns the opening and why it was refused, or `Memory` alone.
 fn open_refusal(fault: EnqueueFault) -> (Option<Job>, SendFault)
     ensures { result ≡ open_refusal fault }
 {
@@ -37,7 +37,7 @@ fn open_refusal(fault: EnqueueFault) -> (Option<Job>, SendFault)
     }
 }
 
-/// What a refused mark is answered.
+/// Returns the mark and why it was refused, or `Memory` alone.
 fn mark_refusal(quorum: Option<u32>, fault: MarkFault) -> (Option<Job>, SendFault)
     ensures { result ≡ mark_refusal quorum fault }
 {
@@ -68,7 +68,7 @@ impl Parts {
         }
     }
 
-    /// Enqueues a file, of which the name is the info.
+    /// Enqueues a file. Its name is the object's info.
     fn enqueue_file(&mut self, name: Octets, bytes: Octets) -> Answer
         requires { IsStanding (kept_of self.old) }
         ensures profile { self.new.profile ≡ self.old.profile }
@@ -88,7 +88,7 @@ impl Parts {
         }
     }
 
-    /// Begins a file of so many octets, of which the name is the info.
+    /// Begins a file of `len` octets. Its name is the object's info.
     pub(crate) fn begin_file(
         &mut self,
         name: Octets,
@@ -188,7 +188,7 @@ impl Parts {
         }
     }
 
-    /// Obeys a command.
+    /// Passes a command to the call that obeys it.
     pub(crate) fn command(&mut self, job: Job) -> Answer
         requires { IsStanding (kept_of self.old) }
         ensures range { InRange self.old.profile }

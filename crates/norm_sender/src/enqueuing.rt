@@ -1,4 +1,6 @@
-//! Enqueuing data and files (RFC 5740 section 5.1): an object is begun, filled and finished, and joins the order at its end.
+//! Enqueues data objects and files (RFC 5740 section 5.1).
+//!
+//! An object comes in pieces: `begin`, then `fill` until all its octets are there, then `finish`. Or `leave` at any time.
 
 ghost use Rattle.std.specs.Prelude.{ℕ, ◌≡◌, ◌+◌, ◌<◌, ◌≤◌, ◌||◌, List, [], length, not, None, Some, Ok, IfOk, IfErr, IsErr, MatchOption};
 ghost use Rattle.std.specs.List.{list_any};
@@ -25,7 +27,7 @@ use norm_send_rules::{EnqueueFault, Receipt};
 use tx_window::{info_len, plan_of};
 
 impl Parts {
-    /// What was asked for of what the window dropped is forgotten. Where that takes away a want, a squelch is due.
+    /// Forgets what was asked of the entries and blocks that the window dropped. A squelch is due if a want was among it.
     pub(crate) fn retire(&mut self)
         requires { CanRetire self.old.union (drop_of self.old.window) }
         ensures rest { (self.new.profile ≡ self.old.profile) × (self.new.window ≡ self.old.window) × (self.new.book ≡ self.old.book) }
@@ -42,8 +44,11 @@ impl Parts {
         self.pace = self.pace.retired(dropped);
     }
 
-    /// Begins an object of so many octets: it is admitted to what may be asked for, and what has to go for it is dropped.
-    /// It takes all the memory that the object needs, before anything is dropped.
+    /// Begins an object of `len` octets: admits it to the union, and drops what has to go for it. Takes all its memory before anything is dropped.
+    ///
+    /// # Errors
+    ///
+    /// The window's fault, with the info; or `Memory` without it. Then nothing changes.
     pub(crate) fn begin(
         &mut self,
         kind: Kind,
@@ -85,7 +90,7 @@ impl Parts {
         }
     }
 
-    /// Puts the next octets of the object that was begun into the window.
+    /// Copies the next octets of the begun object into the window.
     pub(crate) fn fill(&mut self, piece: &[u8])
         requires { MatchOption self.old.window.filling ⊥ (λ f. length f.octets + length piece.now ≤ f.len) }
         ensures profile { self.new.profile ≡ self.old.profile }
@@ -95,7 +100,7 @@ impl Parts {
         self.window.fill(piece);
     }
 
-    /// The object that was begun joins the order.
+    /// Adds the begun object to the end of the order. All its octets have to be there.
     pub(crate) fn finish(&mut self) -> Receipt
         requires { MatchOption self.old.window.filling ⊥ (λ f. length f.octets ≡ f.len) }
         ensures range { InRange self.old.profile }
@@ -110,7 +115,7 @@ impl Parts {
         Receipt::Object { index, len }
     }
 
-    /// Gives up the object that was begun. What was dropped for it stays dropped.
+    /// Gives up the begun object. What was dropped for it stays dropped.
     pub(crate) fn leave(&mut self)
         requires { 0 < length self.old.union.kept.objects }
         ensures profile { self.new.profile ≡ self.old.profile }
@@ -121,6 +126,10 @@ impl Parts {
     }
 
     /// Enqueues an object with all its octets.
+    ///
+    /// # Errors
+    ///
+    /// As in `begin`, and the octets come back with the info.
     pub(crate) fn enqueue(
         &mut self,
         kind: Kind,

@@ -1,4 +1,5 @@
-//! Flushing (RFC 5740 section 5.5.3): the oldest open watermark is asked of the members that are not past it.
+//! Flushes (RFC 5740 section 5.5.3): asks the members that are not past the oldest open watermark to confirm it. A tick flushes if it has nothing
+//! else to send.
 
 ghost use Rattle.std.specs.Prelude.{◌≡◌, ◌<◌, Some};
 ghost use Rattle.norm_ext.specs.Octets.{octets_of};
@@ -16,13 +17,13 @@ use fec_plan::Position;
 use mark_book::keeps_oldest;
 use norm_base::{Datagram, Moment, Sent};
 
-/// So many flushes are sent of a watermark that nothing else goes on for.
+/// A watermark expires after this many flushes without progress.
 // NORM_ROBUST_FACTOR of RFC 5740, 20 by default. After this many without a new want the watermark expires, as soon as no round is open: members
 // that are left are taken to be silent.
 const MOST_FLUSHES: u32 = 20;
 
 impl Parts {
-    /// Writes a FLUSH up to a position, to all members that are not past it.
+    /// Writes a FLUSH up to a position. Its nodes are the members that are not past it.
     fn write_flush(&self, at: Position, out: &mut Datagram)
         ensures { (s : SenderState) → Agrees (kept_of self.now) s → out.new ≡ octets_of (flush_message self.now.profile s at (pending s at)) }
     {
@@ -30,7 +31,7 @@ impl Parts {
         self.book.write_pending(at, out);
     }
 
-    /// Sends a FLUSH up to a position, and counts it.
+    /// Sends a FLUSH up to a position and counts it.
     fn flush_for(&mut self, at: Position, now: Moment, out: &mut Datagram) -> Sent
         ensures profile { self.new.profile ≡ self.old.profile }
         ensures stands { (s : SenderState) (w : Watermark) → Agrees (kept_of self.old) s → w.at ≡ at → s.flushes < 4294967295
@@ -42,7 +43,7 @@ impl Parts {
         Sent::Datagram
     }
 
-    /// Gives up the watermark with this number, the oldest that is open.
+    /// Ends the oldest open watermark, which has this number, as expired. The count of flushes restarts if another one is the oldest now.
     fn expire(&mut self, mark: u32)
         ensures profile { self.new.profile ≡ self.old.profile }
         ensures stands { SenderMoves (kept_of self.old) (kept_of self.new) (λ p s. expired mark s) }
@@ -55,8 +56,8 @@ impl Parts {
         self.pace = self.pace.counted_anew();
     }
 
-    /// Flushes for the oldest watermark. With 20 flushes counted it is given up where no round is open, and the next has
-    /// its turn.
+    /// Flushes for the oldest watermark. After 20 flushes it expires, and the next one is flushed for. If a round is open then, it does not expire
+    /// yet, and nothing is sent.
     fn flush_in_turn(&mut self, now: Moment, out: &mut Datagram) -> Sent
         ensures profile { self.new.profile ≡ self.old.profile }
         ensures stands { SenderSends (kept_of self.old) (kept_of self.new) out.new result (λ p s. flushes_in_turn p now s) }
@@ -75,7 +76,7 @@ impl Parts {
         self.flush_next(now, out)
     }
 
-    /// Flushes for the oldest watermark, behind one that was given up.
+    /// Flushes for the oldest watermark, after the one before it expired.
     // Not `flush_in_turn` again: in one tick at most one watermark expires, so a tick has a bound.
     fn flush_next(&mut self, now: Moment, out: &mut Datagram) -> Sent
         ensures profile { self.new.profile ≡ self.old.profile }
@@ -88,7 +89,7 @@ impl Parts {
         self.flush_for(oldest.at, now, out)
     }
 
-    /// Flushes, where the time has come for that.
+    /// Flushes if none was sent in this instance, or if two round trips have passed since the last.
     pub(crate) fn flush(&mut self, now: Moment, out: &mut Datagram) -> Sent
         ensures profile { self.new.profile ≡ self.old.profile }
         ensures stands { SenderSends (kept_of self.old) (kept_of self.new) out.new result (λ p s. flushes p now s) }

@@ -1,4 +1,4 @@
-//! How a sender follows its book, once that is ahead of it.
+//! Lets the window and the pace follow the book after the book changed.
 
 ghost use Rattle.std.specs.Prelude.{◌≡◌, option_map};
 ghost use Rattle.norm_send_rules.specs.SenderState.{SenderState};
@@ -12,8 +12,8 @@ use crate::parts::Parts;
 use mark_book::{OpenWatermark, keeps_oldest};
 
 impl Parts {
-    /// Follows the book, before which this was the oldest watermark: the window is told what all members are past now,
-    /// and flushes are counted anew where another watermark became the oldest.
+    /// Call after the book changed; `before` was its oldest watermark. The window learns what all members are past now, and the count of flushes
+    /// restarts if another watermark became the oldest.
     // Proof: the book is ahead: one state for the other parts, and one for its listings and watermarks.
     pub(crate) fn follow(&mut self, before: Option<OpenWatermark>)
         ensures profile { self.new.profile ≡ self.old.profile }

@@ -1,4 +1,4 @@
-//! What a sender hears (RFC 5740 sections 5.4 and 5.5.3).
+//! Hears NACKs of receivers and acknowledgements of members (RFC 5740 sections 5.4 and 5.5.3), in datagrams of any octets.
 
 ghost use Rattle.std.specs.Prelude.{◌≡◌, ◌&&◌, ◌==◌};
 ghost use Rattle.norm_ext.specs.Requests.{IsRequests, requests_of};
@@ -25,7 +25,7 @@ use norm_ext::{Item, index_named, requests_of as requests_in};
 use norm_fbmsg::{AckBody, AckMsg, NackMsg, is_for};
 
 impl Parts {
-    /// A member confirms all through a position.
+    /// Lists a member as past a position, unless it was already. Watermarks may be satisfied by that.
     fn credit(&mut self, node: NodeId, at: Position)
         ensures profile { self.new.profile ≡ self.old.profile }
         ensures stands { SenderMoves (kept_of self.old) (kept_of self.new) (λ p s. credited node at s) }
@@ -35,7 +35,7 @@ impl Parts {
         self.follow(before);
     }
 
-    /// An acknowledgement of what its item names.
+    /// Credits a member with the position that an item names. Ignores it unless it is a closed source symbol of the order, dropped or not.
     fn credit_named(&mut self, node: NodeId, item: &Item)
         ensures profile { self.new.profile ≡ self.old.profile }
         ensures stands { SenderMoves (kept_of self.old) (kept_of self.new) (λ p s. credited_by p node (item_named p (last_index s) item.now) s) }
@@ -55,7 +55,7 @@ impl Parts {
         self.credit(node, at);
     }
 
-    /// Where no round is open, one opens, which closes K + 1 round trips from now.
+    /// Opens a repair round that closes after K + 1 round trips, unless one is open.
     fn open_round(&mut self, now: Moment)
         ensures { self.new ≡ record self.old { pace = opened_at self.old.profile now self.old.pace } }
     {
@@ -67,7 +67,7 @@ impl Parts {
         self.pace = self.pace.opened(moment_after(now, span));
     }
 
-    /// The requests of a NACK, a list of whole ones, join the open round, or open one.
+    /// Adds the requests of a NACK to the open round, and opens a round if none is open. An empty list changes nothing.
     fn join_round(&mut self, requests: &[u8], now: Moment)
         requires { IsRequests requests.now }
         ensures profile { self.new.profile ≡ self.old.profile }
@@ -88,7 +88,7 @@ impl Parts {
         is_for(sender, instance, self.profile.sender, self.pace.instance)
     }
 
-    /// A NACK counts where it is a receiver's.
+    /// Hears a NACK. Ignores it unless a receiver, struck or not, sent it to this sender and its current instance.
     fn hear_nack(&mut self, msg: &NackMsg<'_>, now: Moment)
         requires { IsRequests msg.now.requests.now }
         ensures profile { self.new.profile ≡ self.old.profile }
@@ -104,7 +104,7 @@ impl Parts {
         self.join_round(msg.requests, now);
     }
 
-    /// What an acknowledgement holds: the position of a flush counts, and anything else changes nothing.
+    /// Hears what an acknowledgement holds. Ignores anything except the position of a flush.
     fn hear_body(&mut self, node: NodeId, body: &AckBody<'_>)
         ensures profile { self.new.profile ≡ self.old.profile }
         ensures stands { SenderMoves (kept_of self.old) (kept_of self.new) (λ p s. content_heard p node s (content_of body.now)) }
@@ -115,7 +115,7 @@ impl Parts {
         }
     }
 
-    /// An acknowledgement counts where it is a member's.
+    /// Hears an acknowledgement. Ignores it unless a member sent it to this sender and its current instance.
     fn hear_ack(&mut self, msg: &AckMsg<'_>)
         ensures profile { self.new.profile ≡ self.old.profile }
         ensures stands { SenderMoves (kept_of self.old) (kept_of self.new) (λ p s. ack_heard p s (ack_message msg.now)) }
@@ -129,7 +129,7 @@ impl Parts {
         self.hear_body(msg.source, &msg.body);
     }
 
-    /// Hears a message: any but a NACK or an acknowledgement changes nothing.
+    /// Hears a message. Ignores every message except NACKs and acknowledgements.
     fn hear(&mut self, msg: &Message<'_>, now: Moment)
         requires { IsWhole msg.now }
         ensures profile { self.new.profile ≡ self.old.profile }
@@ -145,7 +145,7 @@ impl Parts {
         }
     }
 
-    /// Hears a datagram. Octets that spell no message, and any message but a NACK or an acknowledgement, change nothing.
+    /// Hears a datagram. Ignores octets that spell no message, and every message except NACKs and acknowledgements.
     pub(crate) fn deliver(&mut self, bytes: &[u8], now: Moment)
         ensures range { InRange self.old.profile }
         ensures profile { self.new.profile ≡ self.old.profile }

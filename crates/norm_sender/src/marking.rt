@@ -1,4 +1,4 @@
-//! Marks (RFC 5740 section 5.5.3): what was enqueued so far is to be confirmed by a quorum of the members.
+//! Makes watermarks for the command `mark` (RFC 5740 section 5.5.3): a quorum of the members shall confirm what was enqueued so far.
 
 ghost use Rattle.std.specs.Prelude.{◌≡◌, ◌≢◌, Err, Some};
 ghost use Rattle.norm_base.specs.Settings.{InRange};
@@ -19,7 +19,7 @@ use fec_plan::Position;
 use norm_send_rules::{MarkFault, Receipt};
 
 impl Parts {
-    /// A refused mark cuts the open stream all the same, but for want of memory.
+    /// Cuts the open stream although the mark was refused, unless memory ran out.
     fn cut_unless_memory(&mut self, why: &MarkFault)
         requires { CanCut (kept_of self.old) }
         ensures profile { self.new.profile ≡ self.old.profile }
@@ -36,8 +36,8 @@ impl Parts {
         }
     }
 
-    /// One more watermark, for everything up to a position, which is the last one once the open stream is cut. The stream is cut as
-    /// soon as no memory is wanted any more.
+    /// Makes a watermark at `at`, the last position once the open stream is cut. The stream is cut after all memory was taken. A refused mark cuts
+    /// it too, unless memory ran out.
     fn mark_at(&mut self, at: Position, quorum: Option<u32>) -> Result<Receipt, MarkFault>
         requires { IsStanding (kept_of self.old) }
         ensures profile { self.new.profile ≡ self.old.profile }
@@ -61,7 +61,7 @@ impl Parts {
         }
     }
 
-    /// One more watermark, for everything that was enqueued: the open stream is cut.
+    /// Cuts the open stream, and makes a watermark for everything that was enqueued.
     pub(crate) fn mark(&mut self, quorum: Option<u32>) -> Result<Receipt, MarkFault>
         requires { IsStanding (kept_of self.old) }
         ensures range { InRange self.old.profile }

@@ -1,4 +1,4 @@
-//! The numbers of a sender: what it keeps beside its objects, their wants, and its receivers.
+//! The numbers of a sender: what it keeps besides its objects, their wants and its receivers.
 
 ghost use Rattle.std.specs.Prelude.{◌≡◌, ◌+◌, ◌%◌, ◌<◌, ◌||◌, false, true, nat_lt, Some};
 ghost use Rattle.norm_base.specs.Settings.{Settings};
@@ -11,29 +11,29 @@ use norm_base::{InstanceId, Moment};
 use norm_ext::{MOST_RISE, rise};
 use norm_send_rules::Want;
 
-/// The numbers of a sender, each as the rules' state has it.
+/// The numbers of a sender, each as in the state of the rules. A call that changes them returns new ones.
 #[derive(Clone, Copy, Debug, PartialEq, Eq)]
 pub struct Pace {
-    /// The first instance, from which ids rise.
+    /// The first instance. Later ids are counted from its id.
     pub first: InstanceId,
     /// The current instance.
     pub instance: InstanceId,
-    /// From where on infos and symbols are new.
+    /// Infos and symbols are new from this one on.
     pub next: Want,
-    /// When the open repair round closes.
+    /// When the open repair round closes. `None` if no round is open.
     pub closes: Option<Moment>,
     pub squelch_due: bool,
-    /// The flushes counted.
+    /// How many flushes were counted since another watermark became the oldest, or a round made a want.
     pub flushes: u32,
-    /// The moment of this instance's last flush.
+    /// When the last flush of this instance was sent. `None` if there was none.
     pub last_flush: Option<Moment>,
-    /// From when on a datagram may be sent.
+    /// No datagram may be sent before this moment.
     pub next_send: Moment,
-    /// The next datagram's sequence number.
+    /// The sequence number of the next datagram.
     pub sequence: u16,
 }
 
-/// The moment so much later; one that passes 64 bits is the last one.
+/// Returns the moment `span` after `now`, or the last one that 64 bits count.
 pub(crate) fn moment_after(now: Moment, span: u64) -> Moment
     ensures { result ≡ moment_after now span }
 {
@@ -41,7 +41,7 @@ pub(crate) fn moment_after(now: Moment, span: u64) -> Moment
 }
 
 impl Pace {
-    /// The numbers as a sender begins, in this instance.
+    /// The numbers of a new sender, in its first instance.
     pub(crate) fn begun(instance: InstanceId) -> Pace
         ensures { (p : Settings) → result ≡ pace_of (sender_opening p instance) }
     {
@@ -58,7 +58,7 @@ impl Pace {
         }
     }
 
-    /// The numbers as another instance begins.
+    /// The numbers after a restart. The first instance, the next send moment and the sequence number stay.
     // No datagram depends on the count of flushes becoming 0: a restart cuts all watermarks, and the next one that becomes the oldest sets it to
     // 0 anyway. The sequence number goes on: it counts the datagrams of this node, whatever their instance.
     pub(crate) fn begun_anew(&self, instance: InstanceId) -> Pace
@@ -75,8 +75,8 @@ impl Pace {
         }
     }
 
-    /// Whether an instance's id is used up: it lies no higher above the first one than the current one, or half of all
-    /// ids above it.
+    /// Whether no new instance may have this id. Counted from the first instance's id, it is not above the current one, or at least half of all
+    /// ids above the first.
     pub(crate) fn is_used(&self, instance: InstanceId) -> bool
         ensures { (s : SenderState) → self.now ≡ pace_of s → result ≡ is_used s instance }
     {
@@ -84,7 +84,7 @@ impl Pace {
         above <= rise(self.first, self.instance) || above > MOST_RISE
     }
 
-    /// After a datagram: the next may be sent a gap later, under the next sequence number.
+    /// The numbers after a datagram: the next one may be sent `gap` later, and has the next sequence number.
     pub(crate) fn sent(&self, gap: u32, now: Moment) -> Pace
         ensures { result ≡ record self.now { next_send = moment_after now gap; sequence = (self.now.sequence + 1) % 65536 } }
     {
@@ -95,7 +95,7 @@ impl Pace {
         }
     }
 
-    /// A squelch is due no more.
+    /// The numbers after a squelch was sent: none is due.
     pub(crate) fn squelched(&self) -> Pace
         ensures { result ≡ record self.now { squelch_due = false } }
     {
@@ -105,7 +105,7 @@ impl Pace {
         }
     }
 
-    /// Objects were dropped. Where that took away a want, a squelch is due.
+    /// The numbers after something was dropped. A squelch is due if a want went with it (`dropped`).
     pub(crate) fn retired(&self, dropped: bool) -> Pace
         ensures { result ≡ record self.now { squelch_due = self.now.squelch_due || dropped } }
     {
@@ -115,7 +115,7 @@ impl Pace {
         }
     }
 
-    /// One more flush was sent.
+    /// The numbers after one more flush.
     pub(crate) fn flushed(&self, now: Moment) -> Pace
         ensures { self.now.flushes < 4294967295 → result ≡ record self.now { flushes = self.now.flushes + 1; last_flush = Some now } }
     {
@@ -127,7 +127,7 @@ impl Pace {
         }
     }
 
-    /// The count of flushes begins anew.
+    /// The numbers with a count of 0 flushes.
     pub(crate) fn counted_anew(&self) -> Pace
         ensures { result ≡ record self.now { flushes = 0 } }
     {
@@ -137,14 +137,14 @@ impl Pace {
         }
     }
 
-    /// From this info or symbol on all is new.
+    /// The numbers if infos and symbols are new from `next` on.
     pub(crate) fn goes_on(&self, next: Want) -> Pace
         ensures { result ≡ record self.now { next = next } }
     {
         Pace { next, ..*self }
     }
 
-    /// The open round closes at this moment.
+    /// The numbers with an open round that closes at this moment.
     pub(crate) fn opened(&self, closes: Moment) -> Pace
         ensures { result ≡ record self.now { closes = Some closes } }
     {
@@ -154,8 +154,8 @@ impl Pace {
         }
     }
 
-    /// The round is closed. Where it made a want, flushes are counted anew, and where it asked for what lies before
-    /// the window, a squelch is due.
+    /// The numbers after the round closed. If it made a want, flushes are counted from 0 again. If it asked for anything before the window
+    /// (`early`), a squelch is due.
     pub(crate) fn closed(&self, wanted: bool, early: bool) -> Pace
         ensures { result ≡ closed_at wanted early self.now }
     {
@@ -167,14 +167,14 @@ impl Pace {
         }
     }
 
-    /// Whether a datagram may be sent.
+    /// Whether a datagram may be sent now.
     pub(crate) fn may_send(&self, now: Moment) -> bool
         ensures { nat_lt now self.now.next_send ≡ elim result [ true ↦ false | false ↦ true ] }
     {
         now.0 >= self.next_send.0
     }
 
-    /// Whether the open round's closing moment is reached.
+    /// Whether a round is open and its closing moment has come.
     pub(crate) fn is_round_over(&self, now: Moment) -> bool
         ensures { result ≡ is_over self.now.closes now }
     {
@@ -184,7 +184,7 @@ impl Pace {
         }
     }
 
-    /// Whether a flush may be sent: none was in this instance, or two round trips have passed since.
+    /// Whether a flush may be sent: none was in this instance, or two round trips have passed since the last.
     pub(crate) fn may_flush(&self, grtt: u32, now: Moment) -> bool
         ensures { result ≡ next_flush self.now.last_flush grtt now }
     {

@@ -1,4 +1,4 @@
-//! What a sender is made of.
+//! The parts that a sender is made of. The calls of each rule are in the file of that rule.
 
 ghost use Rattle.norm_base.specs.Settings.{InRange};
 
@@ -8,8 +8,8 @@ use nack_union::Union;
 use norm_base::Profile;
 use tx_window::Window;
 
-/// The parts of a sender, under one profile: the objects that it may still repair, what is asked for of them, its
-/// receivers and their watermarks, and its numbers.
+/// The parts of a sender under one profile: what it may still repair (`window`), what is asked of that (`union`), its receivers and their
+/// watermarks (`book`), and its numbers (`pace`).
 #[derive(Debug, Drop)]
 pub(crate) struct Parts {
     pub profile: Profile,

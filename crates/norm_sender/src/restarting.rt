@@ -1,4 +1,4 @@
-//! Restarts (RFC 5740 section 4.1 on instance_id): a new instance with an order of its own.
+//! Restarts (RFC 5740 section 4.1 on instance_id): begins a new instance with an order of its own.
 
 ghost use Rattle.std.specs.Prelude.{◌≡◌};
 ghost use Rattle.norm_base.specs.Settings.{InRange};
@@ -13,7 +13,7 @@ use norm_base::InstanceId;
 use norm_send_rules::{Receipt, SendFault};
 
 impl Parts {
-    /// The new instance begins: nothing was enqueued, wanted, asked for or flushed in it, and open watermarks are cut.
+    /// Begins a new instance: nothing of it is enqueued, wanted, asked for or flushed yet. Open watermarks are cut.
     fn begin_anew(&mut self, instance: InstanceId)
         ensures profile { self.new.profile ≡ self.old.profile }
         ensures stands { SenderMoves (kept_of self.old) (kept_of self.new) (λ p s. begun_anew instance s) }
@@ -24,7 +24,7 @@ impl Parts {
         self.pace = self.pace.begun_anew(instance);
     }
 
-    /// A new instance begins, where its id lies above each one before.
+    /// Begins a new instance if its id is above each one before.
     pub(crate) fn restart(&mut self, instance: InstanceId) -> Result<Receipt, SendFault>
         ensures range { InRange self.old.profile }
         ensures profile { self.new.profile ≡ self.old.profile }

@@ -1,4 +1,4 @@
-//! The sender of a session.
+//! The type that callers drive. Each call passes its work to the sender's parts.
 
 ghost use Rattle.std.specs.Prelude.{ℕ, ◌≡◌, ◌≢◌, ◌+◌, ◌≤◌, ◌++◌, List, [], IfOk, IfErr, IfNone, IsErr, IsSome, Some, None, Ok, Err, MatchOption, length};
 ghost use Rattle.norm_base.specs.Members.{receivers_of};
@@ -35,29 +35,32 @@ use tx_window::Window;
 
 /// The sender of a session: one transport order for each instance, repaired as its receivers ask.
 ///
-/// A timer drives it. At each moment it is handed the datagrams that came ([`deliver`](Sender::deliver)) and asked for
-/// the one to send ([`tick`](Sender::tick)); the datagrams may come in any order, and may hold any octets. What changed
-/// of its members is taken by [`news`](Sender::news) until that is `None`. None of these takes memory. Commands
-/// ([`command`](Sender::command)) may come between any two calls. A file may come in pieces: [`begin_file`](Sender::begin_file),
-/// then [`file_piece`](Sender::file_piece) until all its octets are there, then [`end_file`](Sender::end_file), or at any time
-/// [`leave_file`](Sender::leave_file); from the first of them to the last no other call may come.
+/// A timer drives it. At each moment:
+/// 1. [`deliver`](Sender::deliver) each datagram that arrived, in any order. Any octets are allowed.
+/// 2. [`tick`](Sender::tick) writes the datagram to send, if there is one.
 ///
-/// What each costs, where the *late watermarks* are those from the first one on that is open or whose end was not told (where one stays
-/// open they grow with the marks that come), and members are 16 at the most:
+/// Call [`news`](Sender::news) until it returns `None`, to learn what changed of the members. None of these calls takes memory.
 ///
-/// - A tick costs the octets of its datagram, but for a parity symbol those of all source symbols of its block, which are summed up. The search
-///   for the lowest want passes what is not wanted once a round. A tick that ends a round also goes over the objects between the first and the
-///   last that the round asked for, and of those that it asked for anything of over the blocks and the symbols that are wanted then. One
-///   that may flush looks at the members and the late watermarks.
-/// - A NACK costs what its requests name, of a range the objects in it. An acknowledgement looks at the members and the late watermarks.
-/// - `news`, [`untold`](Sender::untold), a mark and a strike look at the members and the late watermarks. A mark also closes a segment of the
-///   open stream. A restart cuts the late watermarks, and gives up the window entry by entry.
-/// - An object costs its octets, which are copied once, and the marks of its blocks; one that waits for room what is looked at of the window.
-/// - A stream costs its whole buffer as it is opened, and a write the octets that it brings, copied once. A write or the stream's end where
-///   blocks of it go, or went before, goes over the marks of its blocks too.
-/// - [`idle`](Sender::idle) takes constant time: how many objects have wants, and whether a squelch is due or a round open, are kept, and two entries
-///   of the window at most tell whether something is new. [`open_requests`](Sender::open_requests), [`flushes`](Sender::flushes) and
-///   [`instance`](Sender::instance) are kept, and are looked for nowhere.
+/// [`command`](Sender::command) may come between any two calls. A file may come in pieces: [`begin_file`](Sender::begin_file), then
+/// [`file_piece`](Sender::file_piece) until all its octets are there, then [`end_file`](Sender::end_file). Or, at any time,
+/// [`leave_file`](Sender::leave_file). From the first of these calls to the last, no other call may come.
+///
+/// What calls cost. There are at most 16 members. The *late watermarks* begin with the first one that is open or whose end was not reported. If
+/// one stays open, they grow with each mark.
+///
+/// - A tick costs the octets of its datagram. For a parity symbol it costs those of all source symbols of the block, which are summed up. The
+///   search for the lowest want passes what is not wanted once a round. A tick that ends a round also visits the objects between the first and the
+///   last that the round asked for. If it asked for anything of one, the tick visits the blocks and the symbols of it that are wanted then. A tick
+///   that may flush visits the members and the late watermarks.
+/// - A NACK costs what its requests name: for a range, the objects in it. An acknowledgement visits the members and the late watermarks.
+/// - `news`, [`untold`](Sender::untold), a mark and a strike visit the members and the late watermarks. A mark also closes a segment of the open
+///   stream. A restart cuts the late watermarks, and gives up the window entry by entry.
+/// - An object costs its octets, which are copied once, and the marks that are kept of its blocks. An object that waits for room costs what is
+///   looked at of the window.
+/// - Opening a stream costs its whole buffer. A write costs its octets, which are copied once. If blocks go for room, or went before, a write and
+///   the end also visit the marks of the stream's blocks.
+/// - [`idle`](Sender::idle) takes constant time: it compares counts that are kept, and looks at two entries of the window at most.
+///   [`open_requests`](Sender::open_requests), [`flushes`](Sender::flushes) and [`instance`](Sender::instance) return what is kept.
 // It stands for some state of the rules at each moment, or for one in which a file is being taken in. Otherwise the clauses of its calls would
 // promise nothing.
 #[derive(Debug, Drop)]
@@ -77,7 +80,7 @@ impl Model for Sender {
     ghost invariant = { λ s. SenderSound (kept_of s.parts) };
 }
 
-/// The receivers of a profile, in the order of their ids.
+/// The receivers of a profile in the order of their ids.
 fn receivers(alloc: Global, profile: &Profile) -> Result<Vec<NodeId>, Memory>
     ensures { IfOk result (λ nodes. nodes.items ≡ receivers_of profile.now profile.now.receivers) }
 {
@@ -89,11 +92,11 @@ fn receivers(alloc: Global, profile: &Profile) -> Result<Vec<NodeId>, Memory>
 }
 
 impl Sender {
-    /// A sender as it begins, in its first instance.
+    /// Returns a sender in its first instance, with nothing enqueued.
     ///
     /// # Errors
     ///
-    /// `Memory` where memory runs out.
+    /// `Memory` if memory runs out.
     pub fn new(alloc: Global, profile: &Profile, instance: InstanceId) -> Result<Sender, Memory>
         ensures profile { IfOk result (λ sender. sender.p ≡ profile.now) }
         ensures ready { IfOk result (λ sender. sender.window.filling ≡ None) }
@@ -115,8 +118,8 @@ impl Sender {
         })
     }
 
-    /// Hears a datagram: a NACK of a receiver, or an acknowledgement of a member, to this sender and its current
-    /// instance. Any other octets change nothing. It takes no memory.
+    /// Hears a datagram: a NACK of a receiver, even of a struck one, or an acknowledgement of a member, if it is to this sender and its current
+    /// instance. Ignores any other octets. Takes no memory.
     pub fn deliver(&mut self, bytes: &[u8], now: Moment)
         requires { self.old.window.filling ≡ None }
         ensures profile { self.new.p ≡ self.old.p }
@@ -126,8 +129,7 @@ impl Sender {
         self.parts.deliver(bytes, now);
     }
 
-    /// Ends a repair round whose time has come, and writes the datagram that is to be sent now, if there is one. It takes
-    /// no memory.
+    /// Closes the repair round if its time has come, and writes the datagram to send now, if there is one. Takes no memory.
     pub fn tick(&mut self, now: Moment, out: &mut Datagram) -> Sent
         requires { self.old.window.filling ≡ None }
         ensures profile { self.new.p ≡ self.old.p }
@@ -137,13 +139,13 @@ impl Sender {
         self.parts.tick(now, out)
     }
 
-    /// Obeys a command of a producer, at a moment. Neither whose it was nor when it came makes a difference to what a sender keeps.
+    /// Obeys a command of a producer. Neither who gave it nor when it came changes what the sender keeps.
     ///
     /// # Errors
     ///
-    /// The fault that the rules name, and with it the command, or `Memory` without it, which stands for every want of memory.
-    /// Then nothing changes but that a mark cuts the open stream. Want of memory changes nothing. A command that waits for room is
-    /// answered before any memory is taken for it.
+    /// The fault of the rules, with the command; or `Memory` without it, if memory ran out anywhere. `Memory` changes nothing. Neither does any other
+    /// fault, except that a mark cuts the open stream, as in [`mark`](Sender::mark). A command that waits for room is refused before any memory is
+    /// taken for it.
     pub fn command(
         &mut self,
         by: Origin,
@@ -163,12 +165,12 @@ impl Sender {
         self.parts.command(job)
     }
 
-    /// Begins a file of so many octets under a name, and drops what has to go for it. Only this call of a file takes memory.
+    /// Begins a file of `len` octets under a name, and drops what has to go for it. No later call of the file takes memory.
     ///
     /// # Errors
     ///
-    /// The fault by which [`command`](Sender::command) would refuse each file of this name and length, and with it the name, or
-    /// `Memory` without it. Then nothing changes.
+    /// The fault with which [`command`](Sender::command) would refuse any file of this name and length, with the name; or `Memory` without it. Then
+    /// nothing changes.
     // That no file is begun is a condition on what is kept, and each other call that changes a sender says that it holds afterwards, except
     // `file_piece`. So a caller need not know for which state the sender stands.
     pub fn begin_file(&mut self, name: Octets, len: u64) -> Result<(), (Option<Octets>, SendFault)>
@@ -184,7 +186,7 @@ impl Sender {
         self.parts.begin_file(name, len)
     }
 
-    /// Takes the next octets of the file that was begun.
+    /// Takes the next octets of the begun file.
     pub fn file_piece(&mut self, piece: &[u8])
         requires { MatchOption self.old.window.filling ⊥ (λ f. length f.octets + length piece.now ≤ f.len) }
         ensures profile { self.new.p ≡ self.old.p }
@@ -195,7 +197,7 @@ impl Sender {
         self.parts.fill(piece);
     }
 
-    /// The file that was begun joins the order, and the receipt is that of [`command`](Sender::command) with all its octets.
+    /// Adds the begun file to the order. Returns the receipt that [`command`](Sender::command) would give for all its octets.
     pub fn end_file(&mut self, by: Origin, now: Moment) -> Receipt
         requires { MatchOption self.old.window.filling ⊥ (λ f. length f.octets ≡ f.len) }
         ensures profile { self.new.p ≡ self.old.p }
@@ -208,7 +210,7 @@ impl Sender {
         self.parts.finish()
     }
 
-    /// Gives up the file that was begun. What was dropped for it stays dropped.
+    /// Gives up the begun file. What was dropped for it stays dropped.
     // The sender goes on in the state in which room was made for the file. A session ends there, but no clause asks that of a caller.
     pub fn leave_file(&mut self)
         requires { IsSome self.old.window.filling }
@@ -220,14 +222,17 @@ impl Sender {
         self.parts.leave();
     }
 
-    /// Cuts the open stream, and asks that so many members, or all of them, confirm everything that was enqueued so far. The watermark is satisfied
-    /// as it is made where enough members are past it. Whose command it was makes no difference to what a sender keeps.
+    /// Cuts the open stream, and asks that `quorum` members, or all of them, confirm everything that was enqueued so far. The watermark is satisfied
+    /// at once if enough members are past it.
     ///
     /// # Errors
     ///
-    /// `Quorum` exactly where the quorum is 0 or above the number of receivers, else `NothingEnqueued` exactly where this
-    /// instance enqueued nothing, and else `TooMany` exactly where 16 watermarks are open. The open stream is cut all the same, but
-    /// for `Quorum`. Or `Memory`, and then nothing changes.
+    /// The first that applies:
+    /// - `Quorum` if the quorum is 0 or greater than the number of receivers. Then nothing changes.
+    /// - `NothingEnqueued` if this instance has no closed source symbol after the cut. The open stream is cut all the same.
+    /// - `TooMany` if 16 watermarks are open. The open stream is cut all the same.
+    ///
+    /// Or `Memory` if memory runs out. Then nothing changes.
     // Proof: the invariant goes by cases: the answer is Memory and all is as it was, or the rule holds.
     pub fn mark(&mut self, quorum: Option<u32>) -> Result<Receipt, MarkFault>
         requires { self.old.window.filling ≡ None }
@@ -240,12 +245,12 @@ impl Sender {
         self.parts.mark(quorum)
     }
 
-    /// Begins another instance, with an order of its own: window, wants and round are empty, members are listed past
-    /// nothing, and open watermarks are cut. It takes no memory.
+    /// Begins another instance with an order of its own: window, wants and round are empty, members are listed past nothing, and open watermarks are
+    /// cut. Takes no memory.
     ///
     /// # Errors
     ///
-    /// `IdUsed` exactly where the id does not lie above each one before. Then nothing changes.
+    /// `IdUsed` if the id is not above each one before. Then nothing changes.
     pub fn restart(&mut self, instance: InstanceId) -> Result<Receipt, SendFault>
         requires { self.old.window.filling ≡ None }
         ensures profile { self.new.p ≡ self.old.p }
@@ -255,12 +260,11 @@ impl Sender {
         self.parts.restart(instance)
     }
 
-    /// Strikes a member for good: nothing waits for it any more. It takes no memory.
+    /// Strikes a member for good: nothing waits for it any more. Takes no memory.
     ///
     /// # Errors
     ///
-    /// `NotMember` exactly where the node is no receiver or was struck, and `LastMember` exactly where it is the only
-    /// member. Then nothing changes.
+    /// `NotMember` if the node is no receiver or was struck. `LastMember` if it is the only member. Then nothing changes.
     pub fn strike(&mut self, node: NodeId) -> Result<Receipt, StrikeFault>
         requires { self.old.window.filling ≡ None }
         ensures profile { self.new.p ≡ self.old.p }
@@ -270,8 +274,8 @@ impl Sender {
         self.parts.strike(node)
     }
 
-    /// The first change that was not told yet: a member that is newly listed past a position, or else a watermark that
-    /// ended. `None` exactly where nothing is left to be told, and then nothing changes.
+    /// Returns the next change to report: a member that is newly listed past a position, or, once all of these are reported, a watermark that ended.
+    /// `None` if there is nothing to report; then nothing changes.
     pub fn news(&mut self) -> Option<News>
         requires { self.old.window.filling ≡ None }
         ensures profile { self.new.p ≡ self.old.p }
@@ -282,14 +286,14 @@ impl Sender {
         self.parts.news()
     }
 
-    /// How many changes were not told yet.
+    /// How many changes are still to be reported.
     pub fn untold(&self) -> usize
         ensures { (s : SenderState) → Stands self.now s → result ≡ length s.untold_nodes + length s.untold_marks }
     {
         self.parts.untold()
     }
 
-    /// Whether no squelch, want, new symbol or open round is there.
+    /// Whether no squelch is due, nothing is wanted, nothing new is left to send, and no round is open.
     pub fn idle(&self) -> bool
         ensures { (s : SenderState) → Stands self.now s → result ≡ is_idle self.now.p s }
     {
@@ -310,7 +314,7 @@ impl Sender {
         self.parts.flushes()
     }
 
-    /// How many infos and encoded symbols its window has: all that may still have to be repaired.
+    /// How many infos and encoded symbols the window has. All of them may still have to be repaired.
     pub fn repairable(&self) -> u64
         ensures { (s : SenderState) → Stands self.now s → result ≡ repairable self.now.p s }
     {
@@ -324,14 +328,14 @@ impl Sender {
         self.parts.instance()
     }
 
-    /// The book of its members and their watermarks.
+    /// The book of members and watermarks.
     pub fn book(&self) -> &Book
         ensures { result.now ≡ self.now.book }
     {
         &self.parts.book
     }
 
-    /// The window: the objects that it may still repair.
+    /// The window: the objects and streams that the sender may still repair.
     pub fn window(&self) -> &Window
         ensures { result.now ≡ self.now.window }
     {

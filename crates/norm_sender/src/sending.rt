@@ -1,4 +1,4 @@
-//! What a sender sends of its objects (RFC 5740 section 5.2): an info or a symbol of the window.
+//! Sends infos and encoded symbols of the window (RFC 5740 section 5.2).
 
 ghost use Rattle.std.specs.Prelude.{◌≡◌, ◌≤◌, ◌<◌, ◌+◌, ℕ, List, true, Some, nat_le, nat_lt};
 ghost use Rattle.norm_order.specs.Entries.{Object, Whole};
@@ -25,12 +25,12 @@ use norm_base::{Datagram, Moment, Sent};
 use norm_ext::flags;
 use norm_send_rules::Want;
 
-/// The flags of what is sent again by its own name.
+/// What is added to the flags of a repair that was asked for by its own name.
 // NORM_FLAG_REPAIR and NORM_FLAG_EXPLICIT of RFC 5740 section 4.2.1. Which of what is sent again has the second is our own choice.
 const EXPLICIT_REPAIR: u8 = flags::REPAIR + flags::EXPLICIT;
 
 impl Parts {
-    /// Writes an encoded symbol of the window, with what a repair adds to the flags. False where the window has none such.
+    /// Writes an encoded symbol of the window, with `repair` added to its flags. Returns `false` if the window has no such symbol.
     fn write_symbol(&self, at: Position, repair: u8, out: &mut Datagram) -> bool
         ensures { (s : SenderState) (object : Object) → Agrees (kept_of self.now) s → kept_at s at.index ≡ Some object
             → nat_lt at.symbol (encoded_in (shape_of self.now.profile object) at.block) ≡ true → nat_le (first_kept s at.index) at.block ≡ true → repair ≤ 3
@@ -44,8 +44,7 @@ impl Parts {
         self.window.symbol(at, out).is_some()
     }
 
-    /// Writes the info of an object of the window, with what a repair adds to the flags. False where the window has none
-    /// such.
+    /// Writes the info of an object of the window, with `repair` added to its flags. Returns `false` if the window has no such info.
     fn write_info(&self, index: u32, repair: u8, out: &mut Datagram) -> bool
         requires { self.now.window.p ≡ self.now.profile }
         ensures { (s : SenderState) (kind : Kind) (info octets : List ℕ) → Agrees (kept_of self.now) s → kept_at s index ≡ Some (Whole kind (Some info) octets)
@@ -64,7 +63,7 @@ impl Parts {
         true
     }
 
-    /// Notes that an encoded symbol of the window was sent.
+    /// Notes in the window and the union that an encoded symbol was sent.
     fn note_symbol(&mut self, at: Position)
         requires window { IsEncodedIn self.old.window at }
         requires union { IsAdmitted self.old.union.kept at }
@@ -85,14 +84,14 @@ impl Parts {
         self.window.note_info(index);
     }
 
-    /// After a datagram: the next may be sent a gap later, under the next sequence number.
+    /// Call after each datagram: the next may be sent a gap later, and has the next sequence number.
     pub(crate) fn spend(&mut self, now: Moment)
         ensures { self.new ≡ record self.old { pace = spent self.old.profile now self.old.pace } }
     {
         self.pace = self.pace.sent(self.profile.gap, now);
     }
 
-    /// Sends an encoded symbol of the window.
+    /// Sends an encoded symbol of the window, with `repair` added to its flags.
     fn send_symbol(&mut self, at: Position, repair: u8, now: Moment, out: &mut Datagram) -> Sent
         requires { CanSend (kept_of self.old) (Symbol at) }
         ensures profile { self.new.profile ≡ self.old.profile }
@@ -108,7 +107,7 @@ impl Parts {
         Sent::Datagram
     }
 
-    /// Sends the info of an object of the window.
+    /// Sends the info of an object of the window, with `repair` added to its flags.
     fn send_info(&mut self, index: u32, repair: u8, now: Moment, out: &mut Datagram) -> Sent
         requires { CanSend (kept_of self.old) (Info index) }
         ensures profile { self.new.profile ≡ self.old.profile }
@@ -124,7 +123,7 @@ impl Parts {
         Sent::Datagram
     }
 
-    /// Sends an info or an encoded symbol of the window.
+    /// Sends an info or an encoded symbol of the window, with `repair` added to its flags: 0 if it is new.
     pub(crate) fn send_want(
         &mut self,
         want: &Want,
@@ -143,7 +142,7 @@ impl Parts {
         }
     }
 
-    /// The flags of a repair: of a source symbol and of an info that it was asked for by its own name.
+    /// What a repair adds to the flags. An info and a source symbol were asked for by their own names, parity was not.
     pub(crate) fn repair_flags(&self, want: &Want) -> u8
         ensures few { result ≤ 3 }
         ensures exact { (s : SenderState) → Agrees (kept_of self.now) s → IsValid self.now.profile s want.now

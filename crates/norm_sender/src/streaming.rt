@@ -1,4 +1,4 @@
-//! Streams (RFC 5740 section 5.1 on NORM_OBJECT_STREAM): one is opened, written to, cut and closed.
+//! Streams (RFC 5740 section 5.1 on NORM_OBJECT_STREAM): opens one, writes to it, cuts and closes it.
 
 ghost use Rattle.std.specs.Prelude.{◌≡◌, List, Ok, IfOk, IfErr, IsErr};
 ghost use Rattle.norm_base.specs.Settings.{InRange};
@@ -20,7 +20,7 @@ use fec_plan::Plan;
 use norm_base::Profile;
 use norm_send_rules::{EnqueueFault, Receipt};
 
-/// How each stream is cut.
+/// How each stream is cut into blocks.
 fn stream_plan(profile: &Profile) -> Plan
     ensures { result ≡ stream_cut profile.now.e profile.now.b profile.now.max_n }
 {
@@ -30,8 +30,11 @@ fn stream_plan(profile: &Profile) -> Plan
 }
 
 impl Parts {
-    /// Opens a stream: it is admitted to what may be asked for, and what has to go for it is dropped. It takes all the memory that the
-    /// stream needs, before anything is dropped.
+    /// Opens a stream: admits it to the union, and drops what has to go for its buffer. Takes all its memory before anything is dropped.
+    ///
+    /// # Errors
+    ///
+    /// The window's fault, or `Memory`. Then nothing changes.
     pub(crate) fn open(&mut self) -> Result<Receipt, EnqueueFault>
         requires { IsStanding (kept_of self.old) }
         ensures range { InRange self.old.profile }
@@ -63,7 +66,7 @@ impl Parts {
         }
     }
 
-    /// As many segments of the open stream may be asked for as are closed in the window.
+    /// Lets receivers ask for all segments of the open stream that are closed in the window.
     fn grow(&mut self, index: u32)
         requires { IsGrowing (kept_of self.old) index }
         ensures rest { self.new ≡ record self.old { union = self.new.union } }
@@ -74,7 +77,7 @@ impl Parts {
         self.union.grow(index, segments);
     }
 
-    /// Octets join the open stream, for which blocks of it, and before them all entries before it, go where all of them were sent.
+    /// Writes octets to the open stream. If there is no room, its first blocks are dropped, and before them all entries before the stream.
     pub(crate) fn write(&mut self, bytes: &[u8]) -> Result<Receipt, EnqueueFault>
         requires { IsStanding (kept_of self.old) }
         ensures range { InRange self.old.profile }
@@ -98,7 +101,7 @@ impl Parts {
         }
     }
 
-    /// The open stream ends.
+    /// Ends the open stream. Blocks are dropped for room as in `write`.
     pub(crate) fn close(&mut self) -> Result<Receipt, EnqueueFault>
         requires { IsStanding (kept_of self.old) }
         ensures range { InRange self.old.profile }
@@ -117,7 +120,7 @@ impl Parts {
         }
     }
 
-    /// The segment that fills of the open stream is closed, where it holds octets.
+    /// Closes the open stream's segment that fills, if it holds octets.
     pub(crate) fn cut(&mut self)
         requires { CanCut (kept_of self.old) }
         ensures profile { self.new.profile ≡ self.old.profile }

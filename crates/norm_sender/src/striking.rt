@@ -1,4 +1,4 @@
-//! Striking a receiver from the members for good (beyond RFC 5740).
+//! Strikes a receiver from the members for good (beyond RFC 5740).
 
 ghost use Rattle.std.specs.Prelude.{◌≡◌};
 ghost use Rattle.norm_base.specs.Settings.{InRange};
@@ -12,7 +12,7 @@ use norm_base::NodeId;
 use norm_send_rules::{Receipt, StrikeFault};
 
 impl Parts {
-    /// Strikes a member, and watermarks may be satisfied by those that are left.
+    /// Strikes a member. Watermarks are satisfied if enough of the members that are left are past them.
     pub(crate) fn strike(&mut self, node: NodeId) -> Result<Receipt, StrikeFault>
         ensures range { InRange self.old.profile }
         ensures profile { self.new.profile ≡ self.old.profile }

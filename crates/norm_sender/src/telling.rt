@@ -1,4 +1,4 @@
-//! News of a sender's members.
+//! What a sender reports of its members, and the numbers that callers ask for.
 
 ghost use Rattle.std.specs.Prelude.{◌≡◌, ◌+◌, length, IfNone};
 ghost use Rattle.norm_base.specs.Settings.{InRange};
@@ -13,7 +13,7 @@ use norm_base::InstanceId;
 use norm_send_rules::News;
 
 impl Parts {
-    /// The first change that was not told yet.
+    /// Returns the next change to report.
     pub(crate) fn news(&mut self) -> Option<News>
         ensures range { InRange self.old.profile }
         ensures profile { self.new.profile ≡ self.old.profile }
@@ -24,7 +24,7 @@ impl Parts {
         self.book.news()
     }
 
-    /// How many changes were not told yet.
+    /// How many changes are still to be reported.
     pub(crate) fn untold(&self) -> usize
         ensures { (s : SenderState) → Agrees (kept_of self.now) s → result ≡ length s.untold_nodes + length s.untold_marks }
     {

@@ -18,7 +18,7 @@ use fec_plan::{Point, Position};
 use norm_base::{Datagram, Moment, Sent};
 use norm_send_rules::Want;
 
-/// The place behind an info or a symbol.
+/// Returns what comes just after an info or a symbol: the first symbol, or the next one of the block.
 fn behind(want: &Want) -> Want
     requires { HasNext want.now }
     ensures { result ≡ behind want.now }
@@ -42,7 +42,7 @@ fn behind(want: &Want) -> Want
 }
 
 impl Parts {
-    /// Sends what is new, or else a flush.
+    /// Sends the next new info or symbol. If nothing is new, flushes.
     fn send_further(&mut self, now: Moment, out: &mut Datagram) -> Sent
         requires { IsStanding (kept_of self.old) }
         ensures profile { self.new.profile ≡ self.old.profile }
@@ -57,7 +57,7 @@ impl Parts {
         self.send_want(&want, 0, now, out)
     }
 
-    /// Sends the lowest want, or else what comes further.
+    /// Sends the lowest want. If nothing is wanted, sends what is new, or flushes.
     fn send_wanted(&mut self, now: Moment, out: &mut Datagram) -> Sent
         requires { IsStanding (kept_of self.old) }
         ensures profile { self.new.profile ≡ self.old.profile }
@@ -72,7 +72,7 @@ impl Parts {
         self.send_want(&want, flags, now, out)
     }
 
-    /// Sends a squelch: the window begins at its first block.
+    /// Sends a squelch, which names the first block of the window.
     fn squelch(&mut self, now: Moment, out: &mut Datagram) -> Sent
         ensures profile { self.new.profile ≡ self.old.profile }
         ensures stands { (s : SenderState) → Agrees (kept_of self.old) s → s.squelch_due ≡ true
@@ -85,7 +85,7 @@ impl Parts {
         Sent::Datagram
     }
 
-    /// Sends a squelch that is due, or else what is wanted.
+    /// Sends a squelch if one is due. Otherwise sends the lowest want, or what comes after wants.
     fn send_first(&mut self, now: Moment, out: &mut Datagram) -> Sent
         requires { IsStanding (kept_of self.old) }
         ensures profile { self.new.profile ≡ self.old.profile }
@@ -99,7 +99,7 @@ impl Parts {
         self.send_wanted(now, out)
     }
 
-    /// Closes the round where that is due, and sends a datagram, where the next send moment is reached and there is one.
+    /// Closes the round if it is due. Then sends a datagram if the next send moment has come and there is one.
     pub(crate) fn tick(&mut self, now: Moment, out: &mut Datagram) -> Sent
         requires { IsStanding (kept_of self.old) }
         ensures range { InRange self.old.profile }
@@ -116,7 +116,7 @@ impl Parts {
         self.send_first(now, out)
     }
 
-    /// Whether no squelch, want, new symbol or open round is there.
+    /// Whether no squelch is due, nothing is wanted, nothing new is left to send, and no round is open.
     pub(crate) fn is_idle(&self) -> bool
         ensures { (s : SenderState) → Agrees (kept_of self.now) s → result ≡ is_idle self.now.profile s }
     {

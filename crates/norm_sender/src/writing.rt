@@ -1,5 +1,5 @@
-//! The fronts of a sender's datagrams (RFC 5740 section 4.2): all that stands before a symbol's octets, an info or a list
-//! of nodes, which are pushed behind it where they lie.
+//! Writes a sender's datagrams (RFC 5740 section 4.2) up to a symbol's octets, an info or a list of nodes. The caller pushes these afterwards, so
+//! that they are copied once.
 
 ghost use Rattle.std.specs.Prelude.{◌≡◌, ◌%◌, ◌<◌, ◌≤◌, ◌++◌, [], ◌∷◌, length};
 ghost use Rattle.norm_ext.specs.Extensions.{fti_extension};
@@ -15,11 +15,11 @@ use norm_cmdmsg::{CommandMsg, write_command};
 use norm_ext::{CmdHead, Fti, ObjHead, fti_words, object_id};
 use norm_objmsg::{DataMsg, InfoMsg, write_data, write_info};
 
-/// So many blocks have a number in a message.
+/// How many block numbers fit into a message.
 // RFC 5510 section 5.1: 24 bits name a block.
 const BLOCK_COUNT: u32 = 16_777_216;
 
-/// A symbol's name, as messages spell it: with the lowest 24 bits of the block's number.
+/// A symbol's name as messages spell it: the lowest 24 bits of its block's number, and its id.
 fn name_of(block: u32, symbol: u8) -> PayloadId
     ensures { result ≡ record { block = block % 16777216; symbol = symbol } }
 {
@@ -29,7 +29,7 @@ fn name_of(block: u32, symbol: u8) -> PayloadId
     }
 }
 
-/// What INFO and DATA of an object begin with.
+/// The head of an INFO and of a DATA.
 fn object_head(profile: &Profile, pace: &Pace, index: u32, flags: u8) -> ObjHead
     ensures exact { result ≡ object_front profile.now pace.now index flags }
     ensures backoff { result.backoff < 16 }
@@ -48,7 +48,7 @@ fn object_head(profile: &Profile, pace: &Pace, index: u32, flags: u8) -> ObjHead
     }
 }
 
-/// What a command begins with.
+/// The head of a command.
 fn command_head(profile: &Profile, pace: &Pace) -> CmdHead
     ensures exact { result ≡ command_front profile.now pace.now }
     ensures backoff { result.backoff < 16 }
@@ -64,7 +64,7 @@ fn command_head(profile: &Profile, pace: &Pace) -> CmdHead
     }
 }
 
-/// Writes the front of an INFO with this head into the empty datagram.
+/// Writes an INFO with this head and no info into the empty datagram.
 fn put_info_front(head: &ObjHead, fti: &Fti, out: &mut Datagram)
     requires empty { out.old ≡ [] }
     requires backoff { head.now.backoff < 16 }
@@ -82,7 +82,7 @@ fn put_info_front(head: &ObjHead, fti: &Fti, out: &mut Datagram)
     );
 }
 
-/// Writes the front of a DATA with this head into the empty datagram.
+/// Writes a DATA with this head and no payload into the empty datagram.
 fn put_data_front(head: &ObjHead, id: &PayloadId, fti: &Fti, out: &mut Datagram)
     requires empty { out.old ≡ [] }
     requires backoff { head.now.backoff < 16 }
@@ -101,7 +101,7 @@ fn put_data_front(head: &ObjHead, id: &PayloadId, fti: &Fti, out: &mut Datagram)
     );
 }
 
-/// Writes the front of a FLUSH with this head into the empty datagram.
+/// Writes a FLUSH with this head and no nodes into the empty datagram.
 fn put_flush_front(head: &CmdHead, object: u16, id: &PayloadId, out: &mut Datagram)
     requires empty { out.old ≡ [] }
     requires backoff { head.now.backoff < 16 }
@@ -139,7 +139,7 @@ fn put_squelch(head: &CmdHead, object: u16, id: &PayloadId, out: &mut Datagram)
     );
 }
 
-/// Writes the front of an INFO: all but the info.
+/// Clears the datagram, and writes an INFO without its info.
 pub(crate) fn write_info_front(
     profile: &Profile,
     pace: &Pace,
@@ -156,7 +156,7 @@ pub(crate) fn write_info_front(
     put_info_front(&head, fti, out);
 }
 
-/// Writes the front of a DATA: all but the symbol's octets.
+/// Clears the datagram, and writes a DATA without its symbol.
 // The front alone: the symbol is pushed behind it from where it lies, so its octets are copied once.
 pub(crate) fn write_data_front(
     profile: &Profile,
@@ -175,7 +175,7 @@ pub(crate) fn write_data_front(
     put_data_front(&head, &id, fti, out);
 }
 
-/// Writes the front of a FLUSH: all but the nodes.
+/// Clears the datagram, and writes a FLUSH without its nodes.
 pub(crate) fn write_flush_front(profile: &Profile, pace: &Pace, at: &Position, out: &mut Datagram)
     ensures exact { out.new ≡ octets_of (Flush (record { head = command_front profile.now pace.now; object = id_of_index profile.now at.now.index; id = record { block = at.now.block; symbol = at.now.symbol }; extensions = []; nodes = [] })) }
     ensures size { length out.new ≡ 20 }
@@ -186,7 +186,7 @@ pub(crate) fn write_flush_front(profile: &Profile, pace: &Pace, at: &Position, o
     put_flush_front(&head, object_id(profile, at.index), &id, out);
 }
 
-/// Writes a SQUELCH, whose list of objects is left empty.
+/// Clears the datagram, and writes a SQUELCH that names this block and lists no objects.
 pub(crate) fn write_squelch(profile: &Profile, pace: &Pace, first: &Point, out: &mut Datagram)
     ensures { out.new ≡ octets_of (Squelch (record { head = command_front profile.now pace.now; object = id_of_index profile.now first.now.index; id = record { block = first.now.block; symbol = 0 }; extensions = []; invalid = [] })) }
 {
@@ -196,7 +196,7 @@ pub(crate) fn write_squelch(profile: &Profile, pace: &Pace, first: &Point, out: 
     put_squelch(&head, object_id(profile, first.index), &id, out);
 }
 
-/// Adds an object's info behind the front of an INFO.
+/// Appends an object's info to an INFO that was written without it.
 pub(crate) fn push_info(profile: &Profile, info: &[u8], out: &mut Datagram)
     requires front { length out.old ≡ 28 }
     requires most { length info.now ≤ profile.now.e }

@@ -1,4 +1,4 @@
-//! A stream of the window, open or closed.
+//! A stream of the window, open or closed. It knows which of its segments were sent, and decides which blocks go for room.
 
 ghost use Rattle.std.specs.Prelude.{ℕ, true, ◌≡◌, ◌<◌, ◌≤◌, ◌+◌, ◌-◌, ◌*◌, ◌++◌, List, [], ◌∷◌, IfOk, OnErr, OnOk, length, nat_lt, max, not, false, None};
 ghost use Rattle.std.specs.List.{list_all, range_with_len};
@@ -27,9 +27,11 @@ use norm_send_rules::StreamFault;
 use std::alloc::Global;
 use std::marker::Model;
 
-/// A stream of the window. [`write`](HeldStream::write) and [`cut`](HeldStream::cut) come in any order, and
-/// [`close`](HeldStream::close) once behind them; the other calls come at any time. All memory is taken by
-/// [`new`](HeldStream::new).
+/// A stream of the window.
+///
+/// Call [`write`](HeldStream::write) and [`cut`](HeldStream::cut) in any order, and [`close`](HeldStream::close) once after them. Call
+/// [`note_sent`](HeldStream::note_sent) after each symbol that was sent. The other calls may come at any time. [`new`](HeldStream::new) takes all
+/// the memory.
 // Beside the buffer and not in it, since it decides itself which blocks go for room. The window says only where the stream stands, what all
 // members are listed past, and whether the entries before it may go.
 #[derive(Debug, Drop)]
@@ -37,7 +39,7 @@ pub struct HeldStream {
     buffer: StreamBuf,
     /// For each closed segment from the first kept block on, whether it was sent.
     marks: Marks,
-    /// Segments of a block.
+    /// How many segments a block has.
     b: u8,
 }
 
@@ -52,7 +54,7 @@ impl Model for HeldStream {
     ghost invariant = { HeldSound };
 }
 
-/// Whether every member is listed past a position, where the mode asks for that.
+/// Whether every member is listed past `last`, or need not be in this mode.
 fn is_released(profile: &Profile, past: &Option<Position>, last: Position) -> bool
     ensures { result ≡ (elim profile.now.mode [ Hold ↦ reached_by past.now last | Dropping ↦ true ]) }
 {
@@ -63,11 +65,11 @@ fn is_released(profile: &Profile, past: &Option<Position>, last: Position) -> bo
 }
 
 impl HeldStream {
-    /// A stream to which nothing was written.
+    /// Returns a stream to which nothing was written.
     ///
     /// # Errors
     ///
-    /// `Memory` where memory runs out.
+    /// `Memory` if memory runs out.
     pub fn new(alloc: Global, profile: &Profile) -> Result<HeldStream, Memory>
         ensures { IfOk result (λ stream. (index : ℕ) (sent : List Place)
             → ((at : Place) → is_member position_before at sent ≡ true → at.index ≡ index → ⊥) → Knows profile.now index [] sent stream) }
@@ -82,7 +84,7 @@ impl HeldStream {
         })
     }
 
-    /// How the stream is cut.
+    /// How the stream is cut into blocks.
     pub fn plan(&self) -> Plan
         ensures exact { result ≡ self.now.buffer.cut }
         ensures stream { self.now.buffer.cut.l ≡ None }
@@ -97,7 +99,7 @@ impl HeldStream {
         self.buffer.first_block()
     }
 
-    /// How many segments were closed so far.
+    /// How many segments were closed so far, given up or not.
     pub fn segments(&self) -> u32
         ensures exact { result ≡ closed_segments self.now.buffer }
         ensures few { result ≤ 16777216 * self.now.buffer.cut.b }
@@ -105,7 +107,7 @@ impl HeldStream {
         self.buffer.segments()
     }
 
-    /// Its segments have room, and 24 bits number its blocks. Nothing is done.
+    /// Does nothing. Its contract says that the segments have room, and that 24 bits number the blocks.
     pub fn fits(&self)
         ensures room { closed_segments self.now.buffer ≤ (self.now.buffer.first + self.now.buffer.blocks) * self.now.buffer.cut.b }
         ensures few { closed_segments self.now.buffer ≤ 16777216 * self.now.buffer.cut.b }
@@ -129,8 +131,8 @@ impl HeldStream {
         self.buffer.is_ended()
     }
 
-    /// Adds a symbol, and answers whether it is there: its block was not given up, and its segment is closed, or of a
-    /// parity symbol all segments of its block are. It takes no memory.
+    /// Appends a symbol if it is there, and returns whether it is. A segment is there if it is closed and its block was not given up. Parity is there
+    /// if all segments of its block are. Takes no memory.
     pub fn symbol(&self, block: u32, symbol: u8, out: &mut Datagram) -> bool
         requires symbol { symbol < self.now.buffer.cut.max_n }
         requires room { length out.old + self.now.buffer.cut.e + place_octets ≤ datagram_room }
@@ -140,7 +142,7 @@ impl HeldStream {
         self.buffer.symbol(block, symbol, out)
     }
 
-    /// Writes octets, where blocks below `may_go`, whose segments were all sent, may be given up for room.
+    /// Writes octets. Blocks below `may_go`, whose segments were all sent, may be given up for room.
     fn put(&mut self, bytes: &[u8], may_go: u32) -> Result<u32, StreamFault>
         requires some { 1 ≤ length bytes.now }
         requires closed { may_go * self.old.buffer.cut.b ≤ closed_segments self.old.buffer }
@@ -163,7 +165,7 @@ impl HeldStream {
         }
     }
 
-    /// Closes the segment that fills, where it holds octets.
+    /// Closes the segment that fills, if it holds octets.
     pub fn cut(&mut self)
         ensures knows { (p : Settings) (index : ℕ) (parts : List Part) (sent : List Place) → Knows p index parts sent self.old
             → Knows p index (with_cut p.e parts) sent self.new }
@@ -174,7 +176,7 @@ impl HeldStream {
         self.marks.follow(0, kept);
     }
 
-    /// Ends the stream, where blocks below `may_go`, whose segments were all sent, may be given up for room.
+    /// Ends the stream. Blocks below `may_go`, whose segments were all sent, may be given up for room.
     fn end(&mut self, may_go: u32) -> Result<(), StreamFault>
         requires closed { may_go * self.old.buffer.cut.b ≤ closed_segments self.old.buffer }
         requires sent { (may_go - self.old.buffer.first) * self.old.buffer.cut.b ≤ run_of self.old.sent }
@@ -196,7 +198,7 @@ impl HeldStream {
         }
     }
 
-    /// Marks an encoded symbol of a kept block as sent.
+    /// Marks an encoded symbol of a kept block as sent. Parity has no mark, and changes nothing.
     pub fn note_sent(&mut self, block: u32, symbol: u8)
         requires { self.old.buffer.first ≤ block }
         ensures first { self.new.buffer.first ≡ self.old.buffer.first }
@@ -215,8 +217,8 @@ impl HeldStream {
         self.marks.note(place);
     }
 
-    /// Whether the kept blocks before this one, of which there is one, may all go, of the stream with this index. It is asked
-    /// of all of them at once: how many segments were sent in a row, and whether every member is listed past the last.
+    /// Whether all kept blocks before `to`, at least one, may go. `index` is the stream's. Looks at all of them at once: how many segments were sent
+    /// in a row, and whether every member is listed past the last one.
     fn front_may_go(&self, profile: &Profile, index: u32, past: &Option<Position>, to: u32) -> bool
         requires { self.now.buffer.first < to }
         ensures exact { (s : SenderState) (parts : List Part) → Knows profile.now index parts s.sent self.now
@@ -240,9 +242,8 @@ impl HeldStream {
         is_released(profile, past, last)
     }
 
-    /// Whether the kept blocks before this one may all go, of the stream with this index, where all members are listed past
-    /// `past`: all their segments are closed and were sent, and where the mode asks for that every member is listed past
-    /// them.
+    /// Whether all kept blocks before `to` may go: all their segments are closed and were sent, and in hold mode every member is listed past them.
+    /// `index` is the stream's, and `past` the least position that members are listed past.
     pub fn blocks_may_go(
         &self,
         profile: &Profile,
@@ -261,8 +262,8 @@ impl HeldStream {
         self.front_may_go(profile, index, past, to)
     }
 
-    /// The blocks below this one may be given up for room, where the first that is kept then is `least`. `before` says
-    /// whether all entries before the stream may go.
+    /// Returns `least` if the blocks before it have to go for room and may go. Returns 0 otherwise: no block may be given up. `before` says whether
+    /// all entries before the stream may go.
     fn may_go(
         &self,
         profile: &Profile,
@@ -292,14 +293,15 @@ impl HeldStream {
         least
     }
 
-    /// Writes octets, at least one, to the stream with this index, and answers the offset of the first. Where there is no
-    /// room, blocks go for it, oldest first and no more than needed, if they may and the entries before the stream may
-    /// (`before`). It takes no memory.
+    /// Writes octets, at least one, to the stream with this index. Returns the offset of the first octet. If there is no room, blocks go for it,
+    /// oldest first and no more than needed, if they may go and all entries before the stream may (`before`). Takes no memory.
     ///
     /// # Errors
     ///
-    /// `Spent` where the stream would have more octets than 32 bits count, or more segments than 2^24 blocks; `Full` where
-    /// blocks would have to go that may not. Nothing changes then.
+    /// - `Spent` if the stream would have more octets than 32 bits count, or more segments than 2^24 blocks.
+    /// - `Full` if a block would have to go that may not.
+    ///
+    /// Then nothing changes.
     pub fn write(
         &mut self,
         profile: &Profile,
@@ -319,8 +321,8 @@ impl HeldStream {
         self.put(bytes, may_go)
     }
 
-    /// Ends the stream with this index: closes the segment that fills, where it holds octets, and adds one of no octets.
-    /// Blocks go for room as in [`write`](HeldStream::write). It takes no memory.
+    /// Ends the stream with this index: closes the segment that fills, if it holds octets, and adds one without octets. Blocks go for room as in
+    /// [`write`](HeldStream::write). Takes no memory.
     ///
     /// # Errors
     ///
@@ -350,7 +352,7 @@ impl HeldStream {
         self.marks.all_sent()
     }
 
-    /// The last of so many segments, where the stream has this index. `None` exactly where there is none.
+    /// The position of the last of `segments` segments, if the stream has this index. `None` if there are none.
     fn last_of(&self, index: u32, segments: u32) -> Option<Position>
         requires { segments ≤ 16777216 * self.now.buffer.cut.b }
         ensures { (p : Settings) (parts more : List Part) → StandsFor p parts self.now.buffer → segments ≡ (shape_of p (Stream more)).closed
@@ -368,14 +370,14 @@ impl HeldStream {
         })
     }
 
-    /// The last closed segment, where the stream has this index. `None` exactly where no segment is closed.
+    /// The position of the last closed segment, if the stream has this index. `None` if no segment is closed.
     pub fn last(&self, index: u32) -> Option<Position>
         ensures { (p : Settings) (parts : List Part) → StandsFor p parts self.now.buffer → result ≡ last_in index (shape_of p (Stream parts)) }
     {
         self.last_of(index, self.buffer.segments())
     }
 
-    /// The last closed segment once the one that fills is cut, where the stream has this index.
+    /// The position of the last closed segment after a [`cut`](HeldStream::cut), if the stream has this index. Cuts nothing.
     pub fn last_cut(&self, index: u32) -> Option<Position>
         ensures { (p : Settings) (parts : List Part) → StandsFor p parts self.now.buffer
             → result ≡ last_in index (shape_of p (Stream (with_cut p.e parts))) }

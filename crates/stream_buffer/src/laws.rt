@@ -2,7 +2,7 @@
 
 ghost use Rattle.stream_buffer.specs.Laws.{IsAsRuled};
 
-/// Why a stream of the window does not go on is what the rules say of the open stream.
+/// A stream of the window is refused more for the reasons that the rules give for the open stream, and for no other.
 #[tactic(auto, using(crate::proofs::LawLemmas::as_ruled))]
 pub fn grows_as_ruled()
     ensures { IsAsRuled }

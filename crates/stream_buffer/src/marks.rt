@@ -1,4 +1,4 @@
-//! For each of some segments in a row, whether it was sent.
+//! Whether each of some segments in a row was sent.
 
 ghost use Rattle.std.specs.Prelude.{[], true, false, ◌≡◌, ◌<◌, ◌≤◌, ◌+◌, ◌-◌, ◌++◌, IfOk, IsTrue, length, nat_le, take, drop, replicate, slice_set};
 ghost use Rattle.std.specs.List.{list_all};
@@ -10,13 +10,15 @@ use std::alloc::Global;
 use std::collections::VecDeque;
 use std::marker::Model;
 
-/// A mark for each of some segments in a row. How many were sent in a row from the first on is counted, and not looked for.
+/// A mark for each of some segments in a row. How many were sent from the first on without a gap is kept.
+///
+/// Call [`follow`](Marks::follow) after segments were closed or given up, and [`note`](Marks::note) after one was sent.
 // `run` is kept because each write that needs room asks whether the first blocks were sent: a search would pass over thousands of marks. It is
 // exactly the number of set marks at the beginning: a greater one would let a block go that was never sent.
 #[derive(Debug, Drop)]
 pub struct Marks {
     sent: VecDeque<bool>,
-    /// How many marks from the first on are set in a row.
+    /// How many marks from the first on are set without a gap.
     run: usize,
 }
 
@@ -30,7 +32,7 @@ impl Model for Marks {
     ghost invariant = { MarksSound };
 }
 
-/// How many marks from the first on are set in a row, where those before `from` are.
+/// How many marks from the first on are set without a gap. Those before `from` are set.
 fn run_from(sent: &VecDeque<bool>, from: usize) -> usize
     requires { from ≤ run_of sent.now.items }
     ensures { result ≡ run_of sent.now.items }
@@ -44,7 +46,7 @@ fn run_from(sent: &VecDeque<bool>, from: usize) -> usize
     sent.len()
 }
 
-/// Gives up so many marks.
+/// Removes the first `gone` marks.
 fn give_up(sent: &mut VecDeque<bool>, gone: usize)
     requires { gone ≤ length sent.old.items }
     ensures items { sent.new.items ≡ drop gone sent.old.items }
@@ -53,7 +55,7 @@ fn give_up(sent: &mut VecDeque<bool>, gone: usize)
     sent.drain(..gone);
 }
 
-/// Gives up so many marks, and keeps so many in all. The new ones are not set.
+/// Removes the first `gone` marks, and keeps `kept` in all. New ones are not set.
 fn move_on(sent: &mut VecDeque<bool>, gone: usize, kept: usize)
     requires gone { gone ≤ length sent.old.items }
     requires room { kept ≤ deque_capacity sent.old }
@@ -66,7 +68,11 @@ fn move_on(sent: &mut VecDeque<bool>, gone: usize, kept: usize)
 }
 
 impl Marks {
-    /// No marks, with room for so many.
+    /// Returns no marks, with memory for `room` of them.
+    ///
+    /// # Errors
+    ///
+    /// `Memory` if memory runs out.
     pub fn new(alloc: Global, room: usize) -> Result<Marks, Memory>
         ensures { IfOk result (λ marks. (marks.sent ≡ []) × (room ≤ marks.room)) }
     {
@@ -81,8 +87,7 @@ impl Marks {
         self.sent.len()
     }
 
-    /// Gives up the marks of so many segments, all of which were sent, and keeps those of so many in all. The new ones were
-    /// not sent.
+    /// Removes the marks of the first `gone` segments, all of which were sent, and keeps `kept` marks in all. New ones are not set.
     pub fn follow(&mut self, gone: usize, kept: usize)
         requires gone { gone ≤ run_of self.old.sent }
         requires room { kept ≤ self.old.room }
@@ -93,7 +98,7 @@ impl Marks {
         self.run = kept.min(self.run - gone);
     }
 
-    /// Marks a segment as sent.
+    /// Marks a segment as sent. `place` counts from the first mark.
     pub fn note(&mut self, place: usize)
         requires { place < length self.old.sent }
         ensures { self.new ≡ record (self.old) { sent = slice_set self.old.sent place true } }
@@ -105,14 +110,14 @@ impl Marks {
         }
     }
 
-    /// Whether the first so many were all sent.
+    /// Whether the first `count` segments were all sent.
     pub fn are_sent(&self, count: usize) -> bool
         ensures { result ≡ nat_le count (run_of self.now.sent) }
     {
         count <= self.run
     }
 
-    /// Whether all were sent.
+    /// Whether all segments with a mark were sent.
     pub fn all_sent(&self) -> bool
         ensures { result ≡ list_all (λ b. b) self.now.sent }
     {

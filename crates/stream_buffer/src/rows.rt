@@ -1,4 +1,4 @@
-//! A ring of rows, one for each segment of a stream.
+//! A ring of symbol buffers, one for each segment of a stream.
 
 ghost use Rattle.std.specs.Prelude.{[], ◌∷◌, ◌≡◌, ◌<◌, ◌≤◌, ◌+◌, ◌-◌, ◌*◌, ◌%◌, ◌++◌, IfOk, Some, length, replicate, take, drop, slice_get};
 ghost use Rattle.std.specs.List.{concat};
@@ -12,20 +12,22 @@ use norm_base::{Memory, SYMBOL_ROOM};
 use std::alloc::Global;
 use std::marker::Model;
 
-/// Segments of a stream, by their numbers, and the one that fills. Each has a row: its place, its octets, and zeros.
+/// The segments of a stream by their numbers, and the one that fills. Each has a symbol buffer: its header of 8 octets, its own octets, and zeros.
+///
+/// [`fill`](Rows::fill) adds octets to the segment that fills, [`seal`](Rows::seal) closes it, and [`give_up`](Rows::give_up) drops the first ones.
 // The segment that fills has no buffer of its own: its octets stand once, in the row in which they are sent and coded.
 #[derive(Debug, Drop)]
 pub struct Rows {
     ring: Vec<u8>,
-    /// Octets of a row.
+    /// How many octets a symbol buffer has.
     size: usize,
-    /// How many rows there are.
+    /// How many symbol buffers there are.
     room: usize,
-    /// The number of the first segment that is kept.
+    /// The number of the first kept segment.
     first: usize,
-    /// How many segments were closed. The next one fills in the row behind them.
+    /// How many segments were closed. The next one fills in the symbol buffer after theirs.
     closed: usize,
-    /// How many octets that one has.
+    /// How many octets the segment that fills has.
     filled: usize,
 }
 
@@ -39,7 +41,7 @@ impl Model for Rows {
     ghost invariant = { RowsSound };
 }
 
-/// Puts a piece over the octets from `start` on.
+/// Copies a piece over the octets from `start` on.
 fn put(octets: &mut [u8], start: usize, piece: &[u8])
     requires { start + length piece.now ≤ length octets.old }
     ensures { octets.new ≡ over start piece.now octets.old }
@@ -47,7 +49,7 @@ fn put(octets: &mut [u8], start: usize, piece: &[u8])
     octets[start..start + piece.len()].copy_from_slice(piece);
 }
 
-/// Puts so many zeros over the octets from `start` on, at most those of a row.
+/// Puts `len` zeros over the octets from `start` on, at most those of a symbol buffer.
 fn put_zeros(octets: &mut [u8], start: usize, len: usize)
     requires fits { start + len ≤ length octets.old }
     requires most { len ≤ 1408 }
@@ -57,7 +59,7 @@ fn put_zeros(octets: &mut [u8], start: usize, len: usize)
     put(octets, start, zeros.as_slice().split_at(len).0);
 }
 
-/// Where the row of a segment begins, in a ring of so many rows.
+/// The offset in the ring of a segment's symbol buffer, if there are `room` of them.
 fn row_start(number: usize, room: usize, size: usize, len: usize) -> usize
     requires some { 0 < room }
     requires len { len ≡ room * size }
@@ -67,7 +69,7 @@ fn row_start(number: usize, room: usize, size: usize, len: usize) -> usize
     number % room * size
 }
 
-/// The place of a segment as it is sent: its length, no start of a message, and its offset.
+/// The header of a segment as it is sent: its length, no start of a message, and its offset.
 // A stream marks no messages, so payload_msg_start is 0 (RFC 5740 section 4.2.1).
 fn place_of(len: u16, offset: u32) -> [u8; 8]
     ensures { result ≡ to_be_bytes w16 len ++ to_be_bytes w16 0 ++ to_be_bytes w32 offset }
@@ -77,7 +79,7 @@ fn place_of(len: u16, offset: u32) -> [u8; 8]
     [a, b, 0, 0, c, d, e, f]
 }
 
-/// Puts a place over the first octets of a row, and zeros over those behind `used` of it.
+/// Puts the header over the first octets of a symbol buffer, and zeros over those from `used` on.
 fn seal_row(ring: &mut [u8], start: usize, size: usize, used: usize, place: &[u8])
     requires row { start + size ≤ length ring.old }
     requires place { length place.now ≤ size }
@@ -90,7 +92,7 @@ fn seal_row(ring: &mut [u8], start: usize, size: usize, used: usize, place: &[u8
     put_zeros(ring, start + used, size - used);
 }
 
-/// So many octets from octet `start` on.
+/// Returns `len` octets from `start` on.
 fn part(octets: &[u8], start: usize, len: usize) -> &[u8]
     requires { start + len ≤ length octets.now }
     ensures part { result.now ≡ take len (drop start octets.now) }
@@ -102,7 +104,11 @@ fn part(octets: &[u8], start: usize, len: usize) -> &[u8]
 impl Rows {
     ghost use Rattle.norm_order.specs.Segments.{Segment};
 
-    /// A ring of so many rows of `size` octets.
+    /// Returns a ring of `room` symbol buffers of `size` octets.
+    ///
+    /// # Errors
+    ///
+    /// `Memory` if memory runs out.
     pub fn new(alloc: Global, size: usize, room: usize) -> Result<Rows, Memory>
         requires least { place_octets ≤ size }
         requires most { size ≤ 1408 }
@@ -121,7 +127,7 @@ impl Rows {
         })
     }
 
-    /// How many segments were closed.
+    /// How many segments were closed, given up or not.
     pub fn closed(&self) -> usize
         ensures { result ≡ self.now.first + length self.now.rows }
     {
@@ -146,7 +152,7 @@ impl Rows {
         self.filled += piece.len();
     }
 
-    /// Closes the segment that fills, whose first octet has this offset in the stream.
+    /// Closes the segment that fills. `offset` is that of its first octet in the stream.
     pub fn seal(&mut self, offset: u32)
         requires free { length self.old.rows < self.old.room }
         requires few { self.old.first + length self.old.rows < 4294967295 }
@@ -166,7 +172,7 @@ impl Rows {
         self.filled = 0;
     }
 
-    /// Keeps no segment before this one.
+    /// Gives up the segments before this one.
     pub fn give_up(&mut self, first: usize)
         requires from { self.old.first ≤ first }
         requires to { first ≤ self.old.first + length self.old.rows }
@@ -175,7 +181,7 @@ impl Rows {
         self.first = first;
     }
 
-    /// The row of a closed segment.
+    /// The symbol buffer of a closed segment.
     pub fn row(&self, number: usize) -> &[u8]
         requires from { self.now.first ≤ number }
         requires to { number < self.now.first + length self.now.rows }
@@ -186,7 +192,7 @@ impl Rows {
         part(&self.ring, start, self.size)
     }
 
-    /// The rows of closed segments that lie behind each other in the ring.
+    /// The symbol buffers of `count` closed segments from `number` on, which lie one after the other in the ring.
     // The rows of a block never go round the end, because the ring has room for whole blocks. So a block is one slice, and its parity takes no
     // copy.
     pub fn run(&self, number: usize, count: usize) -> &[u8]

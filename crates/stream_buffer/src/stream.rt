@@ -1,4 +1,4 @@
-//! The open stream of a sender.
+//! The octets of a stream: cuts them into segments, and makes the symbols of those.
 
 ghost use Rattle.std.specs.Prelude.{true, false, None, List, [], ◌∷◌, ◌≡◌, ◌<◌, ◌≤◌, ◌+◌, ◌-◌, ◌*◌, ◌++◌, IfOk, OnErr, OnOk, MatchOption, Ok, Err, length, min, max, slice_get};
 ghost use Rattle.std.specs.Int.{div_ceil};
@@ -25,21 +25,20 @@ use rs_block::Code;
 use std::alloc::Global;
 use std::marker::Model;
 
-/// An open stream: the segments of its last blocks, the octets of the segment that fills, and the code of its blocks.
+/// The octets of a stream: the segments of its last blocks, the one that fills, and the code of its blocks.
 ///
-/// [`write`](StreamBuf::write) and [`cut`](StreamBuf::cut) come in any order, and [`close`](StreamBuf::close) once behind
-/// them. A segment's symbol is there once it is closed: it is full, or was cut, or is the end. All memory is taken by
-/// [`new`](StreamBuf::new).
+/// Call [`write`](StreamBuf::write) and [`cut`](StreamBuf::cut) in any order, and [`close`](StreamBuf::close) once after them. A segment has a
+/// symbol once it is closed: when it is full, is cut, or is the end. [`new`](StreamBuf::new) takes all the memory.
 // The open segment has a row too, so a cut never needs room that a write did not ask for.
 #[derive(Debug, Drop)]
 pub struct StreamBuf {
     code: Code,
     rows: Rows,
-    /// Octets of a segment.
+    /// How many octets a full segment has.
     e: u16,
-    /// Segments of a block.
+    /// How many segments a block has.
     b: u8,
-    /// Encoding symbols of a block.
+    /// How many encoding symbols a block has.
     max_n: u8,
     /// How many blocks there is room for.
     blocks: u16,
@@ -64,11 +63,11 @@ impl Model for StreamBuf {
 }
 
 impl StreamBuf {
-    /// A stream to which nothing was written. Its room is the profile's `blocks` blocks of `b` segments.
+    /// Returns a stream to which nothing was written. It has room for the profile's `blocks` blocks of `b` segments.
     ///
     /// # Errors
     ///
-    /// `Memory` where memory runs out.
+    /// `Memory` if memory runs out.
     pub fn new(alloc: Global, profile: &Profile) -> Result<StreamBuf, Memory>
         ensures empty { IfOk result (λ stream. stream ≡ empty_stream profile.now) }
         ensures stands { IfOk result (λ stream. StandsFor profile.now [] stream) }
@@ -90,7 +89,7 @@ impl StreamBuf {
         })
     }
 
-    /// How the stream is cut.
+    /// How the stream is cut into blocks.
     pub fn plan(&self) -> Plan
         ensures exact { result ≡ self.now.cut }
         ensures stream { self.now.cut.l ≡ None }
@@ -106,7 +105,7 @@ impl StreamBuf {
         self.first
     }
 
-    /// How many segments were closed so far.
+    /// How many segments were closed so far, given up or not.
     pub fn segments(&self) -> u32
         ensures exact { result ≡ closed_segments self.now }
         ensures few { result ≤ 16777216 * self.now.cut.b }
@@ -114,7 +113,7 @@ impl StreamBuf {
         self.rows.closed() as u32
     }
 
-    /// How many segments are closed once the one that fills is cut, where it holds octets.
+    /// How many segments are closed after a [`cut`](StreamBuf::cut). Cuts nothing.
     pub fn segments_cut(&self) -> u32
         ensures exact { (p : Settings) (parts : List Part) → StandsFor p parts self.now → result ≡ (shape_of p (Stream (with_cut p.e parts))).closed }
         ensures few { result ≤ 16777216 * self.now.cut.b }
@@ -123,7 +122,7 @@ impl StreamBuf {
         (self.rows.closed() + filling) as u32
     }
 
-    /// How many closed segments are kept: those of the first block that was not given up, and all behind it.
+    /// How many closed segments are kept: those of the first block that was not given up, and all after them.
     pub fn kept(&self) -> usize
         ensures exact { result ≡ length self.now.rows }
         ensures few { result ≤ self.now.blocks * self.now.cut.b }
@@ -145,7 +144,7 @@ impl StreamBuf {
         self.ended
     }
 
-    /// Adds octets to the segment that fills, and closes it where it is full.
+    /// Adds octets to the segment that fills, and closes it if it is full then.
     fn fill(&mut self, piece: &[u8])
         requires free { length self.old.rows < self.old.blocks * self.old.cut.b }
         requires named { closed_segments self.old < 16777216 * self.old.cut.b }
@@ -180,7 +179,7 @@ impl StreamBuf {
         let _ = &self.rows;
     }
 
-    /// Makes room for so many segments, of which those are that the stream has.
+    /// Makes room for `used` segments, with those that the stream has. Gives up blocks below `may_go` for that, no more than needed.
     #[tactic(auto, unfolding(norm_order::specs::First::first_where))]
     fn make_room(&mut self, used: u64, may_go: u32) -> Result<(), StreamFault>
         requires closed { may_go * self.old.cut.b ≤ closed_segments self.old }
@@ -204,7 +203,7 @@ impl StreamBuf {
         Ok(())
     }
 
-    /// The first block that is kept where so many segments have room.
+    /// The blocks before this one have to go if `used` segments are to have room.
     fn least(&self, used: u64) -> u32
         ensures { used ≤ 16777216 * self.now.cut.b → result ≡ div_ceil used self.now.cut.b - self.now.blocks }
     {
@@ -215,7 +214,7 @@ impl StreamBuf {
         used.div_ceil(b).saturating_sub(u64::from(self.blocks)) as u32
     }
 
-    /// The first block that is kept where these octets have room, in a stream that can have so many.
+    /// The blocks before this one have to go if these octets are to have room. The stream must be open, and able to have them.
     pub fn least_for(&self, bytes: &[u8]) -> u32
         ensures { (p : Settings) (parts : List Part) (by : Origin) → StandsFor p parts self.now → has_end parts ≡ false
             → is_spent p (parts ++ Write by bytes.now ∷ []) ≡ false → result ≡ least_kept p (used_segments p (parts ++ Write by bytes.now ∷ [])) }
@@ -225,7 +224,7 @@ impl StreamBuf {
         self.least(used)
     }
 
-    /// The first block that is kept where the end has room, in a stream that can have it.
+    /// The blocks before this one have to go if the end is to have room. The stream must be open, and able to have it.
     pub fn least_for_end(&self) -> u32
         ensures { (p : Settings) (parts : List Part) → StandsFor p parts self.now → has_end parts ≡ false
             → is_spent p (parts ++ End ∷ []) ≡ false → result ≡ least_kept p (used_segments p (parts ++ End ∷ [])) }
@@ -235,14 +234,16 @@ impl StreamBuf {
         self.least(used)
     }
 
-    /// Writes octets, at least one, and answers the offset of the first. Blocks below `may_go`, whose segments are all
-    /// closed, may be given up for room, oldest first and no more than needed. It takes no memory.
+    /// Writes octets, at least one, and returns the offset of the first. Blocks below `may_go`, whose segments are all closed, may be given up for
+    /// room, oldest first and no more than needed. Takes no memory.
     ///
     /// # Errors
     ///
-    /// `Closed` after [`close`](StreamBuf::close); `Spent` where the stream would have more octets than 32 bits count, or
-    /// more segments than 2^24 blocks; `Full` where there is no room, also if every block below `may_go` went. Nothing
-    /// changes then.
+    /// - `Closed` after [`close`](StreamBuf::close).
+    /// - `Spent` if the stream would have more octets than 32 bits count, or more segments than 2^24 blocks.
+    /// - `Full` if there is no room, even if every block below `may_go` goes.
+    ///
+    /// Then nothing changes.
     pub fn write(&mut self, bytes: &[u8], may_go: u32) -> Result<u32, StreamFault>
         requires some { 1 ≤ length bytes.now }
         requires closed { may_go * self.old.cut.b ≤ closed_segments self.old }
@@ -273,7 +274,7 @@ impl StreamBuf {
         }
     }
 
-    /// Closes the segment that fills, where it holds octets.
+    /// Closes the segment that fills, if it holds octets.
     pub fn cut(&mut self)
         ensures cut { (p : Settings) (parts : List Part) → StandsFor p parts self.old → StandsFor p (with_cut p.e parts) self.new }
         ensures first { self.new.first ≡ self.old.first }
@@ -286,7 +287,7 @@ impl StreamBuf {
         }
     }
 
-    /// Ends the stream, for which there is room: closes the segment that fills, and adds one of no octets.
+    /// Ends the stream: closes the segment that fills, if it holds octets, and adds one without octets. There has to be room.
     fn end(&mut self)
         requires short { length self.old.filling < self.old.cut.e }
         requires counted { length self.old.filling ≤ self.old.octets }
@@ -299,8 +300,8 @@ impl StreamBuf {
         self.ended = true;
     }
 
-    /// Ends the stream: closes the segment that fills, where it holds octets, and adds one of no octets. `may_go` is as
-    /// in [`write`](StreamBuf::write). It takes no memory.
+    /// Ends the stream: closes the segment that fills, if it holds octets, and adds one without octets. `may_go` is as in
+    /// [`write`](StreamBuf::write). Takes no memory.
     ///
     /// # Errors
     ///
@@ -328,7 +329,7 @@ impl StreamBuf {
         }
     }
 
-    /// Adds a source symbol: a segment's place and its octets.
+    /// Appends a source symbol: the header and the octets of a segment.
     fn push_segment(&self, number: usize, out: &mut Datagram)
         requires from { kept_from self.now ≤ number }
         requires to { number < closed_segments self.now }
@@ -341,7 +342,7 @@ impl StreamBuf {
         out.push(row.split_at(len.min(row.len())).0);
     }
 
-    /// Adds a parity symbol of a block whose segments are all closed.
+    /// Appends a parity symbol of a block whose segments are all closed.
     fn push_parity(&self, block: u32, symbol: u8, out: &mut Datagram)
         requires from { self.now.first ≤ block }
         requires to { block * self.now.cut.b + self.now.cut.b ≤ closed_segments self.now }
@@ -361,8 +362,8 @@ impl StreamBuf {
         out.push(parity);
     }
 
-    /// Adds a symbol of the stream, and answers whether it is there: its block was not given up, and its segment is
-    /// closed, or of a parity symbol all segments of its block are. It takes no memory.
+    /// Appends a symbol if it is there, and returns whether it is. A segment is there if it is closed and its block was not given up. Parity is there
+    /// if all segments of its block are. Takes no memory.
     pub fn symbol(&self, block: u32, symbol: u8, out: &mut Datagram) -> bool
         requires symbol { symbol < self.now.cut.max_n }
         requires room { length out.old + self.now.cut.e + place_octets ≤ datagram_room }

@@ -1,4 +1,4 @@
-//! An object of the window: what it is, where it lies in the ring, and what of it was sent.
+//! An object of the window: what it is, its offset in the ring, and what of it was sent.
 
 ghost use Rattle.std.specs.Prelude.{ℕ, ◌≡◌, ◌+◌, ◌<◌, ◌≤◌, List, Option, Bool, true, ◌||◌, ◌&&◌, is_none, option_copied, IfOk, Some, ◌*◌, length, MatchOption, ⊤, is_some, replicate, false};
 ghost use Rattle.std.specs.List.{list_all};
@@ -22,6 +22,9 @@ use std::alloc::Global;
 use std::marker::Model;
 
 /// A data object or a file whose octets lie in the window's ring.
+///
+/// Call [`note_sent`](Held::note_sent) after a symbol was sent, and [`note_info`](Held::note_info) after the info. [`is_sent`](Held::is_sent) then
+/// tells whether all of it was sent.
 // `unsent` is counted because the window asks for it at each object that it wants to drop. It is the number of marks in `sent` that are not set:
 // with any other number an object could go before all of it was sent, or never.
 #[derive(Debug, Drop)]
@@ -32,7 +35,7 @@ pub struct Held {
     info: Option<Octets>,
     /// How many octets it has.
     len: u32,
-    /// The place of its first octet in the ring.
+    /// The offset of its first octet in the ring.
     start: usize,
     /// For each source symbol, whether it was sent.
     sent: Vec<bool>,
@@ -63,7 +66,7 @@ impl Model for Held {
     ghost invariant = { HeldSound };
 }
 
-/// How an object of so many octets is cut, 1 to 16,777,216 of them.
+/// How an object of `len` octets is cut into blocks and symbols, 1 to 16,777,216 octets.
 pub fn plan_of(profile: &Profile, len: u32) -> Plan
     requires some { 1 ≤ len }
     requires most { len ≤ 16777216 }
@@ -73,7 +76,7 @@ pub fn plan_of(profile: &Profile, len: u32) -> Plan
     Plan::of(u64::from(len), profile.e, profile.b, profile.max_n).unwrap()
 }
 
-/// So many marks of what was not sent.
+/// Returns `count` marks of what was not sent.
 fn unsent_marks(alloc: Global, count: usize) -> Result<Vec<bool>, Memory>
     ensures { IfOk result (λ marks. marks.items ≡ replicate count false) }
 {
@@ -82,8 +85,12 @@ fn unsent_marks(alloc: Global, count: usize) -> Result<Vec<bool>, Memory>
 }
 
 impl Held {
-    /// An object of so many octets, 1 to 16,777,216 of them, that lies in the ring from octet `start` on. Nothing of it
-    /// was sent. Its codes are those of the table, where one that is not there is made and kept.
+    /// Returns an object of `len` octets, 1 to 16,777,216, that lies in the ring from offset `start` on. Nothing of it was sent. Its codes are those
+    /// of the table; one that is not there is made and kept.
+    ///
+    /// # Errors
+    ///
+    /// `Memory` if memory runs out. Then the info is gone.
     pub fn new(
         alloc: Global,
         profile: &Profile,
@@ -118,14 +125,14 @@ impl Held {
         })
     }
 
-    /// How it is cut.
+    /// How the object is cut into blocks and symbols.
     pub fn plan(&self) -> Plan
         ensures { result ≡ self.now.cut }
     {
         self.plan
     }
 
-    /// The flags of each of its messages: FILE of a file, and INFO where it has info (RFC 5740 section 4.2.1).
+    /// The flags of each of its messages (RFC 5740 section 4.2.1): FILE if it is a file, and INFO if it has info.
     pub fn flags(&self) -> u8
         ensures { (octets : List ℕ) → result ≡ object_flags (Whole self.now.kind self.now.info octets) }
     {
@@ -136,7 +143,7 @@ impl Held {
         }
     }
 
-    /// How many symbols of a block are sent by themselves, with so much parity.
+    /// How many symbols of a block are sent by themselves: its source symbols and `auto` parity symbols, or all if it has fewer.
     fn once(&self, auto: u8, block: u32) -> u8
         ensures { result ≡ once auto self.now.cut block }
     {
@@ -146,7 +153,8 @@ impl Held {
             .min(self.plan.encoded_len(block))
     }
 
-    /// The first symbol from a place on that is sent by itself, with so much parity of each block.
+    /// The first symbol from `at` on that is sent by itself, with `auto` parity symbols of each block: `at` itself, or the next block's first. `None`
+    /// if there is none.
     pub fn next_in(&self, auto: u8, at: Position) -> Option<Position>
         ensures next { IsNextIn auto self.now.cut at result }
         ensures id { MatchOption result ⊤ (λ next. next.symbol < 255) }
@@ -182,14 +190,14 @@ impl Held {
         self.len
     }
 
-    /// The place of its first octet in the ring.
+    /// The offset of its first octet in the ring.
     pub fn start(&self) -> usize
         ensures { result ≡ self.now.start }
     {
         self.start
     }
 
-    /// The last source symbol, where the object has this index.
+    /// The last source symbol of the object, if it has this index.
     pub fn last(&self, index: u32) -> Position
         ensures { (info : Bool) → last_in index (record { cut = self.now.cut; closed = all_symbols self.now.cut; info = info }) ≡ Some result }
     {
@@ -200,7 +208,7 @@ impl Held {
         }
     }
 
-    /// How many octets of the ring it takes: those of whole symbols.
+    /// How many octets of the ring it takes, which are those of whole symbols.
     pub fn taken(&self) -> usize
         ensures exact { result ≡ all_symbols self.now.cut * self.now.cut.e }
         ensures sound { IsSound self.now.cut }
@@ -208,8 +216,7 @@ impl Held {
         self.sent.len() * usize::from(self.plan.e())
     }
 
-    /// Adds a symbol, and answers how many octets it has. `None` exactly where the object has no such encoded symbol;
-    /// then nothing is added.
+    /// Appends a symbol, and returns how many octets it has. `None` if the object has no such encoded symbol; then nothing is appended.
     pub fn symbol(&self, ring: &Ring, block: u32, symbol: u8, out: &mut Datagram) -> Option<u16>
         requires lies { LiesIn ring.now self.now }
         requires room { length out.old + self.now.cut.e ≤ datagram_room }
@@ -227,7 +234,7 @@ impl Held {
         Some(self.plan.symbol_octets(block, symbol))
     }
 
-    /// Marks an encoded symbol as sent.
+    /// Marks an encoded symbol as sent. Parity has no mark, and changes nothing.
     pub fn note_sent(&mut self, block: u32, symbol: u8)
         requires { block < blocks self.old.cut }
         ensures { self.new ≡ with_sent self.old block symbol }
@@ -266,14 +273,14 @@ impl Held {
         self.unsent == 0
     }
 
-    /// Whether all source symbols were sent, and the info where there is one.
+    /// Whether all source symbols were sent, and the info if there is one.
     pub fn is_sent(&self) -> bool
         ensures { result ≡ ((is_none self.now.info || self.now.info_sent) && list_all (λ b. b) self.now.sent) }
     {
         self.is_info_sent() && self.are_symbols_sent()
     }
 
-    /// The object's info; of a file its name.
+    /// Returns the info. That of a file is its name.
     pub fn info(&self) -> Option<&[u8]>
         ensures { option_copied result ≡ self.now.info }
     {

@@ -1,7 +1,7 @@
-//! An object of a sender's window (RFC 5740 section 5.1), and the ring of symbols that it lies in.
+//! An object of a sender's window (RFC 5740 section 5.1), and the ring of octets that it lies in.
 //!
-//! A window makes one [`Ring`], in which all octets lie, and a [`Held`] for each object that it takes in: it makes the object's
-//! symbols by `obj_buffer` from the ring's octets, and marks what of it was sent.
+//! `tx_window` makes one [`Ring`] for the octets of all objects, and a [`Held`] for each object that it takes in. The object makes its symbols by
+//! `obj_buffer` from the ring's octets, and marks what of it was sent.
 #![tactic(auto)]
 
 mod held;

@@ -1,4 +1,4 @@
-//! A ring of octets, in which an object lies in one piece or, round the end, in two.
+//! A ring of octets. An object lies in it in one piece, or in two if it goes past the end.
 
 ghost use Rattle.std.specs.Prelude.{ℕ, List, ◌≡◌, ◌<◌, ◌≤◌, ◌+◌, ◌-◌, ◌++◌, IfOk, length, min, replicate, take, drop};
 ghost use Rattle.tx_object.specs.Round.{round, IsClear, IsAround};
@@ -7,7 +7,7 @@ use norm_base::{Memory, SYMBOL_ROOM};
 use std::alloc::Global;
 use std::marker::Model;
 
-/// Octets that go on from their end to their beginning.
+/// Octets in a ring: the first one comes after the last one.
 #[derive(Debug, Drop)]
 pub struct Ring {
     octets: Vec<u8>,
@@ -21,7 +21,7 @@ impl Model for Ring {
     ghost view = { λ r. r.octets.items };
 }
 
-/// Puts a piece over the octets from `start` on.
+/// Copies a piece over the octets from `start` on.
 fn put(octets: &mut [u8], start: usize, piece: &[u8])
     requires { start + length piece.now ≤ length octets.old }
     ensures { octets.new ≡ take start octets.old ++ piece.now ++ drop (start + length piece.now) octets.old }
@@ -30,7 +30,11 @@ fn put(octets: &mut [u8], start: usize, piece: &[u8])
 }
 
 impl Ring {
-    /// A ring of so many octets, each 0.
+    /// Returns a ring of `len` zeros.
+    ///
+    /// # Errors
+    ///
+    /// `Memory` if memory runs out.
     pub fn new(alloc: Global, len: usize) -> Result<Ring, Memory>
         ensures { IfOk result (λ ring. ring ≡ replicate len 0) }
     {
@@ -45,7 +49,7 @@ impl Ring {
         self.octets.len()
     }
 
-    /// The octet that is `count` behind another one.
+    /// The offset `count` octets after `at`, around the end if need be.
     pub fn behind(&self, at: usize, count: usize) -> usize
         requires at { at < length self.now }
         requires count { count ≤ length self.now }
@@ -60,7 +64,7 @@ impl Ring {
         }
     }
 
-    /// `len` octets from octet `start` on: those up to the ring's end, and those behind.
+    /// Returns `len` octets from offset `start` on: those up to the ring's end, and the rest from its beginning.
     // Proof: a ring is its octets twice, so two pieces of a ring are two pieces of two lists, and range_is serves both.
     pub fn pieces(&self, start: usize, len: usize) -> (&[u8], &[u8])
         requires start { start < length self.now }
@@ -76,7 +80,7 @@ impl Ring {
         )
     }
 
-    /// Puts the octets into the ring from octet `start` on.
+    /// Copies octets into the ring from offset `start` on.
     pub fn write(&mut self, start: usize, piece: &[u8])
         requires start { start < length self.old }
         requires len { length piece.now ≤ length self.old }
@@ -91,7 +95,7 @@ impl Ring {
         put(&mut self.octets, 0, rest);
     }
 
-    /// Puts zeros into the ring from octet `start` on, at most 1,400 of them.
+    /// Puts `len` zeros into the ring from offset `start` on, at most 1,400.
     pub fn clear(&mut self, start: usize, len: usize)
         requires start { start < length self.old }
         requires len { len ≤ length self.old }

@@ -1,8 +1,8 @@
-//! An entry of the window: an object that lies in the window's ring, or a stream of which the first blocks may be gone.
+//! An entry of the window: an object that lies in the window's ring, or a stream whose first blocks may be gone.
 //!
-//! A window keeps a [`HeldEntry`] for each entry of the order that it did not drop, and asks it alike whatever it is. Nothing above this
-//! module decides by the kind of an entry. [`may_all_go`] asks the first entries; [`write_last`], [`cut_last`] and [`close_last`] go on with
-//! the last one if it is the open stream.
+//! A window keeps a [`HeldEntry`] for each entry of the order that it did not drop, and asks all of them alike. Outside of this module, only the
+//! count of streams depends on the kind of an entry. [`may_all_go`] asks the first entries. [`write_last`], [`cut_last`] and [`close_last`] go on
+//! with the last one if it is the open stream.
 
 mod front;
 mod growing;
@@ -35,13 +35,13 @@ use norm_ext::{Fti, flags};
 use stream_buffer::HeldStream;
 use tx_object::{Held, Ring};
 
-/// An entry of the window. What each call answers is said of the object that the entry stands for.
+/// An entry of the window. Each call answers for the object that the entry stands for.
 // What the window asks of an object and of a stream is said here once, of one entry at a time.
 #[derive(Debug, Drop)]
 pub enum HeldEntry {
     /// A data object or a file, which lies in the window's ring.
     Object(Held),
-    /// A stream, open or closed, of which the first blocks may be gone.
+    /// A stream, open or closed, whose first blocks may be gone.
     Stream(HeldStream),
 }
 
@@ -53,7 +53,7 @@ fn buffer_len(profile: &Profile) -> u64
     u64::from(profile.blocks) * u64::from(profile.b) * u64::from(profile.e)
 }
 
-/// Whether every member is listed past a position, where the mode asks for that and there is one.
+/// Whether every member is listed past `last`, or need not be: in drop mode, or if there is no such position.
 fn is_released(profile: &Profile, past: &Option<Position>, last: &Option<Position>) -> bool
     ensures { (s : SenderState) → ((at : Place) → all_past s at ≡ reached_by past.now at) → result ≡ is_released profile.now s last.now }
 {
@@ -66,7 +66,7 @@ fn is_released(profile: &Profile, past: &Option<Position>, last: &Option<Positio
     }
 }
 
-/// How many symbols of a block of a stream are sent by themselves, where so many of its segments are closed.
+/// How many symbols of a stream's block are sent by themselves, if this many segments of the stream are closed.
 fn once(plan: &Plan, auto: u8, segments: u64, block: u32) -> u8
     ensures { (p : Settings) (parts : List Part) → plan.now ≡ stream_cut p.e p.b p.max_n → p.auto ≡ auto → segments ≡ (shape_of p (Stream parts)).closed
         → result ≡ sent_once p (shape_of p (Stream parts)) block }
@@ -81,7 +81,7 @@ fn once(plan: &Plan, auto: u8, segments: u64, block: u32) -> u8
     sources.saturating_add(auto).min(plan.encoded_len(block))
 }
 
-/// The first symbol of a stream from a place on that is sent by itself.
+/// The first symbol of a stream from `at` on that is sent by itself. `None` if there is none.
 fn next_segment(stream: &HeldStream, auto: u8, at: Position) -> Option<Position>
     ensures next { (p : Settings) (parts : List Part) → KeepsStream p parts stream.now.buffer → p.auto ≡ auto
         → IsNext p (shape_of p (Stream parts)) at result }
@@ -106,7 +106,7 @@ fn next_segment(stream: &HeldStream, auto: u8, at: Position) -> Option<Position>
     })
 }
 
-/// The first segment of a stream with this index that is kept and sent by itself.
+/// The first kept symbol that is sent by itself, of a stream with this index. `None` if there is none.
 fn first_segment(stream: &HeldStream, auto: u8, index: u32) -> Option<Position>
     ensures next { (p : Settings) (parts : List Part) → KeepsStream p parts stream.now.buffer → p.auto ≡ auto
         → IsNext p (shape_of p (Stream parts)) (position index stream.now.buffer.first 0) result }
@@ -127,7 +127,7 @@ fn first_segment(stream: &HeldStream, auto: u8, index: u32) -> Option<Position>
     next_segment(stream, auto, at)
 }
 
-/// Adds a symbol of a stream, and answers how many octets it has.
+/// Appends a symbol of a stream, and returns how many octets it has. `None` if it is not there; then nothing is appended.
 fn stream_symbol(stream: &HeldStream, block: u32, symbol: u8, out: &mut Datagram) -> Option<u16>
     requires { length out.old + symbol_room ≤ datagram_room }
     ensures { (p : Settings) (parts : List Part) → KeepsStream p parts stream.now.buffer
@@ -147,7 +147,7 @@ fn stream_symbol(stream: &HeldStream, block: u32, symbol: u8, out: &mut Datagram
 }
 
 impl HeldEntry {
-    /// How it is cut.
+    /// How the entry is cut into blocks and symbols.
     pub fn plan(&self) -> Plan
         ensures { (r : EntryReads) → StandsFor r self.now → result ≡ (shape_of r.p r.object).cut }
     {
@@ -157,7 +157,7 @@ impl HeldEntry {
         }
     }
 
-    /// How many octets of the window it takes: an object's own, or those of a stream's buffer.
+    /// How many octets of the window the entry takes: an object's own, or those of a stream's buffer.
     pub fn size(&self, profile: &Profile) -> u64
         ensures exact { (r : EntryReads) → StandsFor r self.now → r.p ≡ profile.now → result ≡ size_of profile.now r.object }
         ensures held { result ≡ held_size profile.now self.now }
@@ -169,7 +169,7 @@ impl HeldEntry {
         }
     }
 
-    /// What each of its messages says of how it is cut.
+    /// The transmission information in each of its messages. Its length is the size of the object, or of the stream's buffer.
     pub fn fti(&self, profile: &Profile) -> Fti
         ensures exact { (r : EntryReads) → StandsFor r self.now → r.p ≡ profile.now → result ≡ fti_of_object profile.now r.object }
         ensures long { result.l < 2 ^ 48 }
@@ -183,7 +183,7 @@ impl HeldEntry {
         }
     }
 
-    /// The flags of each of its messages: FILE of a file, INFO where it has info, and STREAM of a stream (RFC 5740 section 4.2.1).
+    /// The flags of each of its messages (RFC 5740 section 4.2.1): FILE if it is a file, INFO if it has info, STREAM if it is a stream.
     pub fn flags(&self) -> u8
         ensures { (r : EntryReads) → StandsFor r self.now → result ≡ object_flags r.object }
     {
@@ -193,7 +193,7 @@ impl HeldEntry {
         }
     }
 
-    /// Its info; of a file its name, and of a stream none.
+    /// Returns the info. That of a file is its name; a stream has none.
     pub fn info(&self) -> Option<&[u8]>
         ensures exact { (r : EntryReads) → StandsFor r self.now → option_copied result ≡ info_of r.object }
         ensures short { (r : EntryReads) → StandsFor r self.now → MatchOption (option_copied result) ⊤ (λ info. length info ≤ r.p.e) }
@@ -215,7 +215,7 @@ impl HeldEntry {
         }
     }
 
-    /// The first block that is kept: of an object the first.
+    /// The first block that is kept. An object keeps all blocks.
     pub fn first_block(&self) -> u32
         ensures { result ≡ first_of self.now }
     {
@@ -235,7 +235,7 @@ impl HeldEntry {
         }
     }
 
-    /// How many segments of a stream are closed. An object has none.
+    /// How many segments of a stream are closed. 0 for an object.
     pub fn segments(&self) -> u32
         ensures { (r : EntryReads) (parts : List Part) → StandsFor r self.now → r.object ≡ Stream parts → result ≡ (shape_of r.p r.object).closed }
     {
@@ -245,7 +245,7 @@ impl HeldEntry {
         }
     }
 
-    /// The last closed source symbol, where the entry has this index. `None` exactly where no source symbol is closed.
+    /// The last closed source symbol of the entry, which has this index. `None` if no source symbol is closed.
     pub fn last(&self, index: u32) -> Option<Position>
         ensures { (r : EntryReads) → StandsFor r self.now → result ≡ last_in index (shape_of r.p r.object) }
     {
@@ -255,7 +255,7 @@ impl HeldEntry {
         }
     }
 
-    /// The last closed source symbol once the segment that fills of a stream is cut, where the entry has this index.
+    /// The last closed source symbol after a [`cut`](HeldEntry::cut). The entry has this index, and is not cut by this.
     pub fn last_cut(&self, index: u32) -> Option<Position>
         ensures { (r : EntryReads) (parts : List Part) → StandsFor r self.now → r.object ≡ Stream parts
             → result ≡ last_in index (shape_of r.p (Stream (with_cut r.p.e parts))) }
@@ -266,7 +266,7 @@ impl HeldEntry {
         }
     }
 
-    /// The segments of a stream have room, and 24 bits number its blocks. Nothing is done.
+    /// Does nothing. Its contract says that the segments of a stream have room, and that 24 bits number its blocks.
     pub fn fits(&self)
         ensures segments { (r : EntryReads) (parts : List Part) → StandsFor r self.now → r.object ≡ Stream parts
             → ((shape_of r.p (Stream parts)).closed ≤ (first_of self.now + r.p.blocks) * r.p.b) × ((shape_of r.p (Stream parts)).closed ≤ 16777216 * r.p.b) }
@@ -278,7 +278,7 @@ impl HeldEntry {
         }
     }
 
-    /// Whether all closed source symbols were sent, and the info where there is one.
+    /// Whether all closed source symbols were sent, and the info if there is one.
     pub fn is_sent(&self) -> bool
         ensures { (ring : List ℕ) (p : Settings) (index : ℕ) (object : Entered) (s : SenderState) → StandsFor (reads_of ring p index object s) self.now
             → result ≡ is_sent s index (shape_of p object) }
@@ -289,8 +289,8 @@ impl HeldEntry {
         }
     }
 
-    /// Whether the entry with this index may go, where all members are listed past `past`: all of it was sent, and where the mode asks
-    /// for that every member is listed past its last source symbol.
+    /// Whether the entry with this index may go: all of it was sent, and in hold mode every member is listed past its last source symbol.
+    /// `past` is the least position that members are listed past.
     pub fn may_go(&self, profile: &Profile, index: u32, past: &Option<Position>) -> bool
         ensures { (ring : List ℕ) (object : Entered) (s : SenderState) → StandsFor (reads_of ring profile.now index object s) self.now
             → ((at : Place) → all_past s at ≡ reached_by past.now at) → result ≡ may_go profile.now s index (shape_of profile.now object) }
@@ -302,8 +302,8 @@ impl HeldEntry {
         self.is_sent()
     }
 
-    /// The first symbol from a place on that is sent by itself, with so much parity of each closed block: the place itself, or the
-    /// next block's first. Nothing of an open block is sent but its closed segments.
+    /// The first symbol from `at` on that is sent by itself: `at` itself, or the next block's first. `auto` parity symbols of each closed block are
+    /// sent by themselves. Of an open block only the closed segments are sent.
     pub fn next_in(&self, auto: u8, at: Position) -> Option<Position>
         ensures next { (r : EntryReads) → StandsFor r self.now → r.p.auto ≡ auto → IsNext r.p (shape_of r.p r.object) at result }
         ensures id { MatchOption result ⊤ (λ next. next.symbol < 255) }
@@ -314,7 +314,7 @@ impl HeldEntry {
         }
     }
 
-    /// The first kept symbol that is sent by itself, where the entry has this index, as by [`next_in`](HeldEntry::next_in).
+    /// The first kept symbol that is sent by itself, as by [`next_in`](HeldEntry::next_in). The entry has this index.
     pub fn first_in(&self, auto: u8, index: u32) -> Option<Position>
         ensures next { (r : EntryReads) → StandsFor r self.now → r.p.auto ≡ auto
             → IsNext r.p (shape_of r.p r.object) (position index (first_of self.now) 0) result }
@@ -333,8 +333,8 @@ impl HeldEntry {
         }
     }
 
-    /// Adds a symbol, and answers how many octets it has. `None` exactly where its block is gone, or there is no such encoded
-    /// symbol; then nothing is added. It takes no memory.
+    /// Appends a symbol, and returns how many octets it has. `None` if its block is gone, or if there is no such encoded symbol; then nothing is
+    /// appended. Takes no memory.
     pub fn symbol(&self, ring: &Ring, block: u32, symbol: u8, out: &mut Datagram) -> Option<u16>
         requires lies { Lies ring.now self.now }
         requires room { length out.old + symbol_room ≤ datagram_room }

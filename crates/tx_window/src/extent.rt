@@ -1,4 +1,4 @@
-//! How far an entry of the order reaches, which is kept also once the entry was dropped.
+//! How far each entry of the order reaches. This stays after the entry was dropped, so that an acknowledgement of it can be checked.
 
 ghost use Rattle.std.specs.Prelude.{◌≡◌, ◌+◌, ◌-◌, ◌<◌, ◌≤◌, ◌++◌, [], ◌∷◌, nat_lt, ◌⊎◌, length, drop};
 ghost use Rattle.std.specs.VecDeque.{deque_capacity};
@@ -12,19 +12,19 @@ use norm_base::Profile;
 use std::collections::VecDeque;
 use tx_object::plan_of;
 
-/// The extents of so many entries are kept, the last ones: an id names no entry before them.
+/// The extents of this many entries are kept, the last ones. No id names an entry before them.
 // By ids of 16 bits: they name one of the 32,769 indices up to the last one, and nothing before them. What is forgotten can be named by no
 // acknowledgement.
 const MOST_KEPT: usize = 32_769;
 
-/// How many octets an object has, or how many segments of a stream are closed.
+/// How far an entry reaches: how many octets an object has, or how many segments of a stream are closed.
 #[derive(Clone, Copy, Debug, PartialEq, Eq)]
 pub enum Extent {
     Object { len: u32 },
     Stream { segments: u32 },
 }
 
-/// Whether a source symbol of an object of so many octets is there.
+/// Whether an object of `len` octets has this source symbol.
 fn is_of_object(profile: &Profile, len: u32, block: u32, symbol: u8) -> bool
     requires { IsSized (OfObject len) }
     ensures { result ≡ nat_lt symbol (closed_in (shape_of_extent profile.now (OfObject len)) block) }
@@ -33,7 +33,7 @@ fn is_of_object(profile: &Profile, len: u32, block: u32, symbol: u8) -> bool
     block < plan.blocks() && symbol < plan.source_len(block)
 }
 
-/// Whether a source symbol of a stream of so many closed segments is one of them.
+/// Whether this source symbol of a stream is among the first `segments`, which are closed.
 fn is_of_stream(profile: &Profile, segments: u32, block: u32, symbol: u8) -> bool
     ensures { result ≡ nat_lt symbol (closed_in (shape_of_extent profile.now (OfStream segments)) block) }
 {
@@ -41,7 +41,7 @@ fn is_of_stream(profile: &Profile, segments: u32, block: u32, symbol: u8) -> boo
     symbol < profile.b && number < u64::from(segments)
 }
 
-/// Whether a source symbol of an entry is closed, where it reaches so far.
+/// Whether an entry of this extent has this closed source symbol.
 pub(crate) fn is_closed(profile: &Profile, extent: Extent, block: u32, symbol: u8) -> bool
     requires { IsSized extent }
     ensures { result ≡ nat_lt symbol (closed_in (shape_of_extent profile.now extent) block) }
@@ -52,7 +52,7 @@ pub(crate) fn is_closed(profile: &Profile, extent: Extent, block: u32, symbol: u
     }
 }
 
-/// The extent of the entry with an index, where so many were forgotten.
+/// The extent of the entry with this index. `None` if it is among the first `forgotten`, or was not enqueued.
 pub(crate) fn extent_at(extents: &VecDeque<Extent>, forgotten: u32, index: u32) -> Option<Extent>
     ensures { result ≡ from_first forgotten extents.now.items index }
 {
@@ -62,7 +62,7 @@ pub(crate) fn extent_at(extents: &VecDeque<Extent>, forgotten: u32, index: u32) 
     extents.get((index - forgotten) as usize).copied()
 }
 
-/// Keeps one more extent, and forgets the first one where there are more than ids can name. Says how many are forgotten.
+/// Adds an extent, and forgets the first one if there are more than ids can name. Returns how many are forgotten in all.
 pub(crate) fn keep_extent(extents: &mut VecDeque<Extent>, forgotten: u32, extent: Extent) -> u32
     requires room { length extents.old.items < deque_capacity extents.old }
     requires number { forgotten < 4294967295 }

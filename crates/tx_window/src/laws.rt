@@ -1,4 +1,4 @@
-//! What is promised of the states for which a window stands. Each law is the contract of a function that does nothing.
+//! What is promised of the states that a window stands for. Each law is the contract of a function that does nothing.
 
 ghost use Rattle.tx_window.specs.EntryLaws.{OthersStay};
 ghost use Rattle.tx_window.specs.Laws.{MayBeNoted, IsThere, SymbolIsDecided};
@@ -15,14 +15,14 @@ pub fn is_there()
     ensures { IsThere }
 {}
 
-/// For a symbol that is asked for, a state allows one answer with its octets. So a window that answers otherwise, as with zeros for a symbol
-/// that was dropped, does not meet what [`symbol`](crate::Window::symbol) promises.
+/// A state allows one answer to a request for a symbol, with its octets. So a window that answers otherwise, for example with zeros for a symbol that
+/// was dropped, breaks what [`symbol`](crate::Window::symbol) promises.
 #[tactic(auto, using(crate::proofs::LawLemmas::symbol_is_decided))]
 pub fn symbol_is_decided()
     ensures { SymbolIsDecided }
 {}
 
-/// What an entry stands for stays so if a symbol or an info of another one is sent.
+/// An entry stands for the same after a symbol or an info of another entry was sent.
 #[tactic(auto, using(crate::proofs::EntryOthers::others_stay))]
 pub fn others_stay()
     ensures { OthersStay }

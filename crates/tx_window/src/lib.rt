@@ -1,10 +1,14 @@
-//! The window of a NORM sender (RFC 5740 section 5.1) with streams: the objects and streams that it may still repair.
+//! The window of a NORM sender (RFC 5740 section 5.1): the objects and streams that the sender may still repair.
 //!
-//! A sender makes a [`Window`] and asks it for symbols and infos. It keeps a `HeldEntry` for each object or stream that it did
-//! not drop; objects lie in one ring of `tx_object`, and a stream has memory of its own. `window` is the type and what it is
-//! asked, `entry` an object or a stream, `room` what may go for room, `taking` how objects are taken in, `streaming` how a stream is opened
-//! and goes on, `noting` what is noted of it, and `extent` how far an entry reaches; [`laws`] says what a state says of each window that
-//! stands for it.
+//! `norm_sender` makes a [`Window`], enqueues objects and streams in it, and asks it for symbols and infos. The window keeps a `HeldEntry` for each
+//! object or stream that it did not drop. Objects lie in one ring of `tx_object`; a stream has memory of its own (`stream_buffer`).
+//!
+//! - `window`: the type, and what it is asked
+//! - `entry`: an object or a stream
+//! - `room`: what may go for room
+//! - `taking`, `streaming`: how objects are taken in, how a stream is opened and goes on
+//! - `noting`, `extent`: what is noted, and how far an entry reaches
+//! - [`laws`]: what holds of each state that a window stands for
 #![tactic(auto)]
 
 mod entry;

@@ -1,4 +1,4 @@
-//! What is noted of a window: what was sent, and what all members are listed past.
+//! Notes in a window what was sent, and what all members are listed past.
 
 ghost use Rattle.std.specs.Prelude.{◌≡◌};
 ghost use Rattle.fec_plan.specs.Points.{reached_by};
@@ -39,7 +39,7 @@ impl Window {
         self.held[place].note_info();
     }
 
-    /// The least position that all members are listed past, as it is now.
+    /// Notes the least position that members are listed past now. `None` if a member is listed past nothing.
     pub fn note_past(&mut self, through: Option<Position>)
         ensures exact { self.new ≡ record self.old { past = through } }
         ensures stands { (s t : SenderState) → Stands self.old s → reads t ≡ record (reads s) { past = all_past t }

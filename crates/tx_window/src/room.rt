@@ -1,4 +1,4 @@
-//! Room in the window: what has to go for one entry more, and whether it may (RFC 5740 section 5.1).
+//! Room in the window (RFC 5740 section 5.1): what has to go for one more entry, and whether it may.
 
 ghost use Rattle.std.specs.Prelude.{ℕ, ⊤, MatchOption, [], ◌∷◌, ◌++◌, true, false, Option, ◌≡◌, ◌+◌, ◌-◌, ◌<◌, ◌≤◌, ◌*◌, ◌^◌, ◌⊎◌, List, None, Some, length, map, take, drop, filter};
 ghost use Rattle.std.specs.Bool.{MatchBool};
@@ -30,7 +30,6 @@ use norm_ext::LAST_INDEX;
 use norm_send_rules::EnqueueFault;
 use std::collections::VecDeque;
 
-/// Whether an entry is a stream.
 fn is_stream(entry: &HeldEntry) -> bool
     ensures { result ≡ is_stream_held entry.now }
 {
@@ -94,7 +93,7 @@ fn most_octets(profile: &Profile) -> u64
     u64::from(profile.octets)
 }
 
-/// How many entries have to go for one of so many octets, and how many octets the others take.
+/// How many entries have to go for one of `len` octets, and how many octets the others take. All take `octets` before.
 fn room_for(profile: &Profile, held: &VecDeque<HeldEntry>, octets: u32, len: u32) -> (usize, u32)
     requires octets { octets ≡ all_sizes profile.now held.now.items }
     requires most { octets ≤ profile.now.octets }
@@ -119,7 +118,7 @@ fn room_for(profile: &Profile, held: &VecDeque<HeldEntry>, octets: u32, len: u32
     (held.len(), left)
 }
 
-/// Whether there is room for one more of so many octets, beside so many entries with so many octets.
+/// Whether there is room for an entry of `len` octets, if there are `entries` already and they take `octets`.
 fn has_room(profile: &Profile, entries: usize, octets: u32, len: u32) -> bool
     requires most { octets ≤ profile.now.octets }
     requires len { len ≤ profile.now.octets }
@@ -131,7 +130,7 @@ fn has_room(profile: &Profile, entries: usize, octets: u32, len: u32) -> bool
     octets + len <= profile.octets
 }
 
-/// Makes room for one more, and says whether there was memory for it.
+/// Reserves memory for one more entry and its extent. Returns `false` if memory ran out.
 // Proof: a capacity is in no model, so a function of the fields says that there is room.
 fn reserve(held: &mut VecDeque<HeldEntry>, extents: &mut VecDeque<Extent>) -> bool
     ensures held { held.new.items ≡ held.old.items }
@@ -142,7 +141,7 @@ fn reserve(held: &mut VecDeque<HeldEntry>, extents: &mut VecDeque<Extent>) -> bo
     held.reserve(1).is_ok() && extents.reserve(1).is_ok()
 }
 
-/// Drops so many entries from the front.
+/// Drops the first `count` entries.
 pub(crate) fn drop_front(held: &mut VecDeque<HeldEntry>, count: usize)
     requires { count ≤ length held.old.items }
     ensures items { held.new.items ≡ drop count held.old.items }
@@ -151,8 +150,8 @@ pub(crate) fn drop_front(held: &mut VecDeque<HeldEntry>, count: usize)
     held.drain(..count);
 }
 
-/// Makes room for an entry of `len` octets: takes the memory for it, and then drops the entries that have to go. Returns how many went,
-/// and how many octets the others take. `None` if memory ran out; then none went.
+/// Makes room for an entry of `len` octets: takes the memory for it, and then drops the entries that have to go. Returns how many went, and how
+/// many octets the others take. `None` if memory ran out; then none went.
 pub(crate) fn make_room(
     profile: &Profile,
     held: &mut VecDeque<HeldEntry>,
@@ -177,7 +176,7 @@ pub(crate) fn make_room(
     Some((count, left))
 }
 
-/// Adds an entry behind the others, and its extent behind theirs. Returns how many extents are forgotten.
+/// Adds an entry after the others, and its extent after theirs. Returns how many extents are forgotten in all.
 pub(crate) fn join(
     held: &mut VecDeque<HeldEntry>,
     extents: &mut VecDeque<Extent>,
@@ -197,7 +196,7 @@ pub(crate) fn join(
     keep_extent(extents, forgotten, extent)
 }
 
-/// What is wrong with the sizes of an object: the first fault that applies.
+/// The first fault in the sizes of an object and of its info, in octets.
 // Proof: early returns in the order of the rules' table, so that each is answered by itself.
 #[tactic(auto, unfolding(norm_order::specs::First::first_where))]
 fn size_fault(profile: &Profile, info: usize, len: u64) -> Option<EnqueueFault>
@@ -218,7 +217,7 @@ fn size_fault(profile: &Profile, info: usize, len: u64) -> Option<EnqueueFault>
 }
 
 impl Window {
-    /// Whether there is a first entry, and it may not go.
+    /// Whether there is a first entry that may not go.
     fn is_held_up(&self) -> bool
         ensures { (s : SenderState) → Stands self.now s → result ≡ true → may_all_go self.now.p s self.now.dropped (take 1 (window s)) ≡ false }
     {
@@ -228,7 +227,7 @@ impl Window {
         !may_all_go(&self.held, &self.profile, self.dropped, &self.past, 1)
     }
 
-    /// Whether there is room for one of so many octets, or what has to go for it may go.
+    /// Whether there is room for an entry of `len` octets, or all that has to go for it may go.
     fn can_make_room(&self, len: u32) -> bool
         requires begun { self.now.filling ≡ None }
         requires len { len ≤ self.now.p.octets }
@@ -244,7 +243,7 @@ impl Window {
         may_all_go(&self.held, &self.profile, self.dropped, &self.past, count)
     }
 
-    /// Why nothing of so many octets may join the order now, whatever its sizes: the first fault that applies.
+    /// Why no entry of `len` octets may join the order now: the first fault that applies. The caller has checked its sizes.
     fn joining_fault(&self, len: u32) -> Option<EnqueueFault>
         requires begun { self.now.filling ≡ None }
         requires len { len ≤ self.now.p.octets }
@@ -265,8 +264,8 @@ impl Window {
         None
     }
 
-    /// Why an object with so many octets, and an info of so many, would be refused now: the first fault that applies, want of
-    /// memory left out. Nothing is done.
+    /// Why an object of `len` octets with `info` octets of info would be refused now: the first fault that applies. Does not ask whether memory
+    /// suffices.
     // By sizes alone: a command that waits is offered in every turn, and an offer that is refused should cost neither memory nor a look at a
     // symbol.
     pub fn object_fault(&self, info: usize, len: u64) -> Option<EnqueueFault>
@@ -282,7 +281,7 @@ impl Window {
         self.joining_fault(len as u32)
     }
 
-    /// Why a stream would not be opened now: the first fault that applies, want of memory left out. Nothing is done.
+    /// Why a stream would not be opened now: the first fault that applies. Does not ask whether memory suffices.
     pub fn open_fault(&self) -> Option<EnqueueFault>
         requires begun { self.now.filling ≡ None }
         ensures exact { (s : SenderState) → Stands self.now s → result ≡ open_fault self.now.p s }

@@ -26,7 +26,7 @@ use norm_send_rules::EnqueueFault;
 use std::collections::VecDeque;
 use stream_buffer::HeldStream;
 
-/// Puts this extent in place of the last one, where there is one.
+/// Replaces the last extent, if there is one.
 fn set_last(extents: &mut VecDeque<Extent>, extent: Extent)
     ensures items { extents.new.items ≡ slice_set extents.old.items (length extents.old.items - 1) extent }
     ensures room { deque_capacity extents.new ≡ deque_capacity extents.old }
@@ -38,7 +38,7 @@ fn set_last(extents: &mut VecDeque<Extent>, extent: Extent)
     extents[last] = extent;
 }
 
-/// What is wrong with a write of so many octets: the first fault that applies.
+/// The first fault in the size of a write, `len` octets.
 #[tactic(auto, unfolding(norm_order::specs::First::first_where))]
 fn write_size_fault(profile: &Profile, len: usize) -> Option<EnqueueFault>
     ensures exact { result ≡ write_size_fault profile.now len }
@@ -56,7 +56,7 @@ fn write_size_fault(profile: &Profile, len: usize) -> Option<EnqueueFault>
     None
 }
 
-/// The last position of an order, where this is the last entry's.
+/// The last position of an order: the last entry's (`at`) if it has one, or else the last one before (`found`).
 fn last_of(at: Option<Position>, found: Option<Position>) -> Option<Position>
     ensures { result ≡ last_or at found }
 {
@@ -67,8 +67,8 @@ fn last_of(at: Option<Position>, found: Option<Position>) -> Option<Position>
 }
 
 impl Window {
-    /// Opens a stream at the end of the order, after what has to go for its buffer was dropped, and answers its index. It takes all
-    /// the memory that the stream needs, before anything is dropped.
+    /// Opens a stream at the end of the order, and returns its index. Drops what has to go for its buffer. Takes all its memory before anything is
+    /// dropped.
     ///
     /// # Errors
     ///
@@ -111,8 +111,7 @@ impl Window {
         Ok(index)
     }
 
-    /// Takes note of how the last entry went on, and answers its index: how far it reaches, and, where it gave up blocks, that the
-    /// entries before it are dropped.
+    /// Call after the last entry went on; returns its index. Notes how far it reaches now. If it gave up blocks, drops all entries before it.
     fn follow(&mut self) -> u32
         requires { self.old.filling ≡ None }
         ensures index { 0 < length self.old.entries → result ≡ self.old.dropped + (length self.old.entries - 1) }
@@ -144,12 +143,13 @@ impl Window {
         index
     }
 
-    /// Writes octets to the open stream, and answers its index and the offset of the first. Blocks of it go for room where each of
-    /// their segments was sent, and before them all entries before the stream. It takes no memory.
+    /// Writes octets to the open stream. Returns its index and the offset of the first octet. If there is no room, the first blocks of the stream go,
+    /// and before them all entries before it, if all of them may. Takes no memory.
     ///
     /// # Errors
     ///
-    /// The first of `Empty`, `TooBig`, `NoStream` and the stream's `Spent` and `Full` that applies. Then the window is as it was.
+    /// The first of `Empty`, `TooBig`, `NoStream` and the stream's `Spent` and `Full` that applies. Then the window is as it was. `TooBig` means more
+    /// octets than the stream's buffer has without one block.
     pub fn write(&mut self, bytes: &[u8]) -> Result<(u32, u32), EnqueueFault>
         requires { self.old.filling ≡ None }
         ensures written { (s : SenderState) (by : Origin) → Stands self.old s → IsWritten self.old.p s by bytes.now result self.new }
@@ -168,7 +168,7 @@ impl Window {
         }
     }
 
-    /// Ends the open stream, and answers its index. Blocks go for room as in [`write`](Window::write). It takes no memory.
+    /// Ends the open stream, and returns its index. Blocks go for room as in [`write`](Window::write). Takes no memory.
     ///
     /// # Errors
     ///
@@ -188,7 +188,7 @@ impl Window {
         }
     }
 
-    /// The last closed source symbol once the open stream is cut, also where its entry was dropped.
+    /// The last closed source symbol once the open stream is cut, even if its entry was dropped. Cuts nothing.
     // Asked before the cut: what takes memory for a mark comes first, so that want of memory leaves the whole sender as it was.
     pub fn end_cut(&self) -> Option<Position>
         ensures { (s : SenderState) → Stands self.now s → result ≡ last_source (current_shapes self.now.p (cut self.now.p s)) }
@@ -220,7 +220,7 @@ impl Window {
         entry.segments()
     }
 
-    /// 24 bits number the blocks before the first that is kept. Nothing is done.
+    /// Does nothing. Its contract says that 24 bits number the blocks before the first kept one.
     pub fn fits(&self)
         ensures { (drop_of self.now).block ≤ 16777216 }
     {
@@ -231,7 +231,7 @@ impl Window {
         entry.fits();
     }
 
-    /// Closes the segment that fills of the open stream, where it holds octets. Without an open stream nothing changes.
+    /// Closes the open stream's segment that fills, if it holds octets. Without an open stream nothing changes.
     pub fn cut(&mut self)
         requires { self.old.filling ≡ None }
         ensures stands { WindowMoves self.old self.new (cut self.old.p) }

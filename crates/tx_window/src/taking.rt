@@ -1,4 +1,4 @@
-//! Taking objects in (RFC 5740 section 5.1): an object is begun, filled and finished, and joins the order at its end.
+//! Takes objects in (RFC 5740 section 5.1): an object is begun, filled and finished, and is then the last entry of the order.
 
 ghost use Rattle.std.specs.Prelude.{ℕ, ⊤, ◌≡◌, ◌+◌, ◌-◌, ◌<◌, ◌≤◌, ◌⊎◌, ◌++◌, Bool, true, is_some, List, [], ◌∷◌, None, Some, Option, IfOk, IsErr, MatchOption, MatchResult, length, map, drop, option_to_list};
 ghost use Rattle.std.specs.VecDeque.{deque_capacity};
@@ -28,7 +28,7 @@ use norm_send_rules::EnqueueFault;
 use std::collections::VecDeque;
 use tx_object::{Held, Ring};
 
-/// How many octets an info has; without one there are none.
+/// How many octets an info has. 0 if there is none.
 pub fn info_len(info: &Option<Octets>) -> usize
     ensures { result ≡ info_length info.now }
 {
@@ -38,8 +38,8 @@ pub fn info_len(info: &Option<Octets>) -> usize
     }
 }
 
-/// Puts zeros behind the octets of an object that was filled, up to the end of its last symbol. Returns how many octets it has, and its last
-/// position if it has this index.
+/// Puts zeros after the octets of a filled object, up to the end of its last symbol. Returns how many octets it has, and its last position if it has
+/// this index.
 fn end_octets(ring: &mut Ring, begun: &Held, filled: usize, index: u32) -> (u32, Position)
     requires start { begun.now.start < length ring.old }
     requires room { taken_by begun.now ≤ length ring.old }
@@ -54,7 +54,7 @@ fn end_octets(ring: &mut Ring, begun: &Held, filled: usize, index: u32) -> (u32,
     (begun.len(), begun.last(index))
 }
 
-/// Adds the object that was begun behind the entries, and its extent behind theirs. Returns how many extents are forgotten.
+/// Adds the begun object after the entries, and its extent after theirs. Returns how many extents are forgotten in all.
 fn join_begun(
     held: &mut VecDeque<HeldEntry>,
     begun: &mut Option<Held>,
@@ -80,13 +80,12 @@ fn join_begun(
 }
 
 impl Window {
-    /// Begins an object of `len` octets, and drops what has to go for it. It takes all the memory that it needs, before
-    /// anything is dropped.
+    /// Begins an object of `len` octets, and drops what has to go for it. Takes all its memory before anything is dropped.
     ///
     /// # Errors
     ///
-    /// The first of `Empty`, `TooBig`, `InfoTooBig`, `StreamOpen`, `IdsSpent` and `WindowFull` that applies, or `Memory`. Then the
-    /// window is as it was, and the info comes back but for `Memory`.
+    /// The first of `Empty`, `TooBig`, `InfoTooBig`, `StreamOpen`, `IdsSpent` and `WindowFull` that applies, with the info; or `Memory` without it.
+    /// Then the window is as it was.
     // The outer `Option` says whether the info comes back, the inner one is the info. One alone could not tell a lost info from none.
     // Proof: objects are counted in whole symbols: there is room for floor(octets / e) + window of them.
     pub fn begin(
@@ -139,7 +138,7 @@ impl Window {
         Ok(())
     }
 
-    /// How many octets the object has that was begun.
+    /// How many octets the begun object has once it is full.
     pub fn begun_len(&self) -> u32
         ensures { (f : Filling) → self.now.filling ≡ Some f → result ≡ f.len }
     {
@@ -149,7 +148,7 @@ impl Window {
         }
     }
 
-    /// Puts the next octets of the object that was begun into the window.
+    /// Copies the next octets of the begun object into the window.
     pub fn fill(&mut self, piece: &[u8])
         requires { MatchOption self.old.filling ⊥ (λ f. length f.octets + length piece.now ≤ f.len) }
         ensures filling { (f : Filling) → self.old.filling ≡ Some f → self.new.filling ≡ Some (with_piece piece.now f) }
@@ -165,7 +164,7 @@ impl Window {
         self.filled += piece.len();
     }
 
-    /// The object that was begun joins the order, and its index is answered. All its octets have to be there.
+    /// Adds the begun object to the order, and returns its index. All its octets have to be there.
     pub fn finish(&mut self) -> u32
         requires { MatchOption self.old.filling ⊥ (λ f. length f.octets ≡ f.len) }
         ensures index { (s : SenderState) → Stands self.old s → result ≡ next_index_of s }
@@ -194,7 +193,7 @@ impl Window {
         index
     }
 
-    /// Gives up the object that was begun. What was dropped for it stays dropped.
+    /// Gives up the begun object. What was dropped for it stays dropped.
     pub fn leave(&mut self)
         ensures exact { self.new ≡ record self.old { filling = None } }
         ensures stands { WindowMoves self.old self.new (λ s. s) }
@@ -206,7 +205,7 @@ impl Window {
         }
     }
 
-    /// Begins anew for another instance: no entry is there. It takes no memory.
+    /// Empties the window for another instance. Takes no memory.
     // The codes stay: each depends on a block's length and the profile alone, which no instance changes.
     pub fn clear(&mut self)
         ensures begun { (id : ℕ) → WindowMoves self.old self.new (begun_anew id) }
@@ -225,12 +224,13 @@ impl Window {
         self.past = None;
     }
 
-    /// Takes an object in at the end of the order, after what has to go for it was dropped, and answers its index.
+    /// Enqueues an object at the end of the order, and returns its index. Drops what has to go for it. Takes all its memory before anything is
+    /// dropped.
     ///
     /// # Errors
     ///
-    /// The first of `Empty`, `TooBig`, `InfoTooBig`, `StreamOpen`, `IdsSpent` and `WindowFull` that applies, or `Memory`. Then the
-    /// window is as it was, and the info and the octets come back but for `Memory`.
+    /// The first of `Empty`, `TooBig`, `InfoTooBig`, `StreamOpen`, `IdsSpent` and `WindowFull` that applies, with the info and the octets; or
+    /// `Memory` without them. Then the window is as it was.
     pub fn enqueue(
         &mut self,
         kind: Kind,

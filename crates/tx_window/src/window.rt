@@ -1,4 +1,4 @@
-//! The window of a sender, and what it is asked.
+//! The window of a sender, and what the sender asks it.
 
 ghost use Rattle.std.specs.Prelude.{ℕ, ⊤, ◌^◌, ◌≡◌, ◌+◌, ◌<◌, ◌≤◌, Option, None, IfOk, MatchOption, length, option_map, option_copied};
 ghost use Rattle.norm_base.specs.Settings.{InRange};
@@ -33,10 +33,14 @@ use tx_object::{Held, Ring};
 
 /// The window of a sender. The octets of its objects lie in one ring, made once; a stream takes its memory as it is opened.
 ///
-/// An object is taken in by [`enqueue`](Window::enqueue), or piece by piece: [`begin`](Window::begin), then [`fill`](Window::fill) until
-/// all its octets are there, then [`finish`](Window::finish), or at any time [`leave`](Window::leave). A stream is opened by
-/// [`open_stream`](Window::open_stream), and goes on by [`write`](Window::write) and [`cut`](Window::cut) until
-/// [`close_stream`](Window::close_stream). Entries are dropped only by calls that need room, and are the first ones.
+/// - An object: [`enqueue`](Window::enqueue). Or piece by piece: [`begin`](Window::begin), then [`fill`](Window::fill) until all its octets are
+///   there, then [`finish`](Window::finish). [`leave`](Window::leave) gives it up at any time before that.
+/// - A stream: [`open_stream`](Window::open_stream), then [`write`](Window::write) and [`cut`](Window::cut) in any order, and
+///   [`close_stream`](Window::close_stream) at the end.
+/// - [`note_sent`](Window::note_sent) after a symbol was sent, [`note_info`](Window::note_info) after an info, and
+///   [`note_past`](Window::note_past) after the listings changed. Before that, the window does not know that an entry may go.
+///
+/// Entries are dropped only by calls that need room, the first ones first.
 // Objects lie in the ring one after the other, up to `free`, and `octets` is the sum of the sizes of all entries, streams included. Otherwise a new
 // object could be written over one that may still be repaired.
 #[derive(Debug, Drop)]
@@ -45,25 +49,25 @@ pub struct Window {
     pub(crate) profile: Profile,
     pub(crate) ring: Ring,
     pub(crate) held: VecDeque<HeldEntry>,
-    /// How many of the first entries were forgotten: no id names one of them.
+    /// How many of the first entries were forgotten. No id names one of them.
     pub(crate) forgotten: u32,
-    /// How far each of the others reaches, dropped or not.
+    /// How far each of the other entries reaches, dropped or not.
     pub(crate) extents: VecDeque<Extent>,
     /// How many octets all entries of the window take, with the object that is being filled.
     pub(crate) octets: u32,
-    /// The octet of the ring behind them.
+    /// The offset in the ring of the octet after the objects, with the one that is being filled.
     pub(crate) free: usize,
     /// The object that is being filled.
     pub(crate) begun: Option<Held>,
-    /// How many octets of it are there.
+    /// How many of its octets are there.
     pub(crate) filled: usize,
     /// How many entries were dropped.
     pub(crate) dropped: u32,
     /// The last closed source symbol of the order.
     pub(crate) last: Option<Position>,
-    /// The least position that all receivers are listed past.
+    /// The least position that members are listed past. `None` if a member is listed past nothing.
     pub(crate) past: Option<Position>,
-    /// The codes of the blocks of its objects, also of those that were dropped.
+    /// The codes of the blocks of its objects. Those of dropped objects stay.
     pub(crate) codes: CodeTable,
 }
 
@@ -80,7 +84,7 @@ impl Model for Window {
     ghost invariant = { WindowSound };
 }
 
-/// What each message of an entry says of it: its transmission information and its flags.
+/// What each message of an entry says of the entry: its transmission information and its flags.
 #[derive(Clone, Copy, Debug, PartialEq, Eq)]
 pub struct About {
     pub fti: Fti,
@@ -95,7 +99,7 @@ fn auto_of(profile: &Profile) -> u8
     profile.auto
 }
 
-/// The first kept symbol of an entry from a place on that is sent by itself, with so much parity.
+/// The first kept symbol of an entry from `from` on that is sent by itself, with `auto` parity symbols of each closed block.
 fn next_of(entry: &HeldEntry, auto: u8, from: Position) -> Option<Position>
     ensures next { (r : EntryReads) → StandsForEntry r entry.now → r.p.auto ≡ auto → IsNext r.p (shape_of r.p r.object) (later_of from (first_of entry.now)) result }
     ensures id { MatchOption result ⊤ (λ next. next.symbol < 255) }
@@ -106,7 +110,7 @@ fn next_of(entry: &HeldEntry, auto: u8, from: Position) -> Option<Position>
     entry.next_in(auto, from)
 }
 
-/// The entry with an index, where so many were dropped.
+/// The entry with this index. `None` if it is among the first `dropped`, or was not enqueued.
 fn entry_at(held: &VecDeque<HeldEntry>, dropped: u32, index: u32) -> Option<&HeldEntry>
     ensures { option_copied result ≡ from_first dropped held.now.items index }
 {
@@ -117,11 +121,11 @@ fn entry_at(held: &VecDeque<HeldEntry>, dropped: u32, index: u32) -> Option<&Hel
 }
 
 impl Window {
-    /// An empty window.
+    /// Returns an empty window.
     ///
     /// # Errors
     ///
-    /// `Memory` where memory runs out.
+    /// `Memory` if memory runs out.
     pub fn new(alloc: Global, profile: &Profile) -> Result<Window, Memory>
         ensures profile { IfOk result (λ window. window.p ≡ profile.now) }
         ensures finished { IfOk result (λ window. window.filling ≡ None) }
@@ -150,7 +154,8 @@ impl Window {
         })
     }
 
-    /// The entry and the block of it before which all was dropped.
+    /// The index of the first kept entry, and its first kept block. Everything before them was dropped. If none is kept, the index of the next
+    /// entry and 0.
     // A point and not an index, since the first entry may be a stream that lacks its first blocks.
     pub fn first(&self) -> (u32, u32)
         ensures exact { (s : SenderState) → Stands self.now s → (result.0 ≡ s.current.drop.index) × (result.1 ≡ s.current.drop.block) }
@@ -163,14 +168,14 @@ impl Window {
         (self.dropped, entry.first_block())
     }
 
-    /// The last closed source symbol, also where its entry was dropped.
+    /// The last closed source symbol of the order, even if its entry was dropped.
     pub fn end(&self) -> Option<Position>
         ensures { (s : SenderState) → Stands self.now s → result ≡ last_source (current_shapes self.now.p s) }
     {
         self.last
     }
 
-    /// The index of the next entry.
+    /// The index that the next entry gets.
     pub fn next_index(&self) -> u32
         ensures exact { (s : SenderState) → Stands self.now s → result ≡ next_index_of s }
         ensures number { result ≡ self.now.dropped + length self.now.entries }
@@ -178,7 +183,7 @@ impl Window {
         self.dropped + self.held.len() as u32
     }
 
-    /// The index of the open stream, which is the last entry. `None` exactly where no stream is open.
+    /// The index of the open stream, which is the last entry. `None` if no stream is open.
     pub fn open_index(&self) -> Option<u32>
         ensures { (s : SenderState) → Stands self.now s → IsOpenAt s result }
     {
@@ -193,8 +198,8 @@ impl Window {
         Some(self.dropped + place as u32)
     }
 
-    /// Adds a symbol, and answers how many octets it has. `None` exactly where it was dropped or not enqueued, or its entry has no
-    /// such encoded symbol; then nothing is added. It takes no memory.
+    /// Appends a symbol, and returns how many octets it has. `None` if it was dropped or not enqueued, or if its entry has no such encoded symbol;
+    /// then nothing is appended. Takes no memory.
     pub fn symbol(&self, at: Position, out: &mut Datagram) -> Option<u16>
         requires { length out.old + symbol_room ≤ datagram_room }
         ensures { (s : SenderState) → Stands self.now s → AnswersAt self.now.p s at out.old out.new result }
@@ -205,7 +210,7 @@ impl Window {
         entry.symbol(&self.ring, at.block, at.symbol, out)
     }
 
-    /// The info of an object; of a file its name. `None` where it was dropped or not enqueued, or has none.
+    /// Returns the info of an object. That of a file is its name. `None` if the object was dropped or not enqueued, or if it has no info.
     pub fn info(&self, index: u32) -> Option<&[u8]>
         ensures exact { (s : SenderState) → Stands self.now s → option_copied result ≡ info_at s index }
         ensures short { MatchOption (option_copied result) ⊤ (λ info. length info ≤ self.now.p.e) }
@@ -216,7 +221,7 @@ impl Window {
         entry.info()
     }
 
-    /// What each message of an entry says of it. `None` exactly where it was dropped or not enqueued.
+    /// What each message of an entry says of it. `None` if the entry was dropped or not enqueued.
     pub fn about(&self, index: u32) -> Option<About>
         ensures exact { (s : SenderState) → Stands self.now s → result ≡ option_map (about_of self.now.p) (kept_at s index) }
         ensures long { MatchOption result ⊤ (λ about. about.fti.l < 2 ^ 48) }
@@ -229,7 +234,7 @@ impl Window {
         Some(About { fti, flags })
     }
 
-    /// How an entry is cut, soundly. `None` exactly where it was dropped or not enqueued.
+    /// How an entry is cut into blocks and symbols. `None` if it was dropped or not enqueued.
     pub fn plan(&self, index: u32) -> Option<Plan>
         ensures exact { (s : SenderState) → Stands self.now s → result ≡ option_map (λ object. (shape_of self.now.p object).cut) (kept_at s index) }
         ensures sound { MatchOption result ⊤ IsSound }
@@ -243,7 +248,7 @@ impl Window {
         Some(plan)
     }
 
-    /// The first info or kept symbol of an entry that is sent by itself. `None` where there is none.
+    /// The info of an entry, or else its first kept symbol that is sent by itself. `None` if it has neither.
     fn new_of(&self, index: u32) -> Option<Want>
         requires { self.now.dropped ≤ index }
         ensures exact { (s : SenderState) → Stands self.now s → index < next_index_of s
@@ -262,8 +267,8 @@ impl Window {
         }
     }
 
-    /// The first info or kept symbol that is sent by itself, of the entries from an index on. `None` where there is none. It looks at
-    /// one entry: none but an open stream of which no closed segment is kept has nothing, and nothing stands behind that.
+    /// The first info or kept symbol that is sent by itself, of the entries from this index on. `None` if there is none. Looks at one entry: only an
+    /// open stream without a kept closed segment has nothing, and it is the last entry.
     fn first_new(&self, index: u32) -> Option<Want>
         requires { self.now.dropped ≤ index }
         ensures exact { (s : SenderState) → Stands self.now s → result ≡ next_new self.now.p (next_at index s) }
@@ -277,7 +282,7 @@ impl Window {
         None
     }
 
-    /// What is new next, where that is no earlier than a symbol.
+    /// The first info or symbol from the symbol `from` on that is new. `None` if there is none.
     fn next_symbol(&self, from: Position) -> Option<Want>
         ensures exact { (s : SenderState) → Stands self.now s → s.next ≡ Symbol from → result ≡ next_new self.now.p s }
         ensures id { MatchOption result ⊤ HasNext }
@@ -294,8 +299,8 @@ impl Window {
         }
     }
 
-    /// The next new info or symbol, where none before this one is: the first from there on that was not dropped. A symbol
-    /// that is answered has another id behind it. It looks at the entry there, and at one more where that has nothing left.
+    /// The first info or symbol from `from` on that is sent by itself and was not dropped. `None` if there is none. A returned symbol is not the last
+    /// one that an id can name. Looks at the entry of `from`, and at one more if that has nothing left.
     pub fn next_new(&self, from: Want) -> Option<Want>
         ensures exact { (s : SenderState) → Stands self.now s → s.next ≡ from → result ≡ next_new self.now.p s }
         ensures id { MatchOption result ⊤ HasNext }
@@ -306,8 +311,7 @@ impl Window {
         }
     }
 
-    /// Whether a position, of an entry that an id can name, is a closed source symbol of the order, also where its entry
-    /// was dropped.
+    /// Whether a position is a closed source symbol of the order, even if its entry was dropped. The entry has to be one that an id can name.
     pub fn is_source(&self, at: Position) -> bool
         ensures { (s : SenderState) → Stands self.now s → IsNear (last_index s) at.index
             → result ≡ is_source (current_shapes self.now.p s) at }
@@ -318,14 +322,14 @@ impl Window {
         is_closed(&self.profile, extent, at.block, at.symbol)
     }
 
-    /// How many streams are enqueued and not dropped whole.
+    /// How many streams are enqueued and not wholly dropped.
     pub fn streams(&self) -> u32
         ensures { (s : SenderState) → Stands self.now s → result ≡ streams s }
     {
         count_streams(&self.held)
     }
 
-    /// How many infos and encoded symbols it has: all that may still have to be repaired.
+    /// How many infos and encoded symbols the window has. All of them may still have to be repaired. Visits each entry.
     pub fn repairable(&self) -> u64
         ensures { (s : SenderState) → Stands self.now s → result ≡ repairable self.now.p s }
     {

@@ -1,4 +1,4 @@
-//! The entries of a window in their order: whether the first may go, and how the last goes on.
+//! The entries of a window in their order: whether the first ones may go, and how the last one goes on.
 
 ghost use Rattle.std.specs.Prelude.{ℕ, ◌≡◌, ◌+◌, ◌≤◌, List, [], ◌∷◌, length, take, OnErr};
 ghost use Rattle.fec_plan.specs.Points.{Position as Place, reached_by};
@@ -18,7 +18,7 @@ use norm_base::Profile;
 use norm_send_rules::EnqueueFault;
 use std::collections::VecDeque;
 
-/// Whether the first entries may all go, so many of them, where the first has this index and all members are listed past `past`.
+/// Whether the first `count` entries may all go. `first` is the index of the first one, and `past` the least position that members are listed past.
 pub fn may_all_go(
     held: &VecDeque<HeldEntry>,
     profile: &Profile,
@@ -41,12 +41,12 @@ pub fn may_all_go(
     true
 }
 
-/// Writes octets, at least one, to the last entry, where that is an open stream, and answers the offset of the first. The first entry
-/// has this index. Blocks of the stream go for room only where all entries before it may go. It takes no memory.
+/// Writes octets, at least one, to the open stream that is the last entry. Returns the offset of the first octet. `first` is the index of the first
+/// entry. Blocks of the stream go for room only if all entries before it may go. Takes no memory.
 ///
 /// # Errors
 ///
-/// `NoStream` where there is no entry, or the last is no open stream; else why the stream takes no more. Nothing changes then.
+/// `NoStream` if the last entry is no open stream, or if there is none. Otherwise why the stream takes no more. Then nothing changes.
 pub fn write_last(
     held: &mut VecDeque<HeldEntry>,
     profile: &Profile,
@@ -71,8 +71,7 @@ pub fn write_last(
     held[last].write(profile, first + last as u32, past, before, bytes)
 }
 
-/// Ends the last entry, where that is an open stream. The first entry has this index. Blocks go for room as in [`write_last`]. It
-/// takes no memory.
+/// Ends the open stream that is the last entry. `first` is the index of the first entry. Blocks go for room as in [`write_last`]. Takes no memory.
 ///
 /// # Errors
 ///
@@ -99,7 +98,7 @@ pub fn close_last(
     held[last].close(profile, first + last as u32, past, before)
 }
 
-/// Closes the segment that fills of the last entry, where that is a stream with one that holds octets.
+/// Closes the segment that fills, if the last entry is a stream and the segment holds octets.
 pub fn cut_last(held: &mut VecDeque<HeldEntry>)
     ensures stays { AllStay held.old.items held.new.items }
     ensures room { deque_capacity held.new ≡ deque_capacity held.old }

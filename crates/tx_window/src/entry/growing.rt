@@ -1,4 +1,4 @@
-//! How an open stream of the window goes on: what is written to it, its cut and its end.
+//! How an open stream of the window goes on: by writes, by cuts, and to its end.
 
 ghost use Rattle.std.specs.Prelude.{ℕ, ◌≡◌, ◌≤◌, List, [], ◌∷◌, OnErr, length};
 ghost use Rattle.norm_base.specs.declared.node.Origin.{Origin};
@@ -19,7 +19,7 @@ use norm_base::Profile;
 use norm_send_rules::EnqueueFault;
 use stream_buffer::HeldStream;
 
-/// Writes octets to a stream, where it is open.
+/// Writes octets to a stream. `NoStream` if it was closed.
 fn write_to(
     stream: &mut HeldStream,
     profile: &Profile,
@@ -43,7 +43,7 @@ fn write_to(
     }
 }
 
-/// Ends a stream, where it is open.
+/// Ends a stream. `NoStream` if it was closed.
 fn close(
     stream: &mut HeldStream,
     profile: &Profile,
@@ -66,12 +66,12 @@ fn close(
 }
 
 impl HeldEntry {
-    /// Writes octets, at least one, to the open stream with this index, the last entry, and answers the offset of the first. Blocks go
-    /// for room as in [`HeldStream::write`]. It takes no memory.
+    /// Writes octets, at least one, to the open stream with this index, the last entry. Returns the offset of the first octet. Blocks go for room
+    /// as in [`HeldStream::write`]. Takes no memory.
     ///
     /// # Errors
     ///
-    /// `NoStream` where this is no stream, or one that was closed; else why the stream takes no more. Nothing changes then.
+    /// `NoStream` if this is no stream, or one that was closed. Otherwise why the stream takes no more. Then nothing changes.
     pub fn write(
         &mut self,
         profile: &Profile,
@@ -93,7 +93,7 @@ impl HeldEntry {
         }
     }
 
-    /// Ends the open stream with this index, the last entry. Blocks go for room as in [`HeldStream::close`]. It takes no memory.
+    /// Ends the open stream with this index, the last entry. Blocks go for room as in [`HeldStream::close`]. Takes no memory.
     ///
     /// # Errors
     ///
@@ -117,7 +117,7 @@ impl HeldEntry {
         }
     }
 
-    /// Closes the segment that fills, where this is a stream with one that holds octets. Of an object nothing changes.
+    /// Closes the segment that fills, if this is a stream and the segment holds octets. An object stays as it is.
     pub fn cut(&mut self)
         ensures object { KeepsObject self.old self.new }
         ensures first { first_of self.new ≡ first_of self.old }

@@ -1,4 +1,4 @@
-//! How much of an entry may still have to be repaired.
+//! Counts how much of an entry may still have to be repaired.
 
 ghost use Rattle.std.specs.Prelude.{◌≡◌, ◌^◌, ◌<◌, List};
 ghost use Rattle.std.specs.List.{sum_by, range_with_len};
@@ -14,7 +14,7 @@ use crate::entry::HeldEntry;
 use stream_buffer::HeldStream;
 use tx_object::Held;
 
-/// How many encoded symbols an object has. Its larger blocks come first, and all of a size have as many.
+/// How many encoded symbols an object has. Its larger blocks come first, and all blocks of a size have equally many.
 // By sizes and not block by block: an object may have 262,144 blocks.
 fn encoded_blocks(held: &Held) -> u64
     ensures exact { result ≡ sum_by (encoding_symbols held.now.cut) (range_with_len 0 (blocks held.now.cut)) }
@@ -41,7 +41,7 @@ fn of_object(held: &Held) -> u64
     encoded + 1
 }
 
-/// How many encoded symbols the kept blocks of a stream have: of an open block its closed segments.
+/// How many encoded symbols the kept blocks of a stream have. An open block has its closed segments.
 fn of_stream(stream: &HeldStream) -> u64
     ensures exact { (p : Settings) (parts : List Part) → KeepsStream p parts stream.now.buffer
         → result ≡ repairable_from (shape_of p (Stream parts)) stream.now.buffer.first }
@@ -55,7 +55,7 @@ fn of_stream(stream: &HeldStream) -> u64
 }
 
 impl HeldEntry {
-    /// How many infos and encoded symbols it has from its first kept block on. Blocks are counted by their sizes.
+    /// How many infos and encoded symbols the entry has from its first kept block on. Blocks are counted by their sizes, not one by one.
     pub fn repairable(&self) -> u64
         ensures exact { (r : EntryReads) → StandsFor r self.now → result ≡ repairable_from (shape_of r.p r.object) (first_of self.now) }
         ensures most { result < 2 ^ 42 }
