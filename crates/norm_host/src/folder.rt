@@ -1,4 +1,4 @@
-//! The files of one folder.
+//! The files of one folder, and of paths that a user gave: [`FolderFiles`]. `normd` makes them for the program.
 
 ghost use Rattle.std.specs.Prelude.{◌≡◌, ◌↔◌, ◌+◌, ◌<◌, ◌≤◌, ◌++◌, [], ◌∷◌, None, Some, Ok, IsTrue, IsOk, IfSome, length, map, string_bytes, IfOk, IfErr, OnOk, OnErr, is_err, true, false};
 ghost use Rattle.std.specs.Fs.{metadata_len, file_type, IsFile};
@@ -17,7 +17,7 @@ use std::alloc::{AllocError, Global};
 use std::fs::{self, Metadata};
 use std::io::{self, ErrorKind, Read, Seek, SeekFrom};
 
-/// Whether it is an ASCII letter or digit, `.`, `_` or `-`.
+/// Whether an octet is an ASCII letter or digit, `.`, `_` or `-`.
 #[tactic(auto, unfolding(crate::specs::FileNames::is_name_octet))]
 fn is_name_octet(octet: u8) -> bool
     ensures { result ≡ is_name_octet octet }
@@ -32,7 +32,7 @@ fn has_name_octets(name: &[u8]) -> bool
     name.iter().all(|octet| is_name_octet(*octet))
 }
 
-/// Whether a name is one of a file: 1 to 64 letters, digits, `.`, `_` or `-`, of which the first is no `.`.
+/// Whether this is the name of a file: 1 to 64 letters, digits, `.`, `_` or `-`, of which the first is no `.`.
 fn is_file_name(name: &[u8]) -> bool
     ensures { result ≡ is_file_name name.now }
 {
@@ -44,7 +44,7 @@ fn is_file_name(name: &[u8]) -> bool
     has_name_octets(name)
 }
 
-/// A name in a folder.
+/// Returns the path of a name in a folder.
 fn path_in(alloc: Global, folder: &str, name: &str) -> Result<String, AllocError>
     ensures { IfOk result (λ path. string_bytes path ≡ path_in folder.now name.now) }
 {
@@ -54,7 +54,7 @@ fn path_in(alloc: Global, folder: &str, name: &str) -> Result<String, AllocError
     Ok(path)
 }
 
-/// The path beside a file at which its octets are written first: no name of a file leads there, since it begins with a `.`.
+/// Returns the path at which a file's octets are written first. It is beside the file. No name of a file leads there, since it begins with a `.`.
 fn path_beside(alloc: Global, folder: &str, name: &str) -> Result<String, AllocError>
     ensures { IfOk result (λ path. string_bytes path ≡ path_beside folder.now name.now) }
 {
@@ -78,7 +78,7 @@ fn is_one_of(paths: &[String], name: &str) -> bool
     false
 }
 
-/// How many octets a plain file has, as its metadata say. Any other file is as a folder.
+/// Returns how many octets a plain file has. Any other file fails as a folder does.
 pub(crate) fn length_in(metadata: &Metadata) -> io::Result<u64>
     ensures file { IsOk result ↔ IsFile (file_type metadata.now) }
     ensures length { IfOk result (λ n. n ≡ metadata_len metadata.now) }
@@ -91,7 +91,6 @@ pub(crate) fn length_in(metadata: &Metadata) -> io::Result<u64>
     Err(io::Error::from(ErrorKind::IsADirectory))
 }
 
-/// Goes to an offset of a file.
 fn seek_to<S: Seek>(file: &mut S, offset: u64) -> io::Result<()>
     ensures { MovesTo (S.stream_position file.old) (S.stream_position file.new) offset result }
 {
@@ -99,7 +98,7 @@ fn seek_to<S: Seek>(file: &mut S, offset: u64) -> io::Result<()>
     Ok(())
 }
 
-/// Why a call gave nothing: no file has that name exactly where the error is of that kind.
+/// Returns why a call gave nothing: `Absent` if the error says that no file has that name, and `Failed` for any other error.
 fn fault_of(error: &io::Error) -> FileFault
     ensures { (result ≡ FileFault.Absent) ↔ (error_kind error.now ≡ NotFound) }
 {
@@ -109,7 +108,7 @@ fn fault_of(error: &io::Error) -> FileFault
     FileFault::Failed
 }
 
-/// The most octets of a file that are read ahead: a file that is sent is asked for a symbol at a time.
+/// The most octets of a file that are read ahead.
 // Our own choice, 256 KiB. Without this a file would be opened, measured and read anew for each symbol.
 const AHEAD: usize = 262_144;
 
@@ -122,7 +121,7 @@ struct Ahead {
 }
 
 impl Ahead {
-    /// Gives of a file's octets from an offset on those that are here and have room. `None` where there are none.
+    /// Copies octets from an offset of a file into `buf`, as many as were read ahead and have room. Returns how many. `None` if there are none.
     fn give(&self, name: &str, offset: u64, buf: &mut [u8]) -> Option<usize>
         ensures { IfSome result (λ n. (0 < n) × (n ≤ length buf.old)) }
     {
@@ -143,7 +142,7 @@ impl Ahead {
     }
 }
 
-/// How often in a row a file's length is answered as the system said it: while a file's command waits, its length is asked for in each turn.
+/// How often a file's length is answered from memory, before the system is asked again. While a file's command waits, each turn asks for its length.
 // Our own choice. After a file changed while its command waits, its old length is answered 64 times at most. If the file is sent by that length,
 // one that grew is cut there, and one that shrank is a fault.
 const AS_SAID: u32 = 64;
@@ -157,7 +156,7 @@ struct Said {
 }
 
 impl Said {
-    /// The length once more, if it is this file's and was not answered too often.
+    /// Returns the length once more, if it is this file's and was not answered too often.
     fn again(&mut self, name: &str) -> Option<u64>
         ensures length { IfSome result (λ n. n ≡ self.old.length) }
         ensures fewer { IfSome result (λ _. self.old.left ≡ self.new.left + 1) }
@@ -171,11 +170,13 @@ impl Said {
     }
 }
 
-/// The files of one folder, and the paths that it was told, each of which is read as it stands. Any other name that is none of a file there, also
-/// one with a slash or that begins with a `.`, is absent, and put nowhere. A file that is put is written beside its name and renamed, so that
-/// nobody sees a part of it. A read of 0 octets, and want of memory, are faults. It tells nothing of what the files hold. A read keeps up to
-/// 262,144 octets of the file for the reads behind it, until a length is asked for or a file is put. A length that is asked for again and again, with
-/// no other call between, is asked of the system once in 65 times. It may be told that the instance of a send is not kept: then its next call fails.
+/// The files of one folder, and the paths that it was told ([`tell`](FolderFiles::tell)), each of which is read as it stands. Any other
+/// name that is not the name of a file, such as one with a slash or that begins with a `.`, is absent, and a put of it fails. A put writes
+/// a file beside its name and renames it, so that nobody sees a part of it. A read that finds no octet, and want of memory, are faults.
+/// Contracts cannot rely on what the files hold.
+///
+/// A read keeps up to 262,144 octets of the file for the next reads, until a length is asked for or a file is put. If a length is asked for again and
+/// again, with no other call between, the system is asked once in 65 times.
 #[derive(Drop)]
 pub struct FolderFiles<F> {
     files: F,
@@ -190,7 +191,11 @@ pub struct FolderFiles<F> {
 }
 
 impl<F: fs::Files + Drop> FolderFiles<F> {
-    /// The files of this folder.
+    /// Returns the files of this folder.
+    ///
+    /// # Errors
+    ///
+    /// `Memory` if memory runs out.
     pub fn of(alloc: Global, files: F, folder: &str) -> Result<FolderFiles<F>, Memory>
         ensures folder { IfOk result (λ made. folder_of made ≡ folder.now) }
         ensures told { IfOk result (λ made. told_to made ≡ []) }
@@ -209,11 +214,11 @@ impl<F: fs::Files + Drop> FolderFiles<F> {
         })
     }
 
-    /// Tells it one more path that is read as it stands.
+    /// Adds a path that is read as it stands.
     ///
     /// # Errors
     ///
-    /// `Memory` where memory runs out.
+    /// `Memory` if memory runs out.
     // `norm_main` reads files by name, and a path as the shell gives it may be no name of a file here. So `main` calls this before it.
     pub fn tell(&mut self, path: &str) -> Result<(), Memory>
         ensures told { OnOk result (told_to self.new ≡ told_to self.old ++ path.now ∷ []) }
@@ -226,8 +231,8 @@ impl<F: fs::Files + Drop> FolderFiles<F> {
         Ok(())
     }
 
-    /// Has the next call fail, whichever it is, since the instance of a send is not kept: nothing is sent that way, and the program ends as ever after
-    /// a fault of files.
+    /// Has the next call fail, whichever it is, because the instance of a send could not be kept. Then nothing is sent, and the
+    /// program ends as after any fault of files.
     pub fn stop(&mut self, fault: InstanceFault)
         ensures stopped { is_stopped self.new ≡ true }
         ensures told { told_to self.new ≡ told_to self.old }
@@ -239,12 +244,12 @@ impl<F: fs::Files + Drop> FolderFiles<F> {
         self.stopped = Some(fault);
     }
 
-    /// What the last failed call was about. `None` before one, and where there was no memory to keep it.
+    /// Returns what the last failed call was about. `None` if none failed yet, or if there was no memory to keep it.
     pub fn cause(&self) -> Option<&FolderCause> {
         self.cause.as_ref()
     }
 
-    /// Whether a call fails by what was told. Then that is its cause, and it is counted.
+    /// Whether this call fails because of [`stop`](FolderFiles::stop). If so, counts it, and keeps that as its cause.
     fn fails(&mut self) -> bool
         ensures answer { result ≡ is_stopped self.old }
         ensures once { is_stopped self.new ≡ false }
@@ -260,7 +265,7 @@ impl<F: fs::Files + Drop> FolderFiles<F> {
         }
     }
 
-    /// The path of a file in the folder. A name that is none of a file is one that is not found, and no other is.
+    /// Returns the path of a file in the folder. Fails with `NotFound` if the name is not one of a file, and only then.
     fn path(&self, name: &str) -> io::Result<String>
         ensures path { IfOk result (λ path. (string_bytes path ≡ path_in (string_bytes self.now.folder) name.now) × IsTrue (is_file_name name.now)) }
         ensures absent { IfErr result (λ error. (error_kind error ≡ NotFound) ↔ (is_file_name name.now ≡ false)) }
@@ -278,7 +283,7 @@ impl<F: fs::Files + Drop> FolderFiles<F> {
         is_one_of(&self.told, name)
     }
 
-    /// The path at which a name is read: one that it was told, as it stands, and else that of a file in the folder.
+    /// Returns the path at which a name is read: the name itself if it was told as a path, and else the path of the file in the folder.
     fn path_read(&self, name: &str) -> io::Result<String>
         ensures path { IfOk result (λ path. path_read (string_bytes self.now.folder) (told_to self.now) name.now ≡ Some (string_bytes path)) }
         ensures absent { IfErr result (λ error. (error_kind error ≡ NotFound) ↔ (path_read (string_bytes self.now.folder) (told_to self.now) name.now ≡ None)) }
@@ -289,18 +294,17 @@ impl<F: fs::Files + Drop> FolderFiles<F> {
         self.path(name)
     }
 
-    /// How many octets the plain file at this path has.
+    /// Returns how many octets the plain file at this path has.
     fn plain_length(&self, path: &str) -> io::Result<u64> {
         length_in(&fs::metadata(&self.files, path)?)
     }
 
-    /// How many octets a file has.
     fn length_of(&self, name: &str) -> io::Result<u64> {
         let path = self.path_read(name)?;
         self.plain_length(path.as_str())
     }
 
-    /// A file's length as the system said it, if that may be answered once more.
+    /// Returns a file's length as the system said it, if that may be answered once more.
     fn said_again(&mut self, name: &str) -> Option<u64>
         ensures faults { self.new.faults ≡ self.old.faults }
         ensures stopped { self.new.stopped ≡ self.old.stopped }
@@ -311,7 +315,7 @@ impl<F: fs::Files + Drop> FolderFiles<F> {
         }
     }
 
-    /// Keeps what the system said of a file's length; nothing, where there is no memory for it.
+    /// Keeps what the system said of a file's length. Keeps nothing if there is no memory for it.
     fn keep_said(&mut self, name: &str, length: u64)
         ensures faults { self.new.faults ≡ self.old.faults }
         ensures stopped { self.new.stopped ≡ self.old.stopped }
@@ -327,7 +331,7 @@ impl<F: fs::Files + Drop> FolderFiles<F> {
         };
     }
 
-    /// Takes what was read ahead away, and answers its memory for what is read next.
+    /// Drops what was read ahead, and returns its memory for what is read next.
     fn take_room(&mut self) -> Vec<u8>
         ensures faults { self.new.faults ≡ self.old.faults }
         ensures stopped { self.new.stopped ≡ self.old.stopped }
@@ -356,7 +360,7 @@ impl<F: fs::Files + Drop> FolderFiles<F> {
         })
     }
 
-    /// Gives octets of a file that were read ahead.
+    /// Copies octets of a file that were read ahead into `buf`. Returns how many.
     fn give_ahead(&self, name: &str, offset: u64, buf: &mut [u8]) -> Option<usize>
         ensures { IfSome result (λ n. (0 < n) × (n ≤ length buf.old)) }
     {
@@ -366,7 +370,7 @@ impl<F: fs::Files + Drop> FolderFiles<F> {
         }
     }
 
-    /// Reads at least one octet of a file, from an offset on: of those that were read ahead, or else after reading ahead.
+    /// Reads at least one octet of a file, from an offset on: one that was read ahead, or else after reading ahead. Fails at the end of the file.
     fn read_of(&mut self, name: &str, offset: u64, buf: &mut [u8]) -> io::Result<usize>
         ensures count { IfOk result (λ n. (0 < n) × (n ≤ length buf.old)) }
         ensures faults { self.new.faults ≡ self.old.faults }
@@ -384,7 +388,7 @@ impl<F: fs::Files + Drop> FolderFiles<F> {
         }
     }
 
-    /// Writes the octets beside the file at this path, and gives them its name.
+    /// Writes the octets beside the file at this path, and renames that to its name.
     fn write_beside(&self, path: &str, name: &str, bytes: &[u8]) -> io::Result<()> {
         let beside = path_beside(self.alloc, &self.folder, name)?;
         let mut done = fs::write(&self.files, beside.as_str(), bytes);
@@ -398,7 +402,7 @@ impl<F: fs::Files + Drop> FolderFiles<F> {
         done
     }
 
-    /// Writes a file anew, unless what has its name is no plain file.
+    /// Writes a file anew. Fails if what has its name is no plain file.
     fn write_of(&self, name: &str, bytes: &[u8]) -> io::Result<()> {
         let path = self.path(name)?;
         if let Err(error) = self.plain_length(path.as_str()) {
@@ -410,7 +414,7 @@ impl<F: fs::Files + Drop> FolderFiles<F> {
         self.write_beside(path.as_str(), name, bytes)
     }
 
-    /// Keeps what a failed call was about, and counts it.
+    /// Counts a failed call, and keeps what it was about.
     fn keep(&mut self, name: &str, error: io::Error)
         ensures counted { Counts self.old.faults self.new.faults true }
         ensures stopped { self.new.stopped ≡ self.old.stopped }
@@ -427,7 +431,7 @@ impl<F: fs::Files + Drop> FolderFiles<F> {
         };
     }
 
-    /// What a call answers. One that failed is counted.
+    /// Returns what a call answered. If it failed, counts it; an absent file is no failure.
     fn answer<T>(&mut self, name: &str, done: io::Result<T>) -> Result<T, FileFault>
         ensures same { IfOk result (λ x. done ≡ Ok x) }
         ensures counted { Counts self.old.faults self.new.faults (file_failed result) }

@@ -7,9 +7,9 @@ use std::fmt;
 /// What a failed call of a folder's files was about. It is for people: no clause speaks of it.
 #[derive(Debug, Drop)]
 pub enum FolderCause {
-    /// A file.
+    /// A file could not be read, measured or written.
     File(Cause),
-    /// The instance of a send, which was to be kept before any call.
+    /// The instance of a send could not be kept, before any call.
     Instance(InstanceFault),
 }
 

@@ -1,4 +1,4 @@
-//! The process's clock.
+//! The process's clock: [`HostClock`].
 
 ghost use Rattle.std.specs.Prelude.{◌≡◌, ◌≤◌, ◌/◌, ◌^◌, ℕ, Option, None, Some, IfSome, IfNone};
 ghost use Rattle.std.specs.Duration.{as_nanos};
@@ -7,8 +7,7 @@ ghost use Rattle.norm_host.specs.Clocks.{first_reading, last_moment, first_with,
 use norm_base::{Clock, Moment};
 use std::time::{self, Duration};
 
-/// A clock of std, in microseconds since it was first asked. Where a reading fails, it gives the last
-/// moment again. It tells nothing of its moments.
+/// A clock of std, in microseconds since its first reading. If a reading fails, it gives the last moment again. Contracts cannot rely on its moments.
 #[derive(Drop)]
 pub struct HostClock<C> {
     clock: C,
@@ -17,7 +16,7 @@ pub struct HostClock<C> {
 }
 
 impl<C: time::Clock> HostClock<C> {
-    /// A clock that reads this one.
+    /// Returns a clock that reads this one.
     pub fn of(clock: C) -> HostClock<C>
         ensures first { first_reading result ≡ None }
         ensures moment { last_moment result ≡ 0 }
@@ -29,12 +28,12 @@ impl<C: time::Clock> HostClock<C> {
         }
     }
 
-    /// The clock's own reading, in microseconds.
+    /// Reads the clock, in microseconds. `None` if that fails.
     fn reading(&self) -> Option<u64> {
         micros_of(self.clock.monotonic().ok()?)
     }
 
-    /// The moment of a reading: how far it lies after the first one, or 0 if it lies before that.
+    /// Returns the moment of a reading: how far it lies after the first one, or 0 if it lies before that.
     fn since_first(&mut self, reading: u64) -> u64
         ensures start { first_reading self.new ≡ first_with (first_reading self.old) (Some reading) }
         ensures moment { result ≡ since_first (first_reading self.old) reading }
@@ -46,7 +45,7 @@ impl<C: time::Clock> HostClock<C> {
         reading.saturating_sub(start)
     }
 
-    /// Keeps the moment of a reading. If that failed, the moment stays.
+    /// Keeps the moment of a reading. If the reading failed, the moment stays.
     fn keep(&mut self, reading: Option<u64>)
         ensures { Keeps self.old reading self.new }
     {
@@ -56,7 +55,7 @@ impl<C: time::Clock> HostClock<C> {
     }
 }
 
-/// Microseconds, without what is left over. `None` where they are more than 64 bits tell.
+/// Returns whole microseconds. `None` if they have more than 64 bits.
 fn micros_of(time: Duration) -> Option<u64>
     ensures some { IfSome result (λ n. n ≡ as_nanos time / 1000) }
     ensures none { IfNone result (2 ^ 64 ≤ as_nanos time / 1000) }

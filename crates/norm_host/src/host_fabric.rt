@@ -1,4 +1,4 @@
-//! The network that a profile names.
+//! The network that a profile names: [`HostFabric`]. `normd` makes one for the program.
 
 ghost use Rattle.std.specs.Prelude.{◌≡◌, ◌≤◌, false, true, length, [], None, IfOk, IfNone, IsErrOf, OnOk, OnErr, if◌then◌else◌};
 ghost use Rattle.norm_base.specs.Faults.{Counts, network_failed};
@@ -19,7 +19,7 @@ use std::sync::Wait;
 use std::thread::Threads;
 use std::time::Clock;
 
-/// Begins a session over the network that the profile names, with no socket of another open.
+/// Starts the network that the profile names, after it closed all sockets.
 fn begin<R: Net + Wait + Clock + Drop>(
     direct: &mut DirectFabric,
     chance: &mut ChanceFabric,
@@ -43,7 +43,7 @@ fn begin<R: Net + Wait + Clock + Drop>(
     }
 }
 
-/// Whether members are one node of its own, or the hub.
+/// Whether this process has a node of its own or the hub, and not all members.
 fn is_alone(local: &Local) -> bool
     ensures { result ≡ is_alone local.now }
 {
@@ -54,7 +54,7 @@ fn is_alone(local: &Local) -> bool
     }
 }
 
-/// Whether a node of its own, or the hub, is to begin over a network within one process.
+/// Whether a node of its own, or the hub, would start over a network within one process.
 fn is_within(profile: &Profile, local: &Local) -> bool
     ensures { result ≡ is_within profile.now.fabric local.now }
 {
@@ -65,8 +65,10 @@ fn is_within(profile: &Profile, local: &Local) -> bool
     }
 }
 
-/// The network that the profile of its last start names, and before one a direct network. A node of its own and the hub begin over sockets alone. Over
-/// sockets it tells nothing, and a call may fail.
+/// The network that a profile names: in memory, or of sockets. In this order: [`start_threads`](HostFabric::start_threads) if threads are to send,
+/// `start`, `offer` and `take` at will, and [`drain`](HostFabric::drain) before the process ends. Calls go to the network of the last start that
+/// was `Ok`, and before one to a direct network. A node of its own and the hub start only over sockets. Over sockets contracts cannot rely on what
+/// was sent or received, and a call may fail.
 // The kind is that of the last start that was Ok: calls go to the network that began.
 #[derive(Drop)]
 pub struct HostFabric<R> {
@@ -75,7 +77,7 @@ pub struct HostFabric<R> {
     direct: DirectFabric,
     chance: ChanceFabric,
     udp: UdpFabric<R>,
-    /// What the last start was about, if it failed before any socket was asked for.
+    /// What the last failed call was about, if it was a start that was refused before any socket was made.
     refused: Option<SocketCause>,
     faults: u64,
 }
@@ -91,11 +93,11 @@ impl<R> Model for HostFabric<R> {
 }
 
 impl<R: Net + Wait + Clock + Drop> HostFabric<R> {
-    /// A network that was not started, and has no member. Its sockets are those of this process.
+    /// Returns a network that was not started, and has no member. `rt` makes its sockets.
     ///
     /// # Errors
     ///
-    /// `Memory` where memory runs out.
+    /// `Memory` if memory runs out.
     pub fn new(alloc: Global, rt: R) -> Result<HostFabric<R>, Memory>
         ensures { IfOk result (λ f. f ≡ host_unstarted) }
     {
@@ -110,15 +112,15 @@ impl<R: Net + Wait + Clock + Drop> HostFabric<R> {
         })
     }
 
-    /// Waits until threads have sent all that was offered, for some seconds at most: before the process ends, and they with it. Answers what one of
-    /// them failed at, if no call told it.
+    /// Waits until threads have sent all that was offered, for some seconds at most. Call it before the process ends, because its threads end with
+    /// it. Returns why a thread could not send, if no call reported it.
     pub fn drain(&self) -> Option<SocketCause>
         ensures { tells_sending result ≡ true }
     {
         self.udp.drain()
     }
 
-    /// What the last failed call was about. `None` before one.
+    /// Returns what the last failed call was about. `None` if none failed yet.
     pub fn cause(&self) -> Option<&SocketCause> {
         match &self.refused {
             Some(cause) => Some(cause),
@@ -126,7 +128,7 @@ impl<R: Net + Wait + Clock + Drop> HostFabric<R> {
         }
     }
 
-    /// A start over a network within one process, of a node that needs another, fails, and is counted.
+    /// Refuses a start over a network within one process, and counts it as a failed call.
     fn refuse(&mut self, fabric: FabricKind) -> Result<(), FabricFault>
         ensures failed { IsErrOf result FabricFault.Failed }
         ensures state { self.new ≡ host_failed self.old }
@@ -137,7 +139,7 @@ impl<R: Net + Wait + Clock + Drop> HostFabric<R> {
         Err(FabricFault::Failed)
     }
 
-    /// What a call answers. One that failed is counted.
+    /// Returns what a call answered. If it failed, counts it.
     fn answer<T>(&mut self, done: Result<T, FabricFault>) -> Result<T, FabricFault>
         ensures same { result ≡ done }
         ensures state { self.new ≡ (if network_failed done then host_failed self.old else self.old) }
@@ -152,12 +154,11 @@ impl<R: Net + Wait + Clock + Drop> HostFabric<R> {
 }
 
 impl<R: Net + Threads + Wait + Clock + Copy + Send + Drop + 'static> HostFabric<R> {
-    /// Starts threads that send over sockets, for a hub and for a sender alone, as many as this machine has processors for. It comes before
-    /// `start`.
+    /// Starts threads that send over sockets, for a hub and for a sender alone, as many as this machine has processors for. Call it before `start`.
     ///
     /// # Errors
     ///
-    /// `Memory` where memory runs out, or no thread can be made; then each node sends by itself.
+    /// `Memory` if memory runs out or a thread cannot be made. Each node then sends by itself.
     pub fn start_threads(&mut self, alloc: Global, rt: R) -> Result<(), Memory>
         ensures { self.new ≡ self.old }
     {

@@ -2,15 +2,15 @@
 
 use std::{fmt, io};
 
-/// What whoever sends can do then.
+/// What the user can do then.
 const ADVICE: &str = "give --instance I, or the key instance";
 
 /// Why the instance of a send could not be kept. It is for people: no clause speaks of it.
 #[derive(Debug, Drop)]
 pub enum InstanceFault {
-    /// No variable of the environment says in which folder.
+    /// No variable of the environment names a folder for it.
     NoFolder,
-    /// The file of this path could not be used.
+    /// The file at this path could not be used.
     File { path: String, error: io::Error },
 }
 

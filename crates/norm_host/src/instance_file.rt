@@ -1,4 +1,4 @@
-//! The file that keeps the last instance of a sender, from send to send.
+//! The file that keeps the last instance of a sender from send to send: [`InstanceFile`]. `normd` makes one in the user's [`state_folder`].
 
 ghost use Rattle.std.specs.Prelude.{◌≡◌, ◌≤◌, ◌<◌, length, ℕ, List, Option, string_bytes, IfOk, IfSome};
 ghost use Rattle.std.specs.Option.{option_map};
@@ -17,17 +17,17 @@ use std::io::{self, ErrorKind, Read, Write};
 use std::os::unix::fs::{DirBuilderExt, OpenOptionsExt};
 use std::rt::Env;
 
-/// One octet more than the longest line of a number has: so a longer file is seen to be longer.
+/// One octet more than the longest line of a number, so that a longer file is seen to be longer.
 // A number of 16 bits has at most five digits, and then comes a line feed. A file that fills this is no such line.
 const ROOM: usize = 7;
 
-/// Who may use the folder, and a file in it: its user alone.
+/// Who may use the folder and a file in it: its user alone.
 // Our own choice: nobody else should be able to set a user's next instance.
 const FOLDER_MODE: u32 = 0o700;
 
 const FILE_MODE: u32 = 0o600;
 
-/// What is said of a kept file that is another text.
+/// What to say of a kept file that holds another text.
 const NO_NUMBER: &str = "it holds no number from 0 to 65535";
 
 /// Whether a path begins at the root.
@@ -37,7 +37,7 @@ fn is_absolute(path: &[u8]) -> bool
     1 <= path.len() && path[0] == b'/'
 }
 
-/// The path of a name below one that begins at the root. `None` if there is none, or it begins elsewhere.
+/// Returns the path of a name below this one. `None` if there is no path, or it does not begin at the root.
 fn below(path: Option<String>, name: &str) -> Result<Option<String>, AllocError>
     ensures { IfOk result (λ found. option_map string_bytes found ≡ below (option_map string_bytes path) name.now) }
 {
@@ -52,7 +52,7 @@ fn below(path: Option<String>, name: &str) -> Result<Option<String>, AllocError>
     Ok(Some(path))
 }
 
-/// The folder that these two variables of the environment name.
+/// Returns the folder that these two variables of the environment name. The first decides, if it begins at the root.
 fn folder_by(state: Option<String>, home: Option<String>) -> Result<Option<String>, AllocError>
     ensures { IfOk result (λ folder. option_map string_bytes folder ≡ state_folder (option_map string_bytes state) (option_map string_bytes home)) }
 {
@@ -62,7 +62,7 @@ fn folder_by(state: Option<String>, home: Option<String>) -> Result<Option<Strin
     below(home, "/.local/state/normd")
 }
 
-/// A variable of the environment. `None` if it is not set, or is not UTF-8.
+/// Returns a variable of the environment. `None` if it is not set, or is not UTF-8.
 fn variable<R: Env + AllocGlobal>(rt: &R, name: &str) -> Result<Option<String>, Memory> {
     match env::var(rt, name) {
         Ok(value) => Ok(Some(value)),
@@ -71,12 +71,12 @@ fn variable<R: Env + AllocGlobal>(rt: &R, name: &str) -> Result<Option<String>, 
     }
 }
 
-/// The user's folder for what the program keeps from run to run: `normd` in $XDG_STATE_HOME, or else in $HOME/.local/state. `None` if neither
-/// variable is a path that begins at the root: another would be a folder for each place that the program runs in.
+/// Returns the user's folder for what the program keeps: `normd` in $XDG_STATE_HOME, or else in $HOME/.local/state. `None` if neither variable is a
+/// path that begins at the root; a relative one would name another folder for each folder that the program runs in.
 ///
 /// # Errors
 ///
-/// `Memory` where memory runs out.
+/// `Memory` if memory runs out.
 pub fn state_folder<R: Env + AllocGlobal>(rt: &R) -> Result<Option<String>, Memory>
     ensures { IfOk result (λ folder. (state : Option (List ℕ)) × (home : Option (List ℕ)) × (option_map string_bytes folder ≡ state_folder state home)) }
 {
@@ -85,14 +85,14 @@ pub fn state_folder<R: Env + AllocGlobal>(rt: &R) -> Result<Option<String>, Memo
     Ok(folder_by(state, home)?)
 }
 
-/// What opens a file of the user's for writing, which is made if it is not there.
+/// Returns how to open a file for writing. It is made, for its user alone, if it is not there.
 fn to_write() -> OpenOptions {
     let mut how = OpenOptions::new();
     how.write(true).create(true).mode(FILE_MODE);
     how
 }
 
-/// Waits until what was done in a folder outlives a power cut. A file system that has no such call is left as it is.
+/// Waits until what was done in a folder would survive a power cut. Does nothing if the file system has no such call.
 fn sync_folder(folder: &File) -> io::Result<()> {
     match folder.sync_all() {
         // There is nothing to wait for then, and refusing to send would help nobody.
@@ -101,7 +101,7 @@ fn sync_folder(folder: &File) -> io::Result<()> {
     }
 }
 
-/// Reads a file to its end, or until the buffer is full. Answers how many octets it read.
+/// Reads a file to its end, or until the buffer is full. Returns how many octets it read.
 fn read_up_to<S: Read>(file: &mut S, buf: &mut [u8]) -> io::Result<usize>
     ensures { IfOk result (λ n. n ≤ length buf.old) }
 {
@@ -116,9 +116,10 @@ fn read_up_to<S: Read>(file: &mut S, buf: &mut [u8]) -> io::Result<usize>
     Ok(done)
 }
 
-/// The file `PORT-SENDER` of a folder: the last instance that a send of this sender took, of all that use the hub at this port, as one decimal
-/// line. Beside it stand a file that is locked while the number is read and written (`PORT-SENDER.lock`), and one in which the next number is
-/// written before it takes this one's place (`PORT-SENDER.part`). The folder is made if it is not there, for its user alone.
+/// The file `PORT-SENDER` of a folder. It holds one decimal line: the last instance that a send of this sender took, of all that use the hub at
+/// this port. [`draw`](InstanceFile::draw) takes the next one, and [`keep`](InstanceFile::keep) keeps one that was given. Both make the folder if
+/// it is not there, for its user alone. They lock `PORT-SENDER.lock` as long as they read and write, and write the next number to
+/// `PORT-SENDER.part` before they rename it.
 #[derive(Drop)]
 pub struct InstanceFile<R> {
     rt: R,
@@ -130,11 +131,11 @@ pub struct InstanceFile<R> {
 }
 
 impl<R: fs::Files<File = File> + Drop> InstanceFile<R> {
-    /// The file of the sender of a profile, in this folder. Nothing is opened or made yet.
+    /// Returns the file of a profile's sender in this folder. Nothing is opened or made yet.
     ///
     /// # Errors
     ///
-    /// `Memory` where memory runs out.
+    /// `Memory` if memory runs out.
     pub fn of(
         alloc: Global,
         rt: R,
@@ -158,8 +159,8 @@ impl<R: fs::Files<File = File> + Drop> InstanceFile<R> {
         })
     }
 
-    /// Makes the folder if it is not there, and waits until no other process reads or writes the number. None does as long as what this answers
-    /// is there.
+    /// Makes the folder if it is not there, and waits until no other process reads or writes the number. None
+    /// does as long as the returned file is open.
     fn locked(&self) -> io::Result<File> {
         let mut folder = DirBuilder::new();
         folder.recursive(true).mode(FOLDER_MODE);
@@ -169,7 +170,7 @@ impl<R: fs::Files<File = File> + Drop> InstanceFile<R> {
         Ok(lock)
     }
 
-    /// The octets of the file, if it is there.
+    /// Reads the file from its beginning. Returns how many octets there were, as far as they have room. `None` if it is not there.
     fn line(&self, buf: &mut [u8]) -> io::Result<Option<usize>>
         ensures { IfOk result (λ found. IfSome found (λ n. n ≤ length buf.old)) }
     {
@@ -183,7 +184,7 @@ impl<R: fs::Files<File = File> + Drop> InstanceFile<R> {
         Ok(Some(read_up_to(&mut file, buf)?))
     }
 
-    /// The number that the file holds; none if it is not there.
+    /// Returns the number that the file holds. `None` if it is not there.
     fn last(&self) -> io::Result<Option<InstanceId>>
         ensures { IfOk result (λ last. IfSome last (λ n. n < id_count)) }
     {
@@ -197,7 +198,7 @@ impl<R: fs::Files<File = File> + Drop> InstanceFile<R> {
         }
     }
 
-    /// Writes the number beside the file, and gives it the file's name once it outlives a power cut.
+    /// Writes the number beside the file, and renames that to the file's name after it would survive a power cut.
     fn write(&self, instance: InstanceId) -> io::Result<()> {
         let line = number_line(self.alloc, instance)?;
         let mut how = to_write();
@@ -210,11 +211,11 @@ impl<R: fs::Files<File = File> + Drop> InstanceFile<R> {
         sync_folder(&fs::open(&self.rt, self.folder.as_str())?)
     }
 
-    /// Takes the next instance in this minute, and keeps it. Two processes that do so at once take two.
+    /// Takes the next instance in this minute, and keeps it. Two processes that do so at once take two. Waits while another one does.
     ///
     /// # Errors
     ///
-    /// The number could not be read or kept: the file holds another text (`InvalidData`), there was no memory, or the system says why.
+    /// The number could not be read or kept: the file holds another text (`InvalidData`), memory ran out, or the system says why.
     pub fn draw(&self, minute: InstanceId) -> io::Result<InstanceId>
         ensures { IfOk result (λ instance. (last : Option ℕ) × (IfSome last (λ n. n < id_count)) × (instance ≡ next_instance last minute)) }
     {
@@ -226,11 +227,11 @@ impl<R: fs::Files<File = File> + Drop> InstanceFile<R> {
         Ok(instance)
     }
 
-    /// Keeps an instance that was given, if it lies above the last one. Answers the last one if not, and that stays.
+    /// Keeps an instance that was given, if it lies above the last one. If not, the last one stays, and is returned.
     ///
     /// # Errors
     ///
-    /// As [`draw`](InstanceFile::draw).
+    /// As of [`draw`](InstanceFile::draw).
     pub fn keep(&self, instance: InstanceId) -> io::Result<Option<InstanceId>>
         ensures { IfOk result (λ passed. (last : Option ℕ) × (IfSome last (λ n. n < id_count)) × (passed ≡ passed_by last instance)) }
     {
@@ -246,7 +247,7 @@ impl<R: fs::Files<File = File> + Drop> InstanceFile<R> {
         }
     }
 
-    /// What to say of a call that failed. It takes no memory.
+    /// Returns what to say of a call that failed. It takes no memory.
     pub fn into_fault(self, error: io::Error) -> InstanceFault {
         InstanceFault::File {
             path: self.path,

@@ -1,5 +1,5 @@
-//! Which instance a send takes: one above each that an earlier send of its user took (RFC 5740 section 4.1), since a receiver that runs on passes
-//! over any other, or takes its objects for those that it has. And the line that keeps the last one.
+//! Which instance a send takes, and the line that keeps the last one. An instance lies above each that an earlier send of its user took (RFC 5740
+//! section 4.1): a receiver that runs on passes over any other, or takes its objects for those that it has. `InstanceFile` and `normd` call this.
 
 ghost use Rattle.std.specs.Prelude.{◌≡◌, ◌<◌, ◌^◌, ℕ, decimal, string_bytes, IfNone, IfOk, IfSome};
 ghost use Rattle.std.specs.Duration.{as_nanos};
@@ -12,7 +12,7 @@ use std::alloc::{AllocError, Global};
 use std::str;
 use std::time::Duration;
 
-/// The minute since 1970, going round as instance ids do.
+/// Returns the minute since 1970 as an instance id. After the last id it begins again at 0.
 // Minutes go round in 45 days, so a receiver may miss every send of 22 days. Seconds would go round in 18 hours.
 pub fn minute_at(since_1970: Duration) -> InstanceId
     ensures { result ≡ minute_at (as_nanos since_1970) }
@@ -20,7 +20,7 @@ pub fn minute_at(since_1970: Duration) -> InstanceId
     InstanceId((since_1970.as_secs() / 60 % u64::from(ID_COUNT)) as u16)
 }
 
-/// The last instance that was taken, if one that is given does not lie above it.
+/// Returns the last instance that was taken, if `instance` does not lie above it.
 pub(crate) fn passed_by(last: Option<InstanceId>, instance: InstanceId) -> Option<InstanceId>
     ensures { result ≡ passed_by last instance }
 {
@@ -36,14 +36,14 @@ pub(crate) fn passed_by(last: Option<InstanceId>, instance: InstanceId) -> Optio
     }
 }
 
-/// The id after another; 0 comes after the last one.
+/// Returns the id after another: 0 after the last one.
 fn id_after(id: InstanceId) -> InstanceId
     ensures { result ≡ id_after id }
 {
     InstanceId(id.0.wrapping_add(1))
 }
 
-/// The instance that a send takes in this minute, after the last one that was taken, if one was. It lies above that
+/// Returns the instance that a send takes in this minute. `last` is the last one that was taken, if one was, and the result lies above it
 /// ([`next_is_above`](crate::laws::next_is_above)).
 // By the minute and a kept number. The minute alone would be shared by two sends within it, and falls with the clock. A number alone begins anew
 // if its folder is lost, and may then be one that receivers had.
@@ -62,7 +62,7 @@ pub fn next_instance(last: Option<InstanceId>, minute: InstanceId) -> InstanceId
     }
 }
 
-/// The line that keeps a number.
+/// Returns the line that keeps a number.
 pub(crate) fn number_line(alloc: Global, number: InstanceId) -> Result<String, AllocError>
     ensures { IfOk result (λ line. string_bytes line ≡ number_line number) }
 {
@@ -70,7 +70,7 @@ pub(crate) fn number_line(alloc: Global, number: InstanceId) -> Result<String, A
     format!(in alloc; "{number}\n")
 }
 
-/// The number that these digits are. `None` if they are none of 16 bits, or have a sign or a leading zero.
+/// Returns the number that these digits spell. `None` if they spell none of 16 bits, or have a sign or a leading zero.
 fn number_of(digits: &str) -> Option<InstanceId>
     ensures some { IfSome result (λ number. digits.now ≡ decimal number) }
     ensures none { IfNone result ((number : ℕ) → number < 2 ^ 16 → digits.now ≡ decimal number → ⊥) }
@@ -86,7 +86,7 @@ fn number_of(digits: &str) -> Option<InstanceId>
     None
 }
 
-/// The number that a line keeps. `None` if it is the line of none.
+/// Returns the number that a line keeps. `None` if it keeps none.
 pub(crate) fn number_in(line: &[u8]) -> Option<InstanceId>
     ensures some { IfSome result (λ number. line.now ≡ number_line number) }
     ensures none { IfNone result ((number : ℕ) → number < 2 ^ 16 → line.now ≡ number_line number → ⊥) }

@@ -1,4 +1,4 @@
-//! What is promised of the instances that sends take. Each law is the contract of a function that does nothing.
+//! Laws of the instances that sends take. Each is the contract of a function that does nothing.
 
 ghost use Rattle.norm_host.specs.Laws.{NextIsAbove};
 

@@ -8,8 +8,8 @@ ghost use Rattle.norm_host.specs.Streams.{writer_of};
 use norm_base::{Cause, Failed, Sink};
 use std::io::{self, Write};
 
-/// A writer of std as a sink. It tells nothing of what was written, but what the writer tells goes on: a
-/// write that was Ok wrote all octets and flushed them.
+/// A writer of std as a sink. Each write flushes. Contracts cannot rely on what was written, except as the writer itself promises
+/// it: a write that was `Ok` wrote all octets.
 #[derive(Drop)]
 pub struct StdSink<W> {
     writer: W,
@@ -18,7 +18,7 @@ pub struct StdSink<W> {
 }
 
 impl<W: Write> StdSink<W> {
-    /// A sink that writes there. It has not failed.
+    /// Returns a sink that writes there.
     pub fn of(writer: W) -> StdSink<W>
         ensures writer { writer_of result ≡ writer }
         ensures faults { ⟦<StdSink<W> as Sink>⟧.fault_count result ≡ 0 }
@@ -30,12 +30,12 @@ impl<W: Write> StdSink<W> {
         }
     }
 
-    /// What the last failed write was about. `None` before one.
+    /// Returns what the last failed write was about. `None` if none failed yet.
     pub fn cause(&self) -> Option<&Cause> {
         self.cause.as_ref()
     }
 
-    /// Keeps why a write failed, and counts it.
+    /// Counts a failed write, and keeps why it failed.
     fn keep(&mut self, error: io::Error)
         ensures writer { writer_of self.new ≡ writer_of self.old }
         ensures counted { Counts self.old.faults self.new.faults true }

@@ -8,13 +8,13 @@ ghost use Rattle.norm_host.specs.Streams.{reader_of};
 use norm_base::{Cause, Failed, Source};
 use std::io::{self, ErrorKind, Read};
 
-/// The octets that a source gives at most.
+/// The most octets that a source gives.
 // Our own choice, so that a count of octets always fits. No input is that long; beyond it a read fails.
 const MOST: u64 = (1 << 63) - 1;
 
-/// A reader of std as a source. It tells nothing of what is left, but what the reader tells goes on: a
-/// read that was Ok consumed what it gave, 0 octets into a buffer with room is the reader's end, and a
-/// failed read consumed nothing. It gives fewer than 2^63 octets, and fails from then on.
+/// A reader of std as a source. Contracts cannot rely on what is left, except as the reader itself promises it: a read that was `Ok` consumed
+/// what it gave, 0 octets into a buffer with room is the reader's end, and a failed read consumed nothing. It gives fewer than 2^63 octets: a
+/// read fails if its buffer has room for more.
 #[derive(Drop)]
 pub struct StdSource<R> {
     reader: R,
@@ -24,7 +24,7 @@ pub struct StdSource<R> {
 }
 
 impl<R: Read> StdSource<R> {
-    /// A source that reads from there. It gave nothing yet, and has not failed.
+    /// Returns a source that reads from there.
     pub fn of(reader: R) -> StdSource<R>
         ensures reader { reader_of result ≡ reader }
         ensures given { ⟦<StdSource<R> as Source>⟧.given result ≡ 0 }
@@ -38,12 +38,12 @@ impl<R: Read> StdSource<R> {
         }
     }
 
-    /// What the last failed read was about. `None` before one.
+    /// Returns what the last failed read was about. `None` if none failed yet.
     pub fn cause(&self) -> Option<&Cause> {
         self.cause.as_ref()
     }
 
-    /// Keeps why a read failed, and counts it.
+    /// Counts a failed read, and keeps why it failed.
     fn keep(&mut self, error: io::Error)
         ensures reader { reader_of self.new ≡ reader_of self.old }
         ensures given { self.new.given ≡ self.old.given }
@@ -53,7 +53,7 @@ impl<R: Read> StdSource<R> {
         self.cause = Some(Cause::Input { error });
     }
 
-    /// Whether it may give so many octets more.
+    /// Whether the source may give this many octets more.
     fn has_room(&self, more: u64) -> bool
         ensures { IsTrue result ↔ (self.now.given + more < 2 ^ 63) }
     {

@@ -1,4 +1,4 @@
-//! Which calls of an object in memory fail.
+//! Which calls of an object in memory fail: [`CallCount`].
 
 ghost use Rattle.std.specs.Prelude.{◌≡◌, [], true, false};
 ghost use Rattle.norm_memory.specs.Calls.{next_fails, after_call, restarted};
@@ -6,7 +6,8 @@ ghost use Rattle.norm_base.specs.Faults.{Counts};
 
 use std::marker::Model;
 
-/// Counts the calls of an object, and which of them fail.
+/// Counts the calls of an object, and says which of them fail. In each call ask [`next_fails`](CallCount::next_fails), and then call
+/// [`fail`](CallCount::fail) or [`pass`](CallCount::pass).
 #[derive(Debug, Drop)]
 pub(crate) struct CallCount {
     failing: Vec<u64>,
@@ -23,7 +24,7 @@ impl Model for CallCount {
 }
 
 impl CallCount {
-    /// No call was made. The calls with these numbers, from 1, will fail.
+    /// Returns a count of no calls. The calls with these numbers, from 1, will fail.
     pub(crate) fn of(failing: Vec<u64>) -> CallCount
         ensures { result ≡ record { failing = failing.items; made = 0; faults = 0 } }
     {
@@ -42,14 +43,14 @@ impl CallCount {
         self.failing.contains(&self.made.saturating_add(1))
     }
 
-    /// How many calls were made since the count began.
+    /// Returns how many calls were made since the count began.
     pub(crate) fn made(&self) -> u64
         ensures { result ≡ self.now.made }
     {
         self.made
     }
 
-    /// Counts a call that did what it was to do.
+    /// Counts a call that did not fail.
     pub(crate) fn pass(&mut self)
         ensures { self.new ≡ after_call self.old false }
     {
@@ -66,14 +67,14 @@ impl CallCount {
         self.faults = self.faults.saturating_add(1);
     }
 
-    /// Counts the calls anew. Which of them fail, and how many failed, stay.
+    /// Counts the calls from 0 again. Which of them fail, and how many failed, stay.
     pub(crate) fn restart(&mut self)
         ensures { self.new ≡ restarted self.old }
     {
         self.made = 0;
     }
 
-    /// How many calls failed.
+    /// Returns how many calls failed.
     pub(crate) fn faults(&self) -> u64
         ensures { result ≡ self.now.faults }
     {

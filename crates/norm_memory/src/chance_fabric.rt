@@ -1,4 +1,4 @@
-//! A network in memory that loses, repeats and delays by chance.
+//! A network in memory that loses, repeats and delays by chance: [`ChanceFabric`]. `norm_host` runs it if the profile names it.
 
 ghost use Rattle.std.specs.Prelude.{◌≡◌, ◌≤◌, ◌++◌, length, [], drop, option_map, IfOk, IfNone, IfErr, OnOk, OnErr};
 ghost use Rattle.norm_memory.specs.Chances.{seeded, draw, fate_by_word, chance_plan, drawn, chance_unstarted, chance_started, chance_offer, chance_take};
@@ -16,7 +16,7 @@ use rand_pcg::Lcg64Xsh32;
 use std::alloc::{AllocError, Global};
 use std::marker::Model;
 
-/// The generator of a seed.
+/// Returns the generator of a seed.
 #[tactic(auto, unfolding(crate::specs::Chances::seeded))]
 fn seeded(chance: u32) -> Lcg64Xsh32
     ensures { result ≡ seeded chance }
@@ -24,7 +24,7 @@ fn seeded(chance: u32) -> Lcg64Xsh32
     Lcg64Xsh32::seed_from_u64(u64::from(chance))
 }
 
-/// The next word.
+/// Draws the next word, of 32 bits.
 #[tactic(auto, unfolding(crate::specs::Chances::draw))]
 fn draw(draws: &mut Lcg64Xsh32) -> u32
     ensures { (result, draws.new) ≡ draw draws.old }
@@ -32,7 +32,7 @@ fn draw(draws: &mut Lcg64Xsh32) -> u32
     draws.next_word()
 }
 
-/// What becomes of a copy by the word that was drawn for it.
+/// Returns what becomes of a copy, by the word that was drawn for it.
 fn fate_by_word(profile: &Profile, word: u32) -> Fate
     ensures { result ≡ fate_by_word profile.now word }
 {
@@ -50,7 +50,7 @@ fn fate_by_word(profile: &Profile, word: u32) -> Fate
     }
 }
 
-/// What becomes of an offer: a word is drawn for each other member.
+/// Returns what becomes of an offer. Draws a word for each other member.
 fn plan_by_chance(
     alloc: Global,
     profile: &Profile,
@@ -71,10 +71,9 @@ fn plan_by_chance(
     Ok(plan)
 }
 
-/// A network in memory by chance, for each other member of an offer by one word of PCG32 that is drawn
-/// from the seed `chance` of the profile. With a word w the copy is lost where w mod 1000 is below `loss`;
-/// it comes twice where w / 1000 mod 1000 is below `repeat`; and it is ready after w / 1000000 mod
-/// (`late` + 1) further offers. Ready copies are taken as in `ListFabric`. It has no faults.
+/// A network in memory by chance. For each other member of an offer it draws one 32-bit word w of PCG32, which begins from the profile's seed
+/// `chance`. If w mod 1000 is below `loss`, the copy is lost. If w / 1000 mod 1000 is below `repeat`, it comes twice. It is ready after w / 1000000
+/// mod (`late` + 1) further offers. Ready copies are taken as in `ListFabric`. A call fails only if memory runs out.
 #[derive(Debug, Drop)]
 pub struct ChanceFabric {
     network: MemNetwork,
@@ -91,7 +90,7 @@ impl Model for ChanceFabric {
 }
 
 impl ChanceFabric {
-    /// A network that was not started, and has no member.
+    /// Returns a network that was not started, and has no member.
     pub fn new(alloc: Global) -> Result<ChanceFabric, Memory>
         ensures { IfOk result (λ f. f ≡ chance_unstarted) }
     {
@@ -102,7 +101,7 @@ impl ChanceFabric {
         })
     }
 
-    /// The datagram at this place, from 0, of those offered since the last start, and who offered it.
+    /// Returns the datagram at this index, from 0, of those offered since the last start, and who offered it.
     pub fn offered(&self, place: usize) -> Option<(NodeId, &[u8])>
         ensures { option_map (λ x. (x.0, x.1.now)) result ≡ first_of (drop place self.now.network.offered) }
     {

@@ -1,4 +1,4 @@
-//! A copy that waits in a network in memory, and the order in which copies are taken.
+//! A copy that waits in a network in memory, and the order in which copies are taken: [`WaitingCopy`].
 
 ghost use Rattle.std.proofs.Common.{rules};
 ghost use Rattle.std.specs.Cmp.{partial_order_from_own_ties};
@@ -8,13 +8,13 @@ ghost use Rattle.std.specs.Ordering.{nat_cmp, on, flip_args, then_cmp, as_partia
 use norm_base::NodeId;
 use std::cmp::Ordering;
 
-/// A copy of an offered datagram, which waits for the member that it is for. What is taken first is the
-/// greatest: what became ready first, of these the copy of the lower offer, of these that for the lower node.
+/// A copy of an offered datagram, which waits for the member that it is for. The greatest is taken first: the one that became ready first, then the
+/// one of the earlier offer, then the one for the lower node.
 #[derive(Clone, Copy, Debug, PartialEq, Eq)]
 pub struct WaitingCopy {
-    /// How many offers there are since the start once it is ready.
+    /// It is ready after this many offers since the start.
     pub ready: u64,
-    /// The place of its offer, from 0, among those since the start.
+    /// The index of its offer, from 0, among those since the start.
     pub offer: usize,
     /// The member that it is for.
     pub to: NodeId,

@@ -1,4 +1,4 @@
-//! A network in memory that gives each datagram once to every other member, in order.
+//! A network in memory that gives each datagram once to each other member, in order: [`DirectFabric`]. `norm_host` runs it if the profile names it.
 
 ghost use Rattle.std.specs.Prelude.{◌≡◌, ◌≤◌, length, [], drop, Some, true, option_map, IfOk, IfNone, IfErr, OnOk, OnErr};
 ghost use Rattle.norm_memory.specs.Direct.{direct_offer, direct_told};
@@ -12,8 +12,8 @@ use norm_base::{Datagram, Fabric, FabricFault, Local, Memory, NodeId, Profile};
 use std::alloc::Global;
 use std::marker::Model;
 
-/// A network in memory that loses nothing: each offered datagram comes once to every other member, in
-/// the order of the offers and of the members, and a take gives the first that was not taken yet. It has no faults.
+/// A network in memory that loses nothing: each offered datagram comes once to each other member, in the order of the offers and of the members, and
+/// a take gives the first that was not taken yet. A call fails only if memory runs out.
 #[derive(Debug, Drop)]
 pub struct DirectFabric {
     network: MemNetwork,
@@ -31,7 +31,7 @@ impl Model for DirectFabric {
 }
 
 impl DirectFabric {
-    /// A network that was not started, and has no member.
+    /// Returns a network that was not started, and has no member.
     pub fn new(alloc: Global) -> Result<DirectFabric, Memory>
         ensures { IfOk result (λ f. f ≡ unstarted) }
     {
@@ -40,7 +40,7 @@ impl DirectFabric {
         })
     }
 
-    /// The datagram at this place, from 0, of those offered since the last start, and who offered it.
+    /// Returns the datagram at this index, from 0, of those offered since the last start, and who offered it.
     pub fn offered(&self, place: usize) -> Option<(NodeId, &[u8])>
         ensures { option_map (λ x. (x.0, x.1.now)) result ≡ first_of (drop place self.now.offered) }
     {

@@ -1,4 +1,4 @@
-//! What becomes of an offer's copies.
+//! What becomes of an offer's copies: [`Fate`].
 
 /// What becomes of a datagram on its way to one member.
 #[derive(Clone, Copy, Debug, PartialEq, Eq)]

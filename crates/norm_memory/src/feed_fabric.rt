@@ -1,4 +1,4 @@
-//! A network in memory that gives a stated list of datagrams.
+//! A network in memory that gives a list of datagrams: [`FeedFabric`]. Tests use it.
 
 ghost use Rattle.std.specs.Prelude.{◌≡◌, ◌≤◌, length, [], drop, option_map, IfOk, IfNone, IfErr, OnOk, OnErr};
 ghost use Rattle.norm_memory.specs.Feeding.{feed_told, fed, AreDatagrams, feed_started, feed_offered, feed_taken};
@@ -10,9 +10,8 @@ use norm_base::{Datagram, Fabric, FabricFault, Local, Memory, NodeId, Profile};
 use std::alloc::Global;
 use std::marker::Model;
 
-/// A network in memory that gives the datagrams of a list, one for each take, and then nothing. It keeps
-/// what is offered and gives it to nobody, so it is not honest. A start leaves the list where it is. It has
-/// no faults.
+/// A network in memory that gives the datagrams of a list, one for each take, and then nothing. It keeps what is offered and gives it to nobody, so
+/// it is not honest. A start does not begin the list again. A call fails only if memory runs out.
 // Each datagram of the list has at most 1,500 octets. A longer one would find no room in what is lent to `take`.
 #[derive(Debug, Drop)]
 pub struct FeedFabric {
@@ -40,7 +39,7 @@ impl Model for FeedFabric {
 }
 
 impl FeedFabric {
-    /// A network that was not started and will give these datagrams to these members.
+    /// Returns a network that was not started, and will give these datagrams to these members.
     pub fn of(alloc: Global, feed: Vec<(NodeId, Vec<u8>)>) -> Result<FeedFabric, Memory>
         requires { AreDatagrams feed.items }
         ensures { IfOk result (λ f. f ≡ record { starts = []; offered = []; answers = []; left = fed feed.items }) }
@@ -54,7 +53,7 @@ impl FeedFabric {
         })
     }
 
-    /// The datagram at this place, from 0, of those offered since the last start, and who offered it.
+    /// Returns the datagram at this index, from 0, of those offered since the last start, and who offered it.
     pub fn offered(&self, place: usize) -> Option<(NodeId, &[u8])>
         ensures { option_map (λ x. (x.0, x.1.now)) result ≡ first_of (drop place self.now.offered) }
     {

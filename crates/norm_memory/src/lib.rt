@@ -1,4 +1,5 @@
-//! The outside in memory: sources, sinks, files, clocks and networks.
+//! The outside of a node in memory, by the traits of `norm_base`: sources, sinks, files, clocks and networks. `norm_host` runs sessions in one
+//! process over [`DirectFabric`] and [`ChanceFabric`]. Tests use the rest.
 #![tactic(auto)]
 
 mod calls;

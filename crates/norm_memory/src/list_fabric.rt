@@ -1,4 +1,4 @@
-//! A network in memory with rules, which fails at chosen offers and takes.
+//! A network in memory with rules, which fails at chosen offers and takes: [`ListFabric`]. Tests use it.
 
 ghost use Rattle.std.specs.Prelude.{◌≡◌, ◌≤◌, length, [], drop, true, false, option_map, IfOk, IfNone, OnOk, OnErr};
 ghost use Rattle.norm_memory.specs.Calls.{next_fails};
@@ -15,10 +15,9 @@ use norm_base::{Datagram, Fabric, FabricFault, Local, Memory, NodeId, Profile};
 use std::alloc::Global;
 use std::marker::Model;
 
-/// A network in memory like `DirectFabric`, but that rules say which copies are lost, repeated or late,
-/// and that its listed offers and takes fail and leave all as it was. Offers and takes have numbers from
-/// 1, counted from the last start that was Ok, failed ones too. Ready copies are taken in the order in
-/// which they became ready, then of their offers, then of the nodes that they are for.
+/// A network in memory like `DirectFabric`, except that rules say which copies are lost, repeated or late, and that listed offers and takes fail and
+/// leave all as it was. Offers and takes have numbers from 1 since the last start that was `Ok`, failed ones too. Ready copies are taken in the order
+/// in which they became ready, then of their offers, then of the nodes that they are for.
 #[derive(Debug, Drop)]
 pub struct ListFabric {
     network: MemNetwork,
@@ -36,7 +35,7 @@ impl Model for ListFabric {
 }
 
 impl ListFabric {
-    /// A network that was not started, and has no member. The offers and takes with these numbers fail.
+    /// Returns a network that was not started, and has no member. The offers and takes with these numbers fail.
     pub fn of(
         alloc: Global,
         rules: Vec<Rule>,
@@ -56,14 +55,14 @@ impl ListFabric {
         })
     }
 
-    /// The datagram at this place, from 0, of those offered since the last start, and who offered it.
+    /// Returns the datagram at this index, from 0, of those offered since the last start, and who offered it.
     pub fn offered(&self, place: usize) -> Option<(NodeId, &[u8])>
         ensures { option_map (λ x. (x.0, x.1.now)) result ≡ first_of (drop place self.now.network.offered) }
     {
         self.network.offered(place)
     }
 
-    /// How many takes were asked for since the last start, failed ones too.
+    /// Returns how many takes were asked for since the last start, failed ones too.
     pub fn takes(&self) -> u64
         ensures { result ≡ self.now.takes.made }
     {

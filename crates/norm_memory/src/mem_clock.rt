@@ -1,4 +1,4 @@
-//! A clock in memory.
+//! A clock in memory: [`MemClock`]. Tests use it.
 
 ghost use Rattle.std.specs.Prelude.{◌≡◌};
 ghost use Rattle.norm_base.specs.Faults.{one_more};
@@ -8,7 +8,7 @@ ghost use Rattle.norm_base.specs.Told.{GainsWhereTold};
 use norm_base::{Clock, Moment};
 use std::marker::Model;
 
-/// Gives the moments of a list, after them its last one again, and 0 where the list is empty.
+/// Gives the moments of a list, and after them the last one again. Gives 0 if the list is empty.
 // It counts the questions and keeps no list of what it answered: a list needs memory, and `now` has no answer for want of it.
 #[derive(Debug, Drop)]
 pub struct MemClock {
@@ -25,14 +25,14 @@ impl Model for MemClock {
 }
 
 impl MemClock {
-    /// A clock that gives these moments.
+    /// Returns a clock that gives these moments.
     pub fn of(moments: Vec<Moment>) -> MemClock
         ensures { result ≡ record { moments = moments.items; asked = 0 } }
     {
         MemClock { moments, asked: 0 }
     }
 
-    /// What the next question is answered.
+    /// Returns the moment that the next call of `now` gives.
     fn next_moment(&self) -> Moment
         ensures { result ≡ moment_at self.now.moments self.now.asked }
     {

@@ -1,4 +1,4 @@
-//! Files in memory.
+//! Files in memory: [`MemFiles`]. Tests use them.
 
 ghost use Rattle.std.specs.Prelude.{◌↔◌, ◌-◌, min, true, false, is_err, IsErr, IsErrOf, IsNone, IsTrue, IfSome, ◌≡◌, ◌≤◌, ◌<◌, ◌++◌, [], ◌∷◌, Some, ℕ, List, length, map, drop, take, string_bytes, slice_set, IfOk, OnOk, OnErr, option_copied, nat_eq};
 ghost use Rattle.norm_memory.specs.Filing.{named, fails_at, after_query, place_of, put_in};
@@ -12,7 +12,7 @@ use norm_base::{Failed, FileFault, Files};
 use std::alloc::{AllocError, Global};
 use std::marker::Model;
 
-/// The first place of this name, or the number of files.
+/// Returns the index of the first file with this name, or the number of files.
 fn place_of(files: &[(String, Vec<u8>)], name: &str) -> usize
     ensures place { result ≡ place_of (named files.now) name.now }
     ensures within { result ≤ length files.now }
@@ -25,7 +25,7 @@ fn place_of(files: &[(String, Vec<u8>)], name: &str) -> usize
     files.len()
 }
 
-/// The octets of the file with this name.
+/// Returns the octets of the file with this name.
 fn content_of<'a>(files: &'a [(String, Vec<u8>)], name: &str) -> Option<&'a [u8]>
     ensures { option_copied result ≡ content_of (named files.now) name.now }
 {
@@ -37,7 +37,7 @@ fn content_of<'a>(files: &'a [(String, Vec<u8>)], name: &str) -> Option<&'a [u8]
     None
 }
 
-/// Makes the octets the contents of the name's file.
+/// Gives the file with this name these octets. If there is none, adds one.
 fn put_in(
     alloc: Global,
     files: &mut Vec<(String, Vec<u8>)>,
@@ -59,8 +59,8 @@ fn put_in(
     Ok(())
 }
 
-/// Files in memory, where the calls with the listed numbers fail and leave all as it was. So does a
-/// `put` that finds no memory.
+/// Files in memory. A call fails, and leaves all as it was, if its number is listed, or if it is a `put` and memory runs out. A `length` or `read_at`
+/// of a name that is not there answers `Absent`, also if its number is listed.
 #[derive(Debug, Drop)]
 pub struct MemFiles {
     files: Vec<(String, Vec<u8>)>,
@@ -76,7 +76,7 @@ impl Model for MemFiles {
 }
 
 impl MemFiles {
-    /// Files with these names, which differ, and octets, whose calls with these numbers, from 1, fail.
+    /// Returns files with these names, which differ, and these octets. Their calls with these numbers, from 1, fail.
     pub fn of(files: Vec<(String, Vec<u8>)>, failing: Vec<u64>) -> MemFiles
         ensures files { result.files ≡ named files.items }
         ensures calls { result.calls ≡ record { failing = failing.items; made = 0; faults = 0 } }
@@ -87,7 +87,7 @@ impl MemFiles {
         }
     }
 
-    /// The octets of the file with this name. It counts as no call.
+    /// Returns the octets of the file with this name. It does not count as a call.
     pub fn content(&self, name: &str) -> Option<&[u8]>
         ensures { option_copied result ≡ content_of self.now.files name.now }
     {

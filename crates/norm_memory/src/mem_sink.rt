@@ -1,4 +1,4 @@
-//! A sink in memory.
+//! A sink in memory: [`MemSink`]. Tests write to it.
 
 ghost use Rattle.std.specs.Prelude.{◌≡◌, ◌++◌, ◌∷◌, [], length, Some, IsTrue, true, false, is_err, IsErr, OnOk, OnErr};
 ghost use Rattle.std.specs.List.{concat};
@@ -11,15 +11,14 @@ use norm_base::{Failed, Sink};
 use std::alloc::{AllocError, Global};
 use std::marker::Model;
 
-/// Octets in memory, where the calls with the listed numbers fail and leave all as it was. So does a
-/// call that finds no memory.
+/// Octets in memory. A call fails, and leaves all as it was, if its number is listed or if memory runs out.
 // The ends never fall, and the last one is the end of the octets, so that the pieces in their order are all octets.
 #[derive(Debug, Drop)]
 pub struct MemSink {
     octets: Vec<u8>,
-    /// How many octets stood there at the start.
+    /// How many octets there were at the start.
     before: usize,
-    /// Where each piece ends.
+    /// The offset at which each piece ends.
     stops: Vec<usize>,
     calls: CallCount,
 }
@@ -36,7 +35,7 @@ impl Model for MemSink {
 }
 
 impl MemSink {
-    /// A sink that has these octets already, as one piece, whose calls with these numbers, from 1, fail.
+    /// Returns a sink that has these octets already, as one piece. Its calls with these numbers, from 1, fail.
     pub fn of(bytes: Vec<u8>, failing: Vec<u64>) -> MemSink
         ensures pieces { result.pieces ≡ front_piece (length bytes.items) bytes.items }
         ensures calls { result.calls ≡ record { failing = failing.items; made = 0; faults = 0 } }
@@ -50,14 +49,13 @@ impl MemSink {
         }
     }
 
-    /// The octets that were written.
+    /// Returns the octets of all pieces.
     pub fn bytes(&self) -> &[u8]
         ensures { result.now ≡ concat self.now.pieces }
     {
         self.octets.as_slice()
     }
 
-    /// Adds a piece.
     fn add(&mut self, bytes: &[u8]) -> Result<(), AllocError>
         ensures ok { OnOk result (self.new ≡ record { pieces = self.old.pieces ++ bytes.now ∷ []; calls = self.old.calls }) }
         ensures err { OnErr result (self.new ≡ self.old) }

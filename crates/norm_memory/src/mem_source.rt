@@ -1,4 +1,4 @@
-//! A source in memory.
+//! A source in memory: [`MemSource`]. Tests read from it.
 
 ghost use Rattle.std.specs.Prelude.{◌≡◌, ◌+◌, ◌≤◌, ◌<◌, ◌^◌, [], Some, ◌++◌, drop, take, length, min, true, false, is_err, IfOk, OnOk, OnErr};
 ghost use Rattle.norm_memory.specs.Calls.{next_fails, after_call};
@@ -10,7 +10,7 @@ use crate::calls::CallCount;
 use norm_base::{Failed, Source};
 use std::marker::Model;
 
-/// Octets in memory, of which the calls with the listed numbers fail and leave all as it was.
+/// Octets in memory. A call fails, and leaves all as it was, if its number is listed.
 #[derive(Debug, Drop)]
 pub struct MemSource {
     octets: Vec<u8>,
@@ -30,7 +30,7 @@ impl Model for MemSource {
 }
 
 impl MemSource {
-    /// A source of these octets, whose calls with these numbers, from 1, fail.
+    /// Returns a source of these octets. Its calls with these numbers, from 1, fail.
     pub fn of(bytes: Vec<u8>, failing: Vec<u64>) -> MemSource
         ensures left { result.left ≡ bytes.items }
         ensures given { result.given ≡ 0 }
@@ -43,7 +43,7 @@ impl MemSource {
         }
     }
 
-    /// How many reads were asked for, failed ones too.
+    /// Returns how many reads were asked for, failed ones too.
     pub fn reads(&self) -> u64
         ensures { result ≡ self.now.calls.made }
     {
@@ -51,7 +51,7 @@ impl MemSource {
     }
 }
 
-/// Copies the octets into the front of the buffer.
+/// Copies the octets to the beginning of the buffer.
 pub(crate) fn copy_front(buf: &mut [u8], octets: &[u8])
     requires { length octets.now ≤ length buf.old }
     ensures { buf.new ≡ octets.now ++ drop (length octets.now) buf.old }

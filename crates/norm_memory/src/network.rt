@@ -1,4 +1,4 @@
-//! What the networks in memory keep: the offers, the answers, and the copies that wait.
+//! What the networks in memory keep: the offers, the answers, and the copies that wait ([`MemNetwork`]).
 
 ghost use Rattle.std.specs.Prelude.{◌≡◌, ◌≢◌, ◌≤◌, ◌+◌, ◌<◌, ◌^◌, ◌++◌, length, List, ℕ, drop, option_map, replicate, IfSome, IfNone, IfOk, OnOk, OnErr, []};
 ghost use Rattle.norm_memory.specs.Fates.{AreForOthers, copies_of};
@@ -15,7 +15,7 @@ use norm_base::{Datagram, Local, NodeId, Profile};
 use std::alloc::{AllocError, Global};
 use std::marker::Model;
 
-/// The members of a session in their order: the sender, and then the receivers.
+/// Returns the members of a session in their order: the sender, and then the receivers.
 fn session_members(alloc: Global, profile: &Profile) -> Result<Vec<NodeId>, AllocError>
     ensures { IfOk result (λ members. members.items ≡ members_of profile.now) }
 {
@@ -28,7 +28,7 @@ fn session_members(alloc: Global, profile: &Profile) -> Result<Vec<NodeId>, Allo
     Ok(members)
 }
 
-/// Adds a copy so many times.
+/// Adds a copy this many times.
 fn push_copies(
     copies: &mut Vec<WaitingCopy>,
     copy: &WaitingCopy,
@@ -42,7 +42,7 @@ fn push_copies(
     Ok(())
 }
 
-/// The copies of the offer at this place.
+/// Returns the copies of the offer at this index. `plan` says what becomes of it.
 fn planned_copies(
     alloc: Global,
     place: usize,
@@ -63,8 +63,8 @@ fn planned_copies(
     Ok(copies)
 }
 
-/// The members of a session, their datagrams, the answers that were given, each as its member and the
-/// place of its offer, and the copies that wait.
+/// The members of a session, their datagrams, the answers that were given, each as its member and the index of its offer, and the copies that wait. A
+/// network that has one decides what becomes of an offer, and then calls [`offer`](MemNetwork::offer).
 // An answer is a member and the place of its offer, so the octets of all offers stand once.
 #[derive(Debug, Drop)]
 pub(crate) struct MemNetwork {
@@ -94,7 +94,7 @@ impl Model for MemNetwork {
 }
 
 impl MemNetwork {
-    /// No start, and no member.
+    /// Returns a network without a start, and without a member.
     pub(crate) fn new(alloc: Global) -> MemNetwork
         ensures { result ≡ unstarted }
     {
@@ -108,19 +108,18 @@ impl MemNetwork {
         }
     }
 
-    /// The members of the session in their order.
+    /// Returns the members of the session in their order.
     pub(crate) fn members(&self) -> &[NodeId]
         ensures { result.now ≡ self.now.members }
     {
         self.members.as_slice()
     }
 
-    /// The allocator.
     pub(crate) fn alloc(&self) -> Global {
         self.alloc
     }
 
-    /// Begins a session of these members.
+    /// Starts a session of these members.
     pub(crate) fn start(&mut self, profile: &Profile, local: Local) -> Result<(), AllocError>
         ensures ok { OnOk result (self.new ≡ started self.old profile.now local) }
         ensures err { OnErr result (self.new ≡ self.old) }
@@ -135,7 +134,7 @@ impl MemNetwork {
         Ok(())
     }
 
-    /// Keeps a member's datagram, of which this becomes.
+    /// Keeps a member's datagram. `plan` says what becomes of it on its way to each other member.
     pub(crate) fn offer(
         &mut self,
         from: NodeId,
@@ -155,7 +154,7 @@ impl MemNetwork {
         Ok(())
     }
 
-    /// The copy that is taken next, if it is ready.
+    /// Returns the copy that is taken next, if it is ready.
     fn ready_copy(&self) -> Option<WaitingCopy>
         ensures { result ≡ ready_copy (length self.now.offered) self.now.waiting }
     {
@@ -166,7 +165,7 @@ impl MemNetwork {
         None
     }
 
-    /// Gives the next copy, if it is ready.
+    /// Takes the next copy, if it is ready, and returns the member that it is for.
     pub(crate) fn take(&mut self, into: &mut Datagram) -> Result<Option<NodeId>, AllocError>
         ensures answer { IfOk result (λ node. answer_of node into.new ≡ next_answer self.old) }
         ensures none { IfOk result (λ node. IfNone node (into.new ≡ [])) }
@@ -186,7 +185,7 @@ impl MemNetwork {
         Ok(Some(copy.to))
     }
 
-    /// The datagram offered at this place since the last start, and who offered it.
+    /// Returns the datagram at this index, from 0, of those offered since the last start, and who offered it.
     pub(crate) fn offered(&self, place: usize) -> Option<(NodeId, &[u8])>
         ensures { option_map (λ x. (x.0, x.1.now)) result ≡ first_of (drop place self.now.offered) }
     {

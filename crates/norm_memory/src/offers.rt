@@ -1,4 +1,4 @@
-//! The datagrams that were offered, in one row of octets.
+//! The datagrams that were offered: [`Offers`]. The networks in memory keep them.
 
 ghost use Rattle.std.specs.Prelude.{◌≡◌, ◌++◌, ◌∷◌, ◌<◌, ◌≤◌, ◌^◌, [], length, OnOk, OnErr};
 ghost use Rattle.norm_memory.specs.Offers.{offer_at};
@@ -7,7 +7,7 @@ use norm_base::NodeId;
 use std::alloc::{AllocError, Global};
 use std::marker::Model;
 
-/// Who offered a datagram, and where its octets stand.
+/// Who offered a datagram, and the offsets of its octets.
 #[derive(Clone, Copy, Debug)]
 struct Offer {
     from: NodeId,
@@ -15,7 +15,7 @@ struct Offer {
     stop: usize,
 }
 
-/// Datagrams of at most 1,500 octets with the members that offered them. The octets stand in one row.
+/// Datagrams of at most 1,500 octets, with the members that offered them. The octets of all are in one vector.
 // One vector for all octets and none for each datagram, so that an offer takes memory only as the vectors grow.
 #[derive(Debug, Drop)]
 pub(crate) struct Offers {
@@ -36,7 +36,7 @@ impl Model for Offers {
 }
 
 impl Offers {
-    /// None.
+    /// Returns no datagrams.
     pub(crate) fn new(alloc: Global) -> Offers
         ensures { result ≡ [] }
     {
@@ -46,7 +46,7 @@ impl Offers {
         }
     }
 
-    /// How many there are.
+    /// Returns how many there are.
     pub(crate) fn len(&self) -> usize
         ensures len { result ≡ length self.now }
         ensures limit { result < 2 ^ 63 }
@@ -54,7 +54,7 @@ impl Offers {
         self.offers.len()
     }
 
-    /// Who offered the datagram at this place.
+    /// Returns who offered the datagram at this index.
     pub(crate) fn from(&self, place: usize) -> NodeId
         requires { place < length self.now }
         ensures { result ≡ (offer_at self.now place).0 }
@@ -62,7 +62,7 @@ impl Offers {
         self.offers[place].from
     }
 
-    /// The datagram at this place.
+    /// Returns the datagram at this index.
     pub(crate) fn bytes(&self, place: usize) -> &[u8]
         requires { place < length self.now }
         ensures octets { result.now ≡ (offer_at self.now place).1 }
@@ -72,7 +72,7 @@ impl Offers {
         &self.octets[offer.start..offer.stop]
     }
 
-    /// Adds a datagram.
+    /// Adds a datagram, after all others.
     pub(crate) fn push(&mut self, from: NodeId, bytes: &[u8]) -> Result<(), AllocError>
         requires { length bytes.now ≤ 1500 }
         ensures ok { OnOk result (self.new ≡ self.old ++ (from, bytes.now) ∷ []) }
@@ -87,7 +87,7 @@ impl Offers {
         Ok(())
     }
 
-    /// Takes all out.
+    /// Removes all.
     pub(crate) fn clear(&mut self)
         ensures { self.new ≡ [] }
     {

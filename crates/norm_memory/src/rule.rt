@@ -1,4 +1,4 @@
-//! The rules by which a network in memory loses, repeats and delays datagrams.
+//! The rules by which a network in memory loses, repeats and delays datagrams: [`Rule`].
 
 ghost use Rattle.std.specs.Prelude.{◌≡◌, IfOk};
 ghost use Rattle.norm_memory.specs.Rules.{fate_by_rules};
@@ -8,10 +8,10 @@ use crate::fate::Fate;
 use norm_base::NodeId;
 use std::alloc::{AllocError, Global};
 
-/// What becomes of some datagrams. Of several rules that name an offer and a member the first counts.
+/// What becomes of some datagrams. If several rules name an offer and a member, the first one counts.
 #[derive(Clone, Copy, Debug, PartialEq, Eq)]
 pub enum Rule {
-    /// The offer of this number, from 1, comes so many times to this member, after so many further offers.
+    /// The offer of this number, from 1, comes `copies` times to this member. It is ready after `after` further offers.
     Copies {
         offer: u64,
         to: NodeId,
@@ -25,7 +25,7 @@ pub enum Rule {
     },
 }
 
-/// What becomes of the offer of this number on its way to a member.
+/// Returns what becomes of the offer of this number on its way to a member. If no rule names it, it comes once, at once.
 fn fate_by_rules(rules: &[Rule], number: u64, from: NodeId, to: NodeId) -> Fate
     ensures { result ≡ fate_by_rules rules.now number from to }
 {
@@ -57,7 +57,7 @@ fn fate_by_rules(rules: &[Rule], number: u64, from: NodeId, to: NodeId) -> Fate
     }
 }
 
-/// What becomes of the offer of this number: a fate for each other member.
+/// Returns what becomes of the offer of this number: a fate for each other member.
 pub(crate) fn plan_by_rules(
     alloc: Global,
     rules: &[Rule],

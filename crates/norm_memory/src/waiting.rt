@@ -1,4 +1,4 @@
-//! The copies that wait in a network in memory.
+//! The copies that wait in a network in memory: [`Waiting`].
 
 ghost use Rattle.std.specs.Prelude.{◌≡◌, ◌+◌, ◌≤◌, [], drop, length, OnOk, OnErr, IfSome, IfNone};
 ghost use Rattle.norm_memory.specs.Waiting.{put_copies, first_of};
@@ -8,7 +8,7 @@ use std::alloc::{AllocError, Global};
 use std::collections::BinaryHeap;
 use std::marker::Model;
 
-/// Copies, seen in the order in which they are taken, and for how many more there is room.
+/// Copies in the order in which they are taken, and for how many more there is room. Call [`reserve`](Waiting::reserve) before [`put`](Waiting::put).
 #[derive(Debug, Drop)]
 pub(crate) struct Waiting {
     heap: BinaryHeap<WaitingCopy>,
@@ -30,7 +30,7 @@ impl Model for Waiting {
 }
 
 impl Waiting {
-    /// No copy waits.
+    /// Returns no copies.
     pub(crate) fn new(alloc: Global) -> Waiting
         ensures { result.copies ≡ [] }
     {
@@ -39,14 +39,14 @@ impl Waiting {
         }
     }
 
-    /// The copy that is taken next.
+    /// Returns the copy that is taken next.
     pub(crate) fn first(&self) -> Option<WaitingCopy>
         ensures { result ≡ first_of self.now.copies }
     {
         self.heap.peek().copied()
     }
 
-    /// Takes that copy out.
+    /// Takes the next copy out.
     pub(crate) fn take_first(&mut self) -> Option<WaitingCopy>
         ensures copy { result ≡ first_of self.old.copies }
         ensures rest { self.new.copies ≡ drop 1 self.old.copies }
@@ -54,7 +54,7 @@ impl Waiting {
         self.heap.pop()
     }
 
-    /// Makes room for so many copies more.
+    /// Makes room for this many more copies.
     pub(crate) fn reserve(&mut self, additional: usize) -> Result<(), AllocError>
         ensures same { self.new.copies ≡ self.old.copies }
         ensures room { OnOk result (additional ≤ self.new.room) }
@@ -62,7 +62,7 @@ impl Waiting {
         self.heap.reserve(additional)
     }
 
-    /// Puts copies in their places among the others.
+    /// Puts copies among the others, in the order in which they are taken.
     pub(crate) fn put(&mut self, copies: Vec<WaitingCopy>)
         requires { length copies.items ≤ self.old.room }
         ensures { self.new.copies ≡ put_copies copies.items self.old.copies }
@@ -72,7 +72,7 @@ impl Waiting {
         self.heap.append(&mut fresh).unwrap();
     }
 
-    /// Takes all copies out.
+    /// Removes all copies.
     pub(crate) fn clear(&mut self)
         ensures { self.new.copies ≡ [] }
     {

@@ -1,4 +1,4 @@
-//! Where the members of a session are.
+//! The addresses of a session's members at 127.0.0.1, and which member an address belongs to.
 
 ghost use Rattle.std.specs.Prelude.{◌≡◌, ◌≤◌, ◌+◌, ◌<◌, true, if◌then◌else◌, IfSome, IfNone, Some, None};
 ghost use Rattle.std.proofs.Props.{props};
@@ -8,7 +8,7 @@ ghost use Rattle.norm_udp.specs.Addresses.{port_of, member_with, member_from, Is
 use norm_base::{NodeId, Profile};
 use std::net::{Ipv4Addr, SocketAddr, SocketAddrV4};
 
-/// A member of a profile, and the address that says which member it is: the one that a datagram came from, or the member's own.
+/// A member with an address that shows which member it is: the one that a datagram came from, or the member's own.
 // What is received goes up as this value, so that nothing on its way can tell it as another member's.
 #[derive(Clone, Copy, Debug)]
 pub(crate) struct Located {
@@ -18,7 +18,7 @@ pub(crate) struct Located {
     ghost known: { member_from profile address ≡ Some node } by { Prim.hlevel props },
 }
 
-/// The address of this machine with a port.
+/// Returns the address of this machine with this port.
 pub(crate) fn address_at(port: u16) -> SocketAddr
     ensures { IsAt result port }
 {
@@ -26,14 +26,13 @@ pub(crate) fn address_at(port: u16) -> SocketAddr
     SocketAddr::V4(SocketAddrV4::new(Ipv4Addr::new(127, 0, 0, 1), port))
 }
 
-/// Whether a node is one of the profile: its sender, or a receiver.
+/// Whether a node is a member of the profile: its sender or a receiver.
 pub(crate) fn is_node(profile: &Profile, node: NodeId) -> bool
     ensures { result ≡ is_node profile.now node }
 {
     node.number() == profile.sender || profile.is_receiver(node)
 }
 
-/// The port of a member.
 fn port_of(profile: &Profile, node: NodeId) -> u16
     requires { is_node profile.now node ≡ true }
     ensures { result ≡ port_of profile.now node }
@@ -41,7 +40,7 @@ fn port_of(profile: &Profile, node: NodeId) -> u16
     profile.port + 1 + (node.number() - profile.sender) as u16
 }
 
-/// The address of a member.
+/// Returns the address of a member.
 pub(crate) fn address_of(profile: &Profile, node: NodeId) -> SocketAddr
     requires { is_node profile.now node ≡ true }
     ensures { IsAt result (port_of profile.now node) }
@@ -49,7 +48,7 @@ pub(crate) fn address_of(profile: &Profile, node: NodeId) -> SocketAddr
     address_at(port_of(profile, node))
 }
 
-/// A member with its address.
+/// Returns a member with its address.
 #[tactic(auto, using(crate::proofs::AddressLemmas::known))]
 pub(crate) fn with_address(profile: &Profile, node: NodeId) -> Located
     requires { is_node profile.now node ≡ true }
@@ -64,7 +63,7 @@ pub(crate) fn with_address(profile: &Profile, node: NodeId) -> Located
     }
 }
 
-/// The member at this place among them: the sender at 0, and then the receivers.
+/// Returns the member with this index: the sender at 0, and then the receivers.
 pub(crate) fn member_at(profile: &Profile, place: u8) -> NodeId
     requires { place ≤ profile.now.receivers }
     ensures id { result ≡ profile.now.sender + place }
@@ -74,7 +73,7 @@ pub(crate) fn member_at(profile: &Profile, place: u8) -> NodeId
     NodeId::of(profile.sender + u32::from(place)).unwrap()
 }
 
-/// The member that has a port. `None` where no member has it.
+/// Returns the member that has this port, if one has it.
 fn member_with(profile: &Profile, port: u16) -> Option<NodeId>
     ensures { result ≡ member_with profile.now port }
 {
@@ -85,7 +84,7 @@ fn member_with(profile: &Profile, port: u16) -> Option<NodeId>
     NodeId::of(profile.sender + u32::from(port - first))
 }
 
-/// The member at an address. `None` if it is no member's.
+/// Returns the member at this address, if it is a member's.
 fn member_from(profile: &Profile, address: &SocketAddr) -> Option<NodeId>
     ensures { result ≡ member_from profile.now address.now }
 {
@@ -95,7 +94,7 @@ fn member_from(profile: &Profile, address: &SocketAddr) -> Option<NodeId>
     }
 }
 
-/// The member that a datagram from this address is of. `None` if the address is no member's.
+/// Returns the member that sends from this address. `None` if it is no member's.
 pub(crate) fn heard_from(profile: &Profile, address: SocketAddr) -> Option<Located>
     ensures some { IfSome result (λ from. (from.profile ≡ profile.now) × (from.address ≡ address)) }
     ensures none { IfNone result (member_from profile.now address ≡ None) }
@@ -110,7 +109,7 @@ pub(crate) fn heard_from(profile: &Profile, address: SocketAddr) -> Option<Locat
     }
 }
 
-/// Whether a datagram that a member offered goes to this one.
+/// Whether `to` gets a copy of what `from` offers: both are members, and not the same one.
 pub(crate) fn gets_copy(profile: &Profile, from: NodeId, to: NodeId) -> bool
     ensures { result ≡ gets_copy profile.now from to }
 {

@@ -4,36 +4,36 @@ use norm_base::FabricKind;
 use std::net::SocketAddr;
 use std::{fmt, io};
 
-/// What a call was done to as it failed, and why it failed, mostly in the system's words. It is for people: no clause speaks of it.
+/// What a failed call was about and why it failed, mostly in the system's words. It is for people: no clause speaks of it.
 #[derive(Debug, Drop)]
 pub enum SocketCause {
-    /// A socket was made and bound to this address.
+    /// A socket could not be made, or could not be bound to this address.
     Bind {
         address: SocketAddr,
         error: io::Error,
     },
-    /// A socket was connected to this address.
+    /// A socket could not be connected to this address.
     Connect {
         address: SocketAddr,
         error: io::Error,
     },
-    /// A datagram was sent to this address.
+    /// A datagram could not be sent to this address.
     Send {
         address: SocketAddr,
         error: io::Error,
     },
-    /// A datagram was to be received at this address.
+    /// A datagram could not be received at this address.
     Receive {
         address: SocketAddr,
         error: io::Error,
     },
-    /// A node of its own, or the hub, was to begin over a network within one process, of this kind.
+    /// A node of its own, or the hub, cannot start over a network within one process, of this kind.
     Within {
         fabric: FabricKind,
     },
 }
 
-/// The word that a profile has for a network.
+/// Returns the word that a profile has for a network.
 fn word_of(fabric: FabricKind) -> &'static str {
     match fabric {
         FabricKind::Direct => "direct",

@@ -1,4 +1,4 @@
-//! The network of sockets.
+//! The network of sockets: [`UdpFabric`].
 
 ghost use Rattle.std.specs.Prelude.{◌≡◌, ◌≤◌, [], true, false, length, None, IfOk, IfErr, IfSome, IfNone, OnOk, OnErr};
 ghost use Rattle.norm_base.specs.Faults.{Counts, network_failed};
@@ -26,11 +26,11 @@ use std::sync::Wait;
 use std::thread;
 use std::time::{Clock, Duration};
 
-/// How often a sender looks at most, while its gap lasts.
+/// The most times that a sender looks again in one `take`, while its gap lasts.
 // Our own choice, so that the look ends even if the clock stands still. A millisecond has time for fewer calls of the system.
 const MOST_LOOKS: u32 = 16_384;
 
-/// Microseconds between a node's datagrams: the profile's gap where it is the sender alone, and else 0.
+/// Returns the gap between a node's datagrams in microseconds: the profile's for a sender alone, and 0 for any other.
 fn gap_of(profile: &Profile, local: &Local) -> u64 {
     match local {
         Local::One(node) => {
@@ -44,7 +44,7 @@ fn gap_of(profile: &Profile, local: &Local) -> u64 {
     }
 }
 
-/// Takes the next datagram that is not passed over, if one is there.
+/// Receives the next datagram that the sieve lets through. `None` if nothing is there, or after `MOST_PASSED` that it passed over.
 fn look_through(
     open: &mut Open,
     sieve: &mut Sieve,
@@ -69,11 +69,13 @@ fn look_through(
     Ok(None)
 }
 
-/// A network of UDP sockets at 127.0.0.1: the hub at the profile's port, and the members behind it, in their order. With all members in
-/// this process each has its socket, and what one offers goes to each other; a member alone offers to the hub; and the hub offers a member's datagram
-/// to each other member, and its `take` says from whom a datagram came. A peer that is not there and a full buffer lose a datagram;
-/// a socket that cannot be made or bound, and any other error, fail. A receiver alone passes over a sender whose profile is not its own.
-/// `start` comes first. It tells nothing of what it gives and takes.
+/// A network of UDP sockets at 127.0.0.1: the hub at the profile's port, and the members at the next ports, in the order of their ids. In this order:
+/// [`send_by`](UdpFabric::send_by) if threads are to send, `start`, `offer` and `take` at will, and [`drain`](UdpFabric::drain) before the process
+/// ends. To whom datagrams go depends on the members in this process. If all are here, each has its socket, and what one offers goes to each other. A
+/// member alone offers to the hub. The hub offers a member's datagram to each other member, and its `take` returns the member that sent one.
+///
+/// A datagram is lost if nobody is there to receive it or a buffer is full. Any other error fails the call. A receiver alone passes over a sender
+/// whose profile is not its own. Contracts cannot rely on what was sent or received.
 #[derive(Drop)]
 pub struct UdpFabric<R> {
     rt: R,
@@ -88,11 +90,11 @@ pub struct UdpFabric<R> {
 }
 
 impl<R: Net + Wait + Clock + Drop> UdpFabric<R> {
-    /// A network that was not started: nothing is taken, and what is offered goes nowhere.
+    /// Returns a network that was not started: nothing is taken, and what is offered goes nowhere.
     ///
     /// # Errors
     ///
-    /// `Memory` where memory runs out.
+    /// `Memory` if memory runs out.
     pub fn new(alloc: Global, rt: R) -> Result<UdpFabric<R>, Memory>
         ensures faults { IfOk result (λ f. ⟦<UdpFabric<R> as Fabric>⟧.fault_count f ≡ 0) }
         ensures passed { IfOk result (λ f. passed_by f ≡ 0) }
@@ -111,7 +113,7 @@ impl<R: Net + Wait + Clock + Drop> UdpFabric<R> {
         })
     }
 
-    /// Has these threads send what the hub offers, and what a sender alone does. It comes before `start`.
+    /// Has these threads send for a hub, to its receivers, and for a sender alone. Call it before `start`.
     // Not a part of `start`: threads need an `R` that may go to another thread, which a network without threads does not ask for.
     pub fn send_by(&mut self, senders: Senders)
         ensures faults { self.new.faults ≡ self.old.faults }
@@ -121,7 +123,7 @@ impl<R: Net + Wait + Clock + Drop> UdpFabric<R> {
         self.senders = senders;
     }
 
-    /// Closes all sockets. What a thread has to send still goes.
+    /// Closes all sockets. Threads still send what was offered before.
     pub fn close(&mut self)
         ensures faults { self.new.faults ≡ self.old.faults }
         ensures passed { passed_by self.new ≡ 0 }
@@ -133,20 +135,20 @@ impl<R: Net + Wait + Clock + Drop> UdpFabric<R> {
         self.sieve = Sieve::open();
     }
 
-    /// Waits until threads have sent all that was offered, for some seconds at most: before the process ends, and they with it. Answers what one of
-    /// them failed at, if no call told it; it is no failed call, and counts as none.
+    /// Waits until threads have sent all that was offered, for some seconds at most. Call it before the process ends, because its threads end with
+    /// it. Returns why a thread could not send, if no call reported it; that does not count as a failed call.
     pub fn drain(&self) -> Option<SocketCause>
         ensures { tells_sending result ≡ true }
     {
         self.senders.drain(&self.rt)
     }
 
-    /// What the last failed call was about. `None` before one.
+    /// Returns what the last failed call was about. `None` if none failed yet.
     pub fn cause(&self) -> Option<&SocketCause> {
         self.cause.as_ref()
     }
 
-    /// Keeps what a failed call was about, and counts it.
+    /// Counts a failed call, and keeps what it was about.
     fn keep(&mut self, cause: SocketCause)
         ensures counted { Counts self.old.faults self.new.faults true }
         ensures sieve { self.new.sieve ≡ self.old.sieve }
@@ -155,7 +157,7 @@ impl<R: Net + Wait + Clock + Drop> UdpFabric<R> {
         self.cause = Some(cause);
     }
 
-    /// The clock's microseconds, or 0 where it fails.
+    /// Returns the clock's microseconds, or 0 if it fails.
     fn now(&self) -> u64 {
         match self.rt.monotonic() {
             Ok(time) => u64::try_from(time.as_micros()).unwrap_or(0),
@@ -164,7 +166,7 @@ impl<R: Net + Wait + Clock + Drop> UdpFabric<R> {
         }
     }
 
-    /// Notes that a datagram is offered; a sender notes the moment too, from which its gap goes.
+    /// Notes that a datagram is offered. If the node has a gap, it reads the clock and notes when.
     fn note_offer(&mut self)
         ensures { self.new.faults ≡ self.old.faults }
     {
@@ -176,7 +178,7 @@ impl<R: Net + Wait + Clock + Drop> UdpFabric<R> {
         }
     }
 
-    /// Takes a datagram that is there.
+    /// Receives a datagram if one is there.
     fn look(&mut self, into: &mut Datagram) -> Result<Option<Located>, SocketCause>
         requires { into.old ≡ [] }
         ensures none { IfOk result (λ node. IfNone node (into.new ≡ [])) }
@@ -187,7 +189,7 @@ impl<R: Net + Wait + Clock + Drop> UdpFabric<R> {
         look_through(&mut self.open, &mut self.sieve, &mut self.buffer, into)
     }
 
-    /// Looks until a moment. Where that is over already the clock is read once, and nothing else is done.
+    /// Looks until this moment, in microseconds of the clock. If it is over already, reads the clock once and does not look.
     fn look_until(
         &mut self,
         until: u64,
@@ -213,7 +215,7 @@ impl<R: Net + Wait + Clock + Drop> UdpFabric<R> {
         Ok(None)
     }
 
-    /// Sleeps, for as long as goes by when it was busy last, and looks once more.
+    /// Sleeps, and looks once more. The sleep is short if the node was busy lately; `last` is when that was.
     fn look_after_sleep(
         &mut self,
         last: Option<u64>,
@@ -230,8 +232,8 @@ impl<R: Net + Wait + Clock + Drop> UdpFabric<R> {
         self.look(into)
     }
 
-    /// Takes a datagram where none is there at once: it pauses, as the last calls ask for, and looks again. Where it still finds nothing
-    /// that is noted; of a node that slept there is nothing to note. The clock is read once, and while a sender looks again once a look.
+    /// Looks again after a look that found nothing, as [`Pace::pause`] says: not at all, until a sender's gap is over, or after a sleep. If it still
+    /// finds nothing, it notes that; after a sleep there is nothing to note. Reads the clock once, and for a sender once more after each look.
     fn look_later(&mut self, into: &mut Datagram) -> Result<Option<Located>, SocketCause>
         requires { into.old ≡ [] }
         ensures none { IfOk result (λ node. IfNone node (into.new ≡ [])) }
@@ -250,7 +252,7 @@ impl<R: Net + Wait + Clock + Drop> UdpFabric<R> {
         }
     }
 
-    /// Sends a member's datagram, or has a thread send it, unless one failed at an earlier one.
+    /// Sends a member's datagram, or has a thread send it. Fails, and sends nothing, if a thread failed to send an earlier one.
     fn send(&self, from: NodeId, bytes: &[u8]) -> Result<(), SocketCause>
         requires { length bytes.now ≤ datagram_room }
         ensures { IfErr result (λ cause. is_sending cause ≡ true) }
@@ -260,7 +262,7 @@ impl<R: Net + Wait + Clock + Drop> UdpFabric<R> {
         self.open.send(&self.rt, &self.senders, from, bytes)
     }
 
-    /// Takes the next datagram, at once or after a pause, unless a thread failed at sending one.
+    /// Takes the next datagram, at once or after a pause. Fails if a thread failed to send one.
     fn find(&mut self, into: &mut Datagram) -> Result<Option<Located>, SocketCause>
         requires { into.old ≡ [] }
         ensures none { IfOk result (λ node. IfNone node (into.new ≡ [])) }

@@ -1,4 +1,4 @@
-//! What a sender's datagram says of where it comes from.
+//! What a sender's datagram says of its sender: [`heard_in`]. `sieve` and `norm_watch` call it.
 
 ghost use Rattle.std.specs.Prelude.{◌≡◌, Some};
 ghost use Rattle.norm_cmdmsg.specs.View.{command_of};
@@ -19,13 +19,13 @@ pub struct Heard {
     pub instance: InstanceId,
     /// The transport id of the object that INFO, DATA, a flush or a squelch names.
     pub object: Option<u16>,
-    /// The transmission information that INFO or DATA has.
+    /// The transmission information of INFO or DATA, if it has any.
     pub fti: Option<Fti>,
-    /// The flags of INFO or DATA, and 0 of a command.
+    /// The flags of INFO or DATA. 0 for a command.
     pub flags: u8,
 }
 
-/// The transmission information among whole extensions, if it is there.
+/// Returns the transmission information among these extensions, if there is any.
 fn fti_among(exts: &[u8]) -> Option<Fti>
     requires { IsChecked exts.now }
     ensures { result ≡ fti_of (extensions_of exts.now) }
@@ -36,7 +36,7 @@ fn fti_among(exts: &[u8]) -> Option<Fti>
     }
 }
 
-/// What INFO or DATA says.
+/// Returns what INFO or DATA says.
 fn object_heard(head: &ObjHead, exts: &[u8]) -> Heard
     requires { IsChecked exts.now }
     ensures { result ≡ object_heard head.now (extensions_of exts.now) }
@@ -50,7 +50,7 @@ fn object_heard(head: &ObjHead, exts: &[u8]) -> Heard
     }
 }
 
-/// What a command says, and the object that it names, if it does.
+/// Returns what a command says that names this object, or none.
 fn command_heard(head: &CmdHead, object: Option<u16>) -> Heard
     ensures { result ≡ command_heard head.now object }
 {
@@ -63,7 +63,7 @@ fn command_heard(head: &CmdHead, object: Option<u16>) -> Heard
     }
 }
 
-/// What a command says, whichever it is.
+/// Returns what a command of any kind says.
 fn any_command_heard(msg: &CommandMsg<'_>) -> Heard
     ensures { message_heard (command_of msg.now) ≡ Some result }
 {
@@ -77,7 +77,7 @@ fn any_command_heard(msg: &CommandMsg<'_>) -> Heard
     }
 }
 
-/// What a message says of its sender. `None` of feedback and of a report.
+/// Returns what a message says of its sender. `None` for feedback and reports.
 fn message_heard(msg: &Message<'_>) -> Option<Heard>
     requires { IsWhole msg.now }
     ensures { result ≡ message_heard (message_of msg.now) }
@@ -92,7 +92,7 @@ fn message_heard(msg: &Message<'_>) -> Option<Heard>
     }
 }
 
-/// What a datagram says of its sender. `None` if it is no INFO, DATA or command, or spells no message.
+/// Returns what a datagram says of its sender. `None` if it is no INFO, DATA or command, or no message at all.
 pub fn heard_in(bytes: &[u8]) -> Option<Heard>
     ensures { result ≡ heard_in bytes.now }
 {

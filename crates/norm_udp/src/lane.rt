@@ -1,4 +1,5 @@
-//! A lane: datagrams on their way from a node to a thread that sends them. What lies in it has memory of its own from the start.
+//! A lane: datagrams on their way from a node to the thread that sends them. All memory of its slots is there from the start. The node calls it
+//! through `Senders`; the thread is `serve` in `senders`.
 
 ghost use Rattle.std.specs.Prelude.{◌≡◌, ◌≤◌, true, length};
 ghost use Rattle.norm_base.specs.Sizes.{datagram_room};
@@ -15,29 +16,28 @@ use std::thread;
 use std::thread::Parker;
 use std::time::{Clock, Duration};
 
-/// How many datagrams lie in a lane at most.
+/// The slots of a lane, and so the most datagrams that lie in it.
 // Our own choice: half a second of datagrams at the default gap of one millisecond, and under 1 MB for each thread.
 const PLACES: usize = 512;
 
-/// How many failures of a thread are kept until a call tells them: the first says what is wrong.
+/// The most failures of a thread that are kept until a call reports them. The first says what is wrong.
 // The node ends with the first failure that is reported, so nobody would hear of a second one.
 const MOST_FAILURES: usize = 1;
 
-/// Microseconds of a sleep of a thread that finds nothing to send, and of a node that finds no place.
+/// Microseconds of one sleep: of a thread that finds nothing to send, and of a node that waits for the thread.
 // Our own choice: long enough that a waiting thread costs little, and short beside the default gap of one millisecond.
 const SLEEP: u64 = 50;
 
-/// How often a thread sleeps before it rests until it is woken, and a node before it gives a datagram up.
+/// The most sleeps of a thread before it rests until it is woken, and of a node before it gives a datagram up.
 // Our own choice, ten milliseconds. A thread rests after it because nothing was sent for long. A node gives up after it because it must not stand
 // still for a thread that hangs.
 const MOST_SLEEPS: u32 = 200;
 
-/// How often a node that ends sleeps at most while what it posted is sent.
+/// The most sleeps of a node that ends, while what it posted is sent.
 // Our own choice, some five seconds: enough for a full lane if each datagram takes some milliseconds. A process that ends must not wait for ever.
 const MOST_DRAINING: u32 = 100_000;
 
-/// What lies in a lane: where the thread sends from here on, or a member's datagram, and on the way back what its sending failed at. It lies in
-/// a box, so that a queue moves a pointer and not all of it.
+/// What a slot of a lane holds: a new way for the thread, or a member's datagram. On its way back it holds why sending failed, if it did.
 #[derive(Drop)]
 pub(crate) struct Posted {
     pub(crate) way: Option<Way>,
@@ -47,21 +47,21 @@ pub(crate) struct Posted {
     ghost sending: { tells_sending failed ≡ true },
 }
 
-/// What a node and a thread that sends for it share. The node takes a place for what it posts, and the thread gives it back.
+/// What a node and the thread that sends for it share. The node takes a free slot, fills it and posts it. The thread does what it says and frees it.
 // All memory is there from the start, in place of a channel that makes room as it goes. A place is in `places`, `posted` or `failures`, or the node
 // or the thread holds it. A lost one would leave less room for good, and `drain` would wait for it in vain.
 #[derive(Drop)]
 pub(crate) struct Lane {
-    /// What the thread has to send, in the order that it was offered.
+    /// What the thread has to do, in the order of posting.
     posted: ArrayQueue<Box<Posted>>,
-    /// Places of which nothing is to be sent any more.
+    /// Free slots.
     places: ArrayQueue<Box<Posted>>,
-    /// A place on its way back of a datagram that the thread failed at, until a call tells that.
+    /// The slot of a datagram that the thread failed to send, until a call reports that.
     failures: ArrayQueue<Box<Posted>>,
-    /// Whether something may stand there: each call asks, so that it is one read.
+    /// Whether `failures` may hold something. Each call asks, so it costs one read.
     has_failed: AtomicBool,
     rest: Parker,
-    /// Whether nothing will be offered any more.
+    /// Whether nothing more will be offered.
     over: AtomicBool,
 }
 
@@ -70,7 +70,11 @@ fn sleep<R: Clock>(rt: &R) {
 }
 
 impl Lane {
-    /// An empty lane.
+    /// Returns an empty lane.
+    ///
+    /// # Errors
+    ///
+    /// `Memory` if memory runs out.
     pub(crate) fn new<R: Wait>(rt: &R, alloc: Global) -> Result<Lane, Memory> {
         let places = ArrayQueue::new(alloc, PLACES)?;
         for _ in 0..PLACES {
@@ -93,7 +97,7 @@ impl Lane {
         })
     }
 
-    /// A place, once there is one. `None` where none became free in some ten milliseconds.
+    /// Takes a free slot. `None` if none becomes free in some ten milliseconds.
     fn place<R: Wait + Clock>(&self, rt: &R) -> Option<Box<Posted>> {
         for _ in 0..MOST_SLEEPS {
             if let Some(place) = self.places.pop(rt) {
@@ -104,13 +108,13 @@ impl Lane {
         None
     }
 
-    /// Puts what was written into a place into the lane.
+    /// Posts a slot after it was filled, and wakes the thread.
     fn put<R: Wait>(&self, rt: &R, place: Box<Posted>) {
         self.posted.force_push(rt, place);
         self.rest.unpark();
     }
 
-    /// Tells the thread where it sends from here on. Where the thread falls behind for long it is not told, which is false.
+    /// Tells the thread its way from here on. `false` if no slot becomes free in some ten milliseconds; the thread is then not told.
     pub(crate) fn tell<R: Wait + Clock>(&self, rt: &R, way: Way) -> bool {
         let Some(mut place) = self.place(rt) else {
             return false;
@@ -120,7 +124,7 @@ impl Lane {
         true
     }
 
-    /// Puts a member's datagram into the lane. If the thread falls behind for long it is lost.
+    /// Posts a member's datagram. It is lost if no slot becomes free in some ten milliseconds.
     pub(crate) fn post<R: Wait + Clock>(&self, rt: &R, from: NodeId, bytes: &[u8])
         requires { length bytes.now ≤ datagram_room }
     {
@@ -134,7 +138,7 @@ impl Lane {
         self.put(rt, place);
     }
 
-    /// Keeps the place of a datagram that the thread failed at, unless one is kept that no call told yet.
+    /// Keeps the slot of a datagram that the thread failed to send. Frees it if there is a failure already that no call reported.
     pub(crate) fn fail<R: Wait>(&self, rt: &R, place: Box<Posted>) {
         if let Err(place) = self.failures.push(rt, place) {
             self.free(rt, place);
@@ -143,7 +147,7 @@ impl Lane {
         self.has_failed.store(true, Ordering::SeqCst);
     }
 
-    /// Takes what is kept of what the thread failed at.
+    /// Takes the failure that is kept, if there is one.
     pub(crate) fn kept<R: Wait>(&self, rt: &R) -> Option<SocketCause>
         ensures { tells_sending result ≡ true }
     {
@@ -155,7 +159,7 @@ impl Lane {
         cause
     }
 
-    /// Takes what the thread failed at, which is then told. A failure of this very moment may be found at the next look alone.
+    /// Takes the failure of the thread, if there is one, for the caller to report. It may find one of this very moment only at its next call.
     pub(crate) fn failure<R: Wait>(&self, rt: &R) -> Option<SocketCause>
         ensures { tells_sending result ≡ true }
     {
@@ -167,12 +171,12 @@ impl Lane {
         self.kept(rt)
     }
 
-    /// What was posted next.
+    /// Takes what was posted next.
     pub(crate) fn next<R: Wait>(&self, rt: &R) -> Option<Box<Posted>> {
         self.posted.pop(rt)
     }
 
-    /// Gives back the place of what was done.
+    /// Frees a slot after what it held is done.
     pub(crate) fn free<R: Wait>(&self, rt: &R, place: Box<Posted>) {
         self.places.force_push(rt, place);
     }
@@ -187,7 +191,8 @@ impl Lane {
         }
     }
 
-    /// Waits for something to send, where so many sleeps have passed since there was any. Says how many have then.
+    /// Waits for something to be posted, after this many sleeps in a row found nothing: sleeps once more, or rests until it is woken. Returns how
+    /// many sleeps there are then; 0 after a rest.
     pub(crate) fn wait<R: Wait + Clock>(&self, rt: &R, sleeps: u32) -> u32 {
         // Sleeps first, since to wake a thread that rests is a call of the system.
         if sleeps < MOST_SLEEPS {
@@ -198,13 +203,13 @@ impl Lane {
         0
     }
 
-    /// Nothing will be offered any more: the thread ends once it has sent what lies here.
+    /// Says that nothing more will be offered. The thread ends after it has sent what lies here.
     pub(crate) fn end(&self) {
         self.over.store(true, Ordering::SeqCst);
         self.rest.unpark();
     }
 
-    /// Whether nothing will be offered any more.
+    /// Whether nothing more will be offered.
     pub(crate) fn is_over(&self) -> bool {
         self.over.load(Ordering::SeqCst)
     }

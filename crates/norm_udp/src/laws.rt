@@ -1,4 +1,4 @@
-//! Laws of what this crate defines. Each is the contract of a function that does nothing.
+//! Laws of this crate's definitions. Each is the contract of a function that does nothing.
 
 ghost use Rattle.norm_udp.specs.Addresses.{AddressLaws};
 ghost use Rattle.norm_udp.specs.Ways.{WayLaws};
@@ -9,7 +9,8 @@ pub fn addresses()
     ensures { AddressLaws }
 {}
 
-/// All ways of a hub's threads together have each receiver once, and the single way of a hub without threads has all.
+/// The ways of a hub's threads together have each receiver once, and the single way of a hub without threads has all. All
+/// members except the one that offers get a copy.
 #[tactic(auto, using(crate::proofs::WayLemmas::way_laws))]
 pub fn ways()
     ensures { WayLaws }

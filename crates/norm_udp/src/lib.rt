@@ -1,7 +1,7 @@
-//! A network of UDP sockets on this machine, each member at a port of its own: [`UdpFabric`]. It stands on where members are (`address`), what
-//! may be lost (`loss`), how it pauses (`pace`), single sockets (`socket`, `member`), and those that are open (`sockets`); what failed says [`SocketCause`].
-//! Threads may send for it ([`Senders`]): each takes what the network puts into its lane (`lane`), and sends it its way (`way`). A receiver's passes over
-//! a sender whose profile is not its own (`sieve`), which is told ([`PassesOver`], [`Misfit`]) by what its datagrams say ([`heard_in`]).
+//! The network of a profile with `fabric udp`: UDP sockets on this machine, one for each member and one for the hub. `norm_host` makes a
+//! [`UdpFabric`], gives it [`Senders`] if threads are to send, and calls it as a `Fabric`. [`SocketCause`] says what a failed call was about.
+//! `norm_watch` reports what a receiver passed over ([`PassesOver`], [`Misfit`]), and reads datagrams with [`heard_in`]. Inside, `sockets` opens,
+//! sends and receives, `pace` decides how to wait, `sieve` what to pass over, and `lane` and `way` are what a sending thread works on.
 #![tactic(auto)]
 
 mod address;

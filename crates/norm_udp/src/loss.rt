@@ -1,4 +1,4 @@
-//! What is a lost datagram, and no fault.
+//! Which errors of a socket mean a lost datagram, and are no fault.
 
 ghost use Rattle.std.specs.Prelude.{◌≡◌};
 ghost use Rattle.std.specs.IoError.{raw_os_error};
@@ -11,7 +11,7 @@ use std::io;
 // Linux's number, which `libc` does not name here. On another system the error has another number, and counts as a fault.
 const NO_BUFFERS: i32 = 105;
 
-/// Whether an error of a socket is a lost datagram: nobody is there, or there is no room for it.
+/// Whether an error of a socket is no fault: a datagram is lost because nobody is there or there is no room, or there is none to receive.
 pub(crate) fn is_loss(error: &io::Error) -> bool
     ensures { result ≡ is_loss (raw_os_error error.now) }
 {

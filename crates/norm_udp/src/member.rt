@@ -1,4 +1,4 @@
-//! A member with a socket of its own, or one that sends to it.
+//! A member with a socket: its own, or one that sends to it. `sockets` opens them.
 
 ghost use Rattle.std.specs.Prelude.{◌≡◌, true, IfOk, IfErr};
 ghost use Rattle.norm_base.specs.Members.{is_node};
@@ -11,14 +11,14 @@ use crate::socket::{bind, connect, send};
 use norm_base::{NodeId, Profile};
 use std::net::{Net, UdpSocket};
 
-/// A member with its address, and a socket that is at the address or sends to it.
+/// A member with its address, and a socket that is bound to this address or connected to it.
 #[derive(Debug, Drop)]
 pub(crate) struct Member {
     pub(crate) located: Located,
     pub(crate) socket: UdpSocket,
 }
 
-/// Opens a member's own socket.
+/// Opens a member's own socket, at its address.
 pub(crate) fn open_own<R: Net>(
     rt: &R,
     profile: &Profile,
@@ -46,7 +46,7 @@ pub(crate) fn open_way<R: Net>(
     Ok(Member { located, socket })
 }
 
-/// Sends a member's datagram to another that gets a copy of it, through the socket that is connected to it. `from` is there for the clause alone.
+/// Sends a member's datagram to another that gets a copy, through the socket that is connected to it. `from` is there for the clause alone.
 pub(crate) fn send_copy_through(
     profile: &Profile,
     from: NodeId,

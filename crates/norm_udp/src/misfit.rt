@@ -1,4 +1,4 @@
-//! A sender whose profile is not this receiver's.
+//! A sender whose profile is not this receiver's. `sieve` finds it, and `norm_watch` reports it.
 
 ghost use Rattle.std.specs.Prelude.{◌≡◌};
 ghost use Rattle.norm_udp.specs.Misfits.{says_stream, has_sizes, fits, difference_of, misfit_of};
@@ -10,7 +10,7 @@ use norm_ext::flags::STREAM;
 use norm_ext::items::has_flag;
 use std::fmt;
 
-/// Octets of a symbol, source symbols of a block, and the most encoding symbols of one.
+/// Octets of a symbol (`e`), source symbols of a block (`b`), and the most encoding symbols of a block (`max_n`).
 #[derive(Clone, Copy, Debug)]
 pub struct Sizes {
     pub e: u16,
@@ -18,12 +18,12 @@ pub struct Sizes {
     pub max_n: u8,
 }
 
-/// In what a sender's transmission information differs from a receiver's profile.
+/// How a sender's transmission information differs from a receiver's profile.
 #[derive(Clone, Copy, Debug)]
 pub enum Difference {
     /// Symbols or blocks have other sizes.
     Sizes { theirs: Sizes, own: Sizes },
-    /// An object has more octets than the profile lets one have.
+    /// An object has more octets than the profile allows.
     Length { octets: u64, most: u32 },
 }
 
@@ -64,7 +64,7 @@ impl fmt::Display for Misfit {
     }
 }
 
-/// Whether flags of INFO or DATA are a stream's.
+/// Whether these flags of INFO or DATA are those of a stream.
 fn is_stream(flags: u8) -> bool
     ensures { result ≡ says_stream flags }
 {
@@ -78,14 +78,14 @@ fn has_sizes(profile: &Profile, fti: &Fti) -> bool
     fti.e == profile.e && fti.b == profile.b && fti.max_n == profile.max_n
 }
 
-/// Whether transmission information, with its message's flags, is that of a sender with this profile.
+/// Whether transmission information fits the profile. `flags` are those of its message: if it is a stream's, the length says nothing.
 pub(crate) fn fits(profile: &Profile, fti: &Fti, flags: u8) -> bool
     ensures { result ≡ fits profile.now fti.now flags }
 {
     has_sizes(profile, fti) && (is_stream(flags) || fti.l <= u64::from(profile.octets))
 }
 
-/// In what transmission information that does not fit differs.
+/// Returns how transmission information that does not fit differs: in its sizes, or else in its length.
 fn difference_of(profile: &Profile, fti: &Fti) -> Difference
     ensures { result ≡ difference_of profile.now fti.now }
 {
@@ -109,7 +109,7 @@ fn difference_of(profile: &Profile, fti: &Fti) -> Difference
     }
 }
 
-/// What is said of a message whose transmission information does not fit.
+/// Returns the misfit of a message whose transmission information does not fit.
 pub(crate) fn misfit_of(profile: &Profile, heard: &Heard, fti: &Fti) -> Misfit
     ensures { result ≡ misfit_of profile.now heard.now fti.now }
 {

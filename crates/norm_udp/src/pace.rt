@@ -1,56 +1,59 @@
-//! How a network of sockets pauses where nothing is there.
+//! How a network of sockets pauses if nothing is there: [`Pace`]. `fabric` drives it.
 
 ghost use Rattle.std.specs.Prelude.{◌≡◌};
 ghost use Rattle.norm_udp.specs.Pausing.{look_until, sleep_since, pause_of, new_pace, with_offer_at, made_busy, found_empty};
 
-/// A sender looks for at most so many microseconds.
+/// The most microseconds for which a sender looks.
 // Our own choice: a longer gap leaves time to sleep, and a sender that looks takes a whole processor.
 const LONGEST_LOOK: u64 = 1_000;
 
-/// Microseconds since the last datagram for which a sleep is short.
+/// A sleep is short for this many microseconds after a datagram.
 // Our own choice: within ten milliseconds of the last datagram the next one is mostly near.
 const RECENT: u64 = 10_000;
 
-/// Microseconds of a sleep where a datagram was offered or taken lately.
+/// Microseconds of a sleep if a datagram was offered or taken lately.
 // Our own choice: how late an answer may be while datagrams come. A shorter sleep takes time of the processor from other nodes of this machine.
 const SHORT_SLEEP: u64 = 250;
 
-/// Microseconds of a sleep where none was.
+/// Microseconds of a sleep if none was.
 // Our own choice: a node at rest then wakes a thousand times a second at most.
 const LONG_SLEEP: u64 = 1_000;
 
-/// What is done where nothing is there to be taken.
+/// What to do if nothing is there to take.
 #[derive(Clone, Copy, Debug, PartialEq, Eq)]
 pub(crate) enum Pause {
-    /// It is looked for until this moment, in microseconds of the clock.
+    /// Look until this moment, in microseconds of the clock.
     Look(u64),
-    /// That nothing is there is answered.
+    /// Answer that nothing is there.
     Answer,
-    /// It is slept, for as long as goes by when it was busy last, and looked once more.
+    /// Sleep, and look once more. [`sleep_since`] says how long, by the moment at which the node was busy last.
     Sleep(Option<u64>),
 }
 
-/// What was done since it was last answered that nothing is there, and when before that anything was.
+/// What a node did since it last answered that nothing is there. Moments are microseconds of the clock. Note each offer
+/// ([`note_offer_at`](Pace::note_offer_at) with a gap, else [`note_busy`](Pace::note_busy)) and each datagram that was taken
+/// (`note_busy`). After a look that found nothing, do what [`pause`](Pace::pause) says, and call [`note_empty`](Pace::note_empty) if it
+/// ends with the answer that nothing is there.
 #[derive(Clone, Copy, Debug)]
 pub(crate) struct Pace {
-    /// Microseconds between a sender's datagrams; 0 at any other node, of which no moment of an offer is noted.
+    /// Microseconds between a sender's datagrams. 0 at any other node, which notes no moment of an offer.
     pub gap: u64,
-    /// When a sender offered last.
+    /// When a sender offered last since then.
     pub offered: Option<u64>,
-    /// Whether anything was offered or taken.
+    /// Whether anything was offered or taken since then.
     pub busy: bool,
-    /// The last moment before that at which it had been busy.
+    /// When it last answered that nothing is there after it had been busy.
     pub last: Option<u64>,
 }
 
-/// Until when a sender looks that offered at a moment.
+/// Returns until when a sender looks if it offered at this moment.
 fn look_until(gap: u64, offered: u64) -> u64
     ensures { result ≡ look_until gap offered }
 {
     offered.saturating_add(gap.min(LONGEST_LOOK))
 }
 
-/// How many microseconds a sleep is at this moment.
+/// Returns how many microseconds a sleep lasts that begins now, if the node was busy last at `last`.
 pub(crate) fn sleep_since(last: Option<u64>, now: u64) -> u64
     ensures { result ≡ sleep_since last now }
 {
@@ -61,7 +64,7 @@ pub(crate) fn sleep_since(last: Option<u64>, now: u64) -> u64
 }
 
 impl Pace {
-    /// Before anything was offered or taken.
+    /// Returns the pace of a node before anything was offered or taken.
     pub(crate) fn new(gap: u64) -> Pace
         ensures { result ≡ new_pace gap }
     {
@@ -73,7 +76,7 @@ impl Pace {
         }
     }
 
-    /// A sender offered a datagram at this moment.
+    /// Notes that a sender offered a datagram at this moment.
     pub(crate) fn note_offer_at(&mut self, now: u64)
         ensures { self.new ≡ with_offer_at self.old now }
     {
@@ -81,14 +84,14 @@ impl Pace {
         self.busy = true;
     }
 
-    /// A datagram was offered or taken.
+    /// Notes that a datagram was offered or taken.
     pub(crate) fn note_busy(&mut self)
         ensures { self.new ≡ made_busy self.old }
     {
         self.busy = true;
     }
 
-    /// It is answered at this moment that nothing is there.
+    /// Notes the answer, at this moment, that nothing is there.
     pub(crate) fn note_empty(&mut self, now: u64)
         ensures { self.new ≡ found_empty self.old now }
     {
@@ -99,7 +102,7 @@ impl Pace {
         self.busy = false;
     }
 
-    /// What is done where nothing is there.
+    /// Returns what to do if nothing is there.
     pub(crate) fn pause(&self) -> Pause
         ensures { result ≡ pause_of self.now }
     {

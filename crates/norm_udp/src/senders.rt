@@ -1,4 +1,4 @@
-//! Threads that send for a node, each from a lane of its own.
+//! Threads that send for a node, each from a lane of its own: [`Senders`]. `norm_host` starts them, and `UdpFabric` posts to them.
 
 ghost use Rattle.std.specs.Prelude.{◌≡◌, ◌≤◌, true, length, IfErr};
 ghost use Rattle.norm_base.specs.Sizes.{datagram_room};
@@ -15,19 +15,20 @@ use std::thread;
 use std::thread::Threads;
 use std::time::Clock;
 
-/// Of each so many processors one is for a thread that sends.
+/// One sending thread for this many processors.
 // Our own choice: half of the processors are left for the node and for other processes of this machine.
 const PROCESSORS_EACH: usize = 2;
 
-/// A machine with fewer processors has no thread that sends.
+/// A machine with fewer processors has no sending thread.
 // Our own choice: with fewer, a thread that sends may take the processor that the node would use itself.
 const LEAST_PROCESSORS: usize = 4;
 
-/// How many threads send at most.
+/// The most threads that send.
 // Our own choice: a hub has at most 16 receivers to share out among them.
 const MOST_THREADS: usize = 4;
 
-/// Does what was posted next: the thread sends another way from here on, or sends a datagram. The place is given back, with what failed.
+/// Does what was posted: takes the new way, or sends the datagram. Gives the slot back, with the error if
+/// sending failed. Returns the way from then on.
 fn follow<R: Wait>(rt: &R, lane: &Lane, way: Way, posted: Box<Posted>) -> Way {
     let mut posted = posted;
     if let Some(other) = posted.way.take() {
@@ -44,7 +45,7 @@ fn follow<R: Wait>(rt: &R, lane: &Lane, way: Way, posted: Box<Posted>) -> Way {
     way
 }
 
-/// Does what is posted to a lane until that is over.
+/// Does what is posted to a lane, and returns after the lane is over and empty.
 fn serve<R: Wait + Clock>(rt: &R, lane: &Lane) {
     let mut way = Way::Nowhere;
     let mut sleeps = 0;
@@ -62,7 +63,7 @@ fn serve<R: Wait + Clock>(rt: &R, lane: &Lane) {
     }
 }
 
-/// How many threads send on this machine: none where it has few processors.
+/// Returns how many threads send on this machine. None if it has few processors, or does not tell how many.
 fn threads_here<R: Threads>(rt: &R) -> usize {
     let processors = match thread::available_parallelism(rt) {
         Ok(number) => number.get(),
@@ -74,8 +75,8 @@ fn threads_here<R: Threads>(rt: &R) -> usize {
     (processors / PROCESSORS_EACH).min(MOST_THREADS)
 }
 
-/// Threads that send what a hub or a sender offers, and what each is told by. As it is dropped, each thread ends once it has sent what
-/// was offered.
+/// Threads that send for a hub or a sender alone, and the lane of each. Give them to [`send_by`](crate::UdpFabric::send_by). After this is dropped,
+/// each thread sends what was offered, and ends.
 // Threads stand behind the network and not in the node, because the call that sends is most of what a hub does. The node stays one thread, so no
 // clause of it speaks of others: to the node, a thread that sends later is a network that delays.
 pub struct Senders(Vec<Arc<Lane>>);
@@ -90,16 +91,16 @@ impl Drop for Senders {
 }
 
 impl Senders {
-    /// None: each node sends by itself. It takes no memory.
+    /// Returns no threads: each node sends by itself. It takes no memory.
     pub fn none(alloc: Global) -> Senders {
         Senders(Vec::new(alloc))
     }
 
-    /// As many as this machine has processors for, and none where it has fewer than four.
+    /// Starts as many as this machine has processors for, and none if it has fewer than four.
     ///
     /// # Errors
     ///
-    /// `Memory` where memory runs out, or no thread can be made.
+    /// `Memory` if memory runs out or a thread cannot be made. Those that were started before then end.
     pub fn start<R: Threads + Wait + Clock + Copy + Send + Drop + 'static>(
         alloc: Global,
         rt: R,
@@ -127,14 +128,14 @@ impl Senders {
         Ok(())
     }
 
-    /// How many there are.
+    /// Returns how many there are.
     pub(crate) fn count(&self) -> usize
         ensures { result ≡ lanes_of self.now }
     {
         self.0.len()
     }
 
-    /// Tells the thread at a place where it sends from here on. False where there is none, or it is not told.
+    /// Tells the thread at this index its way from here on. `false` if there is none, or if its lane has no free slot for too long.
     pub(crate) fn tell<R: Wait + Clock>(&self, rt: &R, place: usize, way: Way) -> bool {
         match self.0.get(place) {
             Some(lane) => lane.tell(rt, way),
@@ -142,7 +143,7 @@ impl Senders {
         }
     }
 
-    /// Has this many threads, the first ones, send a member's datagram.
+    /// Has the first `threads` threads send a member's datagram, each its own way. A thread whose lane has no free slot for too long loses it.
     pub(crate) fn post<R: Wait + Clock>(&self, rt: &R, threads: usize, from: NodeId, bytes: &[u8])
         requires { length bytes.now ≤ datagram_room }
     {
@@ -151,11 +152,11 @@ impl Senders {
         }
     }
 
-    /// Takes what one of them failed at and no call told yet.
+    /// Takes the failure of a thread to send, if no call reported it yet.
     ///
     /// # Errors
     ///
-    /// What it failed at.
+    /// Why the thread could not send.
     pub(crate) fn check<R: Wait>(&self, rt: &R) -> Result<(), SocketCause>
         ensures { IfErr result (λ cause. is_sending cause ≡ true) }
     {
@@ -167,7 +168,7 @@ impl Senders {
         Ok(())
     }
 
-    /// Waits until all that was offered is sent, for some seconds at most. Answers what one of them failed at and no call told.
+    /// Waits until all that was offered is sent, for some seconds at most. Returns why a thread could not send, if no call reported it.
     pub(crate) fn drain<R: Wait + Clock>(&self, rt: &R) -> Option<SocketCause>
         ensures { tells_sending result ≡ true }
     {
@@ -181,7 +182,7 @@ impl Senders {
         left
     }
 
-    /// Has no thread send anywhere.
+    /// Tells each thread to send nowhere, after what was posted before.
     pub(crate) fn leave<R: Wait + Clock>(&self, rt: &R) {
         for lane in &self.0 {
             lane.tell(rt, Way::Nowhere);

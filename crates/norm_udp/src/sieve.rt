@@ -1,4 +1,4 @@
-//! What a receiver's network passes over.
+//! What a receiver's network passes over. `fabric` asks a [`Sieve`] of each datagram, and `norm_watch` reads the outcome through [`PassesOver`].
 
 ghost use Rattle.std.specs.Prelude.{◌≡◌, Some, None};
 ghost use Rattle.norm_base.specs.Faults.{one_more, counted};
@@ -9,21 +9,22 @@ use crate::heard::{Heard, heard_in};
 use crate::misfit::{Misfit, fits, misfit_of};
 use norm_base::{InstanceId, Local, Profile};
 
-/// A network that may pass over datagrams, and tells a person so.
+/// A network that may pass over datagrams, and reports it for people.
 pub trait PassesOver {
-    /// How many datagrams were passed over since the last start.
+    /// Returns how many datagrams were passed over since the last start.
     fn passed_over(&self) -> u64;
 
-    /// The first of them whose sender has another profile. `None` if all fitted.
+    /// Returns the first of them whose sender has another profile. `None` if all fitted.
     fn misfit(&self) -> Option<Misfit>;
 }
 
-/// What a receiver alone passes over: from transmission information on that is not of its profile, all that its sender sends in that instance. A
-/// receiver would take no object of it, and ask for each again and again. INFO or DATA that fits ends that, so that one forged datagram cuts nobody off.
+/// What a receiver alone passes over. If transmission information of its sender does not fit its profile, all INFO, DATA and commands of that
+/// instance are passed over. Otherwise the receiver would take no object of it, and ask for each again and again. It ends if INFO or DATA of the
+/// instance fits, so that one forged datagram cuts nobody off.
 // In the network and not in the rules: a network may lose anything, so no clause above it changes.
 #[derive(Drop)]
 pub(crate) struct Sieve {
-    /// The receiver's profile. `None` at any other node, at which nothing is passed over.
+    /// The receiver's profile. `None` at any other node, which passes nothing over.
     pub profile: Option<Profile>,
     /// The instance that is cut off.
     pub cut: Option<InstanceId>,
@@ -33,7 +34,7 @@ pub(crate) struct Sieve {
     pub misfit: Option<Misfit>,
 }
 
-/// What a node compares with: a receiver alone with its profile, and any other with none.
+/// Returns the profile that a node compares with. `None` unless it is a receiver alone.
 fn compared(profile: &Profile, local: &Local) -> Option<Profile>
     ensures { result ≡ compared profile.now local.now }
 {
@@ -50,7 +51,7 @@ fn compared(profile: &Profile, local: &Local) -> Option<Profile>
     }
 }
 
-/// Whether the instance that is cut off is this one.
+/// Whether this instance is the one that is cut off.
 fn is_in(cut: &Option<InstanceId>, instance: InstanceId) -> bool
     ensures { result ≡ is_in cut.now instance }
 {
@@ -60,7 +61,7 @@ fn is_in(cut: &Option<InstanceId>, instance: InstanceId) -> bool
     }
 }
 
-/// Which instance is cut off after transmission information of this one that fits, or does not.
+/// Returns which instance is cut off after transmission information of this one: this one if it does not fit, and no longer this one if it fits.
 fn cut_by(is_fit: bool, cut: Option<InstanceId>, instance: InstanceId) -> Option<InstanceId>
     ensures { result ≡ cut_by is_fit cut instance }
 {
@@ -71,7 +72,7 @@ fn cut_by(is_fit: bool, cut: Option<InstanceId>, instance: InstanceId) -> Option
     if is_in(&cut, instance) { None } else { cut }
 }
 
-/// Which instance is cut off after INFO, DATA or a command of the profile's sender.
+/// Returns which instance is cut off after INFO, DATA or a command of the profile's sender.
 fn cut_after(profile: &Profile, cut: Option<InstanceId>, heard: &Heard) -> Option<InstanceId>
     ensures { result ≡ cut_after profile.now cut heard.now }
 {
@@ -82,7 +83,7 @@ fn cut_after(profile: &Profile, cut: Option<InstanceId>, heard: &Heard) -> Optio
 }
 
 impl Sieve {
-    /// That of these members, with nothing cut off.
+    /// Returns the sieve of these members, with nothing cut off.
     pub(crate) fn of(profile: &Profile, local: &Local) -> Sieve
         ensures profile { result.profile ≡ compared profile.now local.now }
         ensures cut { result.cut ≡ None }
@@ -97,7 +98,7 @@ impl Sieve {
         }
     }
 
-    /// One that lets everything through.
+    /// Returns a sieve that lets everything through.
     pub(crate) fn open() -> Sieve
         ensures profile { result.profile ≡ None }
         ensures count { result.count ≡ 0 }
@@ -111,7 +112,7 @@ impl Sieve {
         }
     }
 
-    /// Counts a datagram that is passed over, the first of which is one that does not fit.
+    /// Counts a datagram that is passed over, and keeps the first that does not fit.
     fn count(&mut self, profile: &Profile, heard: &Heard)
         ensures profile { self.new.profile ≡ self.old.profile }
         ensures cut { self.new.cut ≡ self.old.cut }
@@ -126,7 +127,7 @@ impl Sieve {
         }
     }
 
-    /// Whether INFO, DATA or a command is passed over, which counts.
+    /// Whether INFO, DATA or a command is passed over. If so, counts it.
     fn cuts_off(&mut self, profile: &Profile, heard: &Heard) -> bool
         ensures profile { self.new.profile ≡ self.old.profile }
         ensures cut { self.new.cut ≡ cut_then (Some profile.now) self.old.cut (Some heard.now) }
@@ -146,7 +147,7 @@ impl Sieve {
         true
     }
 
-    /// Whether a datagram is passed over, which counts.
+    /// Whether a datagram is passed over. If so, counts it.
     pub(crate) fn passes_over(&mut self, bytes: &[u8]) -> bool
         ensures profile { self.new.profile ≡ self.old.profile }
         ensures cut { self.new.cut ≡ cut_then self.old.profile self.old.cut (heard_in bytes.now) }

@@ -1,4 +1,4 @@
-//! Single sockets. None of them ever waits.
+//! Calls of single sockets. None of them ever waits. `member`, `way` and `sockets` make them.
 
 ghost use Rattle.std.specs.Prelude.{◌≡◌, [], true, false, IfOk, IfErr, IfNone, OnErr, if◌then◌else◌};
 ghost use Rattle.norm_udp.specs.Failures.{is_sending};
@@ -11,7 +11,7 @@ use std::io;
 use std::net::{Net, SocketAddr, UdpSocket};
 use std::os::fd::AsRawFd;
 
-/// Octets of a buffer that a datagram is received into: one more than a datagram may have, so that a longer one shows.
+/// Octets of the buffer that a datagram is received into: one more than a datagram may have, so that a longer one shows.
 // A read cuts what is longer than the buffer, and does not say so.
 pub(crate) const BUFFER: usize = DATAGRAM_ROOM + 1;
 
@@ -19,11 +19,11 @@ pub(crate) const BUFFER: usize = DATAGRAM_ROOM + 1;
 // Our own choice, 4 MiB: some 2,800 datagrams of full size, so that little is lost while a turn hands up or prints. The system may give less.
 const RECEIVE_BUFFER: i32 = 4 << 20;
 
-/// How many datagrams in a row are passed over at most, before it is answered that nothing is there.
+/// The most datagrams in a row that a loop passes over before it answers that nothing is there.
 // Our own choice. Strangers may send without end, and a node that is asked for a datagram has to come back to its turn.
 pub(crate) const MOST_PASSED: u32 = 1_024;
 
-/// Asks for a large receive buffer. The system may give less, and the socket goes on with that.
+/// Asks for a large receive buffer. If the system gives less, the socket goes on with that.
 fn ask_for_room(socket: &UdpSocket) {
     let mut value = [0u8; 16];
     value[..4].copy_from_slice(&RECEIVE_BUFFER.to_ne_bytes());
@@ -31,14 +31,14 @@ fn ask_for_room(socket: &UdpSocket) {
     let _ = unsafe { setsockopt(socket.as_raw_fd(), SOL_SOCKET, SO_RCVBUF, &value, 4) };
 }
 
-/// A socket that is bound to this address and never waits.
+/// Opens a socket that is bound to this address and never waits.
 fn bound_to<R: Net>(rt: &R, address: SocketAddr) -> io::Result<UdpSocket> {
     let socket = rt.bind_udp(address)?;
     socket.set_nonblocking(true)?;
     Ok(socket)
 }
 
-/// A socket at this address.
+/// Opens such a socket, and says what failed.
 fn at<R: Net>(rt: &R, address: SocketAddr) -> Result<UdpSocket, SocketCause> {
     match bound_to(rt, address) {
         Ok(socket) => Ok(socket),
@@ -46,14 +46,14 @@ fn at<R: Net>(rt: &R, address: SocketAddr) -> Result<UdpSocket, SocketCause> {
     }
 }
 
-/// A socket with a large receive buffer at this address.
+/// Opens a socket at this address, with a large receive buffer.
 pub(crate) fn bind<R: Net>(rt: &R, address: SocketAddr) -> Result<UdpSocket, SocketCause> {
     let socket = at(rt, address)?;
     ask_for_room(&socket);
     Ok(socket)
 }
 
-/// A socket at this address of its own that sends to another alone.
+/// Opens a socket at `own` that sends to `address` alone.
 pub(crate) fn connect<R: Net>(
     rt: &R,
     own: SocketAddr,
@@ -66,7 +66,7 @@ pub(crate) fn connect<R: Net>(
     }
 }
 
-/// What becomes of a datagram that was sent to an address: it may be lost.
+/// Returns the outcome of sending a datagram to an address. It is no error if the datagram was lost.
 fn sent(done: io::Result<usize>, address: SocketAddr) -> Result<(), SocketCause>
     ensures { IfErr result (λ cause. is_sending cause ≡ true) }
 {
@@ -78,7 +78,7 @@ fn sent(done: io::Result<usize>, address: SocketAddr) -> Result<(), SocketCause>
     }
 }
 
-/// Sends a datagram to an address.
+/// Sends a datagram to an address. It is no error if it gets lost.
 pub(crate) fn send_to(
     socket: &UdpSocket,
     bytes: &[u8],
@@ -89,14 +89,14 @@ pub(crate) fn send_to(
     sent(socket.send_to(bytes, address), address)
 }
 
-/// Sends a datagram through a socket that is connected to this address.
+/// Sends a datagram through a socket that is connected to this address. It is no error if it gets lost.
 pub(crate) fn send(socket: &UdpSocket, bytes: &[u8], address: SocketAddr) -> Result<(), SocketCause>
     ensures { IfErr result (λ cause. is_sending cause ≡ true) }
 {
     sent(socket.send(bytes), address)
 }
 
-/// Puts the datagram that was received into `into`, unless it is longer than one may be.
+/// Puts a received datagram into `into`, unless it is longer than one may be. Returns whether it did.
 fn put(received: &[u8], into: &mut Datagram) -> bool
     requires { into.old ≡ [] }
     ensures { into.new ≡ (if result then received.now else []) }
@@ -108,7 +108,7 @@ fn put(received: &[u8], into: &mut Datagram) -> bool
     true
 }
 
-/// What becomes of a call that received nothing: it is no fault where only nothing is there.
+/// Returns `Ok` after a receive that failed only because nothing is there, or because a datagram was lost.
 fn nothing_there(error: io::Error, own: SocketAddr) -> Result<(), SocketCause> {
     if is_loss(&error) {
         return Ok(());
@@ -119,7 +119,7 @@ fn nothing_there(error: io::Error, own: SocketAddr) -> Result<(), SocketCause> {
     })
 }
 
-/// Receives the next datagram that is no longer than one may be, from wherever it came. False where nothing is there.
+/// Receives the next datagram, from wherever it came, and passes over any that is too long. `false` if nothing is there.
 pub(crate) fn receive(
     socket: &UdpSocket,
     own: SocketAddr,
@@ -146,8 +146,8 @@ pub(crate) fn receive(
     Ok(false)
 }
 
-/// Receives the next datagram that is no longer than one may be, and says where it came from, which costs more than [`receive`].
-/// `None` where nothing is there.
+/// Receives the next datagram, and passes over any that is too long. Returns the address that it came from, which costs more than
+/// [`receive`]. `None` if nothing is there.
 pub(crate) fn receive_from(
     socket: &UdpSocket,
     own: SocketAddr,

@@ -1,4 +1,4 @@
-//! The sockets that are open, by which members are in this process.
+//! The sockets of a session: [`Open`]. Which there are depends on the members in this process. `fabric` opens them with [`open_for`].
 
 ghost use Rattle.std.specs.Prelude.{◌≡◌, ◌≤◌, ◌+◌, ◌<◌, ◌==◌, ◌++◌, ◌∷◌, [], true, length, if◌then◌else◌, IfOk, IfErr, IfSome, IfNone, OnOk, OnErr};
 ghost use Rattle.norm_base.specs.Members.{receivers_of, members_of};
@@ -46,24 +46,24 @@ impl From<SocketCause> for OpenFault {
     }
 }
 
-/// The sockets that are open.
+/// The sockets that are open: [`send`](Open::send) sends by them, and [`look`](Open::look) receives.
 #[derive(Debug, Drop)]
 pub(crate) enum Open {
-    /// None: no session was begun.
+    /// None: no session was started, or it was closed.
     Nothing,
-    /// Each member's own. It is looked at one until that is empty.
+    /// Each member's own. `place` is the index of the one to look at, until it is empty.
     All {
         profile: Profile,
         members: Vec<Member>,
         place: usize,
     },
-    /// One member's, which sends to the hub: the sender's by a thread, where there is one.
+    /// One member's, which sends to the hub. If `threads` is 1, a thread sends for it, as it does for a sender.
     One {
         member: Member,
         hub: SocketAddr,
         threads: usize,
     },
-    /// The hub's, and one that sends to each receiver: by so many threads, or by itself.
+    /// The hub's own, and one that sends to each receiver. If `threads` is not 0, this many threads have the latter, and `receivers` is empty.
     Hub {
         profile: Profile,
         address: SocketAddr,
@@ -87,7 +87,7 @@ fn open_members<R: Net>(rt: &R, alloc: Global, profile: &Profile) -> Result<Vec<
     Ok(members)
 }
 
-/// Opens each member's own socket.
+/// Opens the sockets of a process that has all members.
 fn open_all<R: Net>(rt: &R, alloc: Global, profile: &Profile) -> Result<Open, OpenFault> {
     let members = open_members(rt, alloc, profile)?;
     Ok(Open::All {
@@ -97,7 +97,7 @@ fn open_all<R: Net>(rt: &R, alloc: Global, profile: &Profile) -> Result<Open, Op
     })
 }
 
-/// Has a thread send for a sender, where there is one. Says how many do.
+/// Has a thread send for a sender alone, if there is one. Returns how many do: 1, or 0 if the node sends by itself.
 fn share_sending<R: Wait + Clock>(
     rt: &R,
     senders: &Senders,
@@ -114,7 +114,7 @@ fn share_sending<R: Wait + Clock>(
     }
 }
 
-/// Opens one member's socket. A node that is none of the profile has no address.
+/// Opens one member's socket. Fails if the node is no member of the profile, since it then has no address.
 fn open_one<R: Net + Wait + Clock>(
     rt: &R,
     senders: &Senders,
@@ -141,7 +141,7 @@ fn open_one<R: Net + Wait + Clock>(
     })
 }
 
-/// Adds a socket to the receiver at this place, if that is one of `from`, `from + apart`, and so on.
+/// Opens a socket to the receiver at this index, if the index is `from`, `from + apart`, and so on.
 #[tactic(auto, using(crate::proofs::WayLemmas::nodes_more))]
 fn add_way<R: Net>(
     rt: &R,
@@ -164,7 +164,7 @@ fn add_way<R: Net>(
     Ok(())
 }
 
-/// Opens a socket to each receiver from a place on, so many places apart.
+/// Opens a socket to each receiver whose index is `from`, `from + apart`, and so on.
 #[tactic(auto, using(crate::proofs::WayLemmas::way_more))]
 fn open_ways<R: Net>(
     rt: &R,
@@ -183,7 +183,7 @@ fn open_ways<R: Net>(
     Ok(receivers)
 }
 
-/// Opens the sockets by which a hub sends itself: one to each receiver if no thread sends for it, and else none.
+/// Opens the sockets by which a hub sends itself: one to each receiver if no thread sends for it, and none otherwise.
 #[tactic(auto, using(crate::proofs::WayLemmas::single))]
 fn open_own_ways<R: Net>(
     rt: &R,
@@ -200,7 +200,7 @@ fn open_own_ways<R: Net>(
     Ok(Vec::new(alloc))
 }
 
-/// Has the thread at this place send to its receivers, which are those of one of so many threads. `threads` is there for the clause alone.
+/// Has the thread at this index send to its receivers. `threads` is how many share the receivers, and is there for the clause alone.
 fn tell_way<R: Wait + Clock>(
     rt: &R,
     senders: &Senders,
@@ -223,7 +223,7 @@ fn tell_way<R: Wait + Clock>(
     Ok(())
 }
 
-/// Opens a socket to each receiver of the thread at this place, of so many, and has it send there.
+/// Opens a socket to each receiver of the thread at this index, and has it send there. `threads` is how many share the receivers.
 fn share_way<R: Net + Wait + Clock>(
     rt: &R,
     alloc: Global,
@@ -238,7 +238,7 @@ fn share_way<R: Net + Wait + Clock>(
     tell_way(rt, senders, profile, place, threads, receivers)
 }
 
-/// Has threads send to the receivers, each to as many as another. Returns how many do: all, unless there are fewer receivers.
+/// Shares the receivers out among the threads. Returns how many threads send: all, unless there are fewer receivers.
 fn share_copying<R: Net + Wait + Clock>(
     rt: &R,
     alloc: Global,
@@ -279,7 +279,7 @@ fn open_hub<R: Net + Wait + Clock>(
     })
 }
 
-/// Opens the sockets of these members.
+/// Opens the sockets of a process that has these members.
 pub(crate) fn open_for<R: Net + Wait + Clock>(
     rt: &R,
     alloc: Global,
@@ -294,7 +294,7 @@ pub(crate) fn open_for<R: Net + Wait + Clock>(
     }
 }
 
-/// Sends a member's datagram to another that gets a copy of it, from this socket. `from` is there for the clause alone.
+/// Sends a member's datagram from this socket to another that gets a copy. `from` is there for the clause alone.
 fn send_copy(
     profile: &Profile,
     socket: &UdpSocket,
@@ -308,7 +308,7 @@ fn send_copy(
     send_to(socket, bytes, address_of(profile, to))
 }
 
-/// Sends a member's datagram from its own socket to each other member. Returns how many copies were sent.
+/// Sends a member's datagram from its own socket to each other member. Returns how many copies it sent.
 #[tactic(auto, using(crate::proofs::WayLemmas::copies_yes, crate::proofs::WayLemmas::copies_no))]
 fn send_from(
     profile: &Profile,
@@ -330,7 +330,7 @@ fn send_from(
     Ok(sent)
 }
 
-/// Sends a member's datagram to each other member, where all are in this process.
+/// Sends a member's datagram to each other member, in a process that has all of them. Sends nothing if `from` is none of them.
 fn send_among(
     profile: &Profile,
     members: &[Member],
@@ -347,7 +347,7 @@ fn send_among(
     Ok(())
 }
 
-/// Sends a receiver's datagram from the hub to the sender. The sender's own goes to receivers alone. Returns how many copies were sent.
+/// Sends a receiver's datagram from the hub to the sender, and nothing if it is the sender's own. Returns how many copies it sent.
 fn send_back(
     profile: &Profile,
     hub: &UdpSocket,
@@ -365,7 +365,7 @@ fn send_back(
     Ok(1)
 }
 
-/// Looks at each member's socket once, from `place` on, where it stays as long as something is there.
+/// Looks at each member's socket once, from index `place` on, until one has a datagram. It stays there for the next look.
 fn look_among(
     members: &[Member],
     place: &mut usize,
@@ -389,7 +389,7 @@ fn look_among(
     Ok(None)
 }
 
-/// Receives the next datagram of a member at the hub. What came from any other address is passed over.
+/// Receives the next datagram of a member at the hub, and passes over any from another address. `None` if nothing is there.
 fn receive_from_member(
     profile: &Profile,
     socket: &UdpSocket,
@@ -415,7 +415,7 @@ fn receive_from_member(
 }
 
 impl Open {
-    /// Sends a member's datagram to whom it goes, or has a thread send it.
+    /// Sends a member's datagram to the other members, or to the hub if this is a member alone. Threads may do it.
     pub(crate) fn send<R: Wait + Clock>(
         &self,
         rt: &R,
@@ -459,7 +459,7 @@ impl Open {
         }
     }
 
-    /// Takes the next datagram, if one is there, and says for whom it is, and at the hub from whom.
+    /// Takes the next datagram if one is there, and returns the member that it is for; at the hub, the one that sent it.
     pub(crate) fn look(
         &mut self,
         buffer: &mut [u8],

@@ -1,4 +1,4 @@
-//! Where a thread sends what lies in its lane.
+//! The way of a sending thread: to whom it sends what lies in its lane. `sockets` makes it.
 
 ghost use Rattle.std.specs.Prelude.{◌≡◌, true, IfOk, IfErr};
 ghost use Rattle.norm_udp.specs.Failures.{is_sending};
@@ -11,10 +11,10 @@ use crate::socket::send_to;
 use norm_base::{NodeId, Profile};
 use std::net::{SocketAddr, UdpSocket};
 
-/// Where a thread sends what lies in its lane.
+/// To whom a thread sends what lies in its lane.
 #[derive(Drop)]
 pub(crate) enum Way {
-    /// Nowhere: no session was begun.
+    /// Nowhere: no session was started, or it was closed.
     Nowhere,
     /// To each of these receivers that gets a copy.
     Copies {
@@ -28,7 +28,7 @@ pub(crate) enum Way {
     },
 }
 
-/// Sends a member's datagram to each of these receivers that gets a copy. Returns how many were sent.
+/// Sends a member's datagram to each of these receivers that gets a copy. Returns how many copies it sent.
 #[tactic(auto, using(crate::proofs::WayLemmas::copies_yes, crate::proofs::WayLemmas::copies_no))]
 pub(crate) fn send_copies(
     profile: &Profile,

@@ -1,4 +1,4 @@
-//! What is to be said, as the process is asked to.
+//! What to print on standard error, by the environment of the process: [`asked_in`]. `normd` calls it once.
 
 use crate::saying::Says;
 use std::io::IsTerminal;
@@ -14,8 +14,8 @@ fn has_value(rt: &impl Env, name: &str, value: &[u8]) -> bool {
     }
 }
 
-/// What is to be said: progress where standard error is a terminal and the environment has no `NORMD_PROGRESS=0`, or where it has
-/// `NORMD_PROGRESS=1`; and each datagram where it has `NORMD_LOG=trace`.
+/// Returns what to print. Progress: if standard error is a terminal, unless the environment has `NORMD_PROGRESS=0`; if it is none, only with
+/// `NORMD_PROGRESS=1`. Each datagram: with `NORMD_LOG=trace`.
 pub fn asked_in(rt: &HostRuntime) -> Says {
     let is_seen = rt.stderr().is_terminal();
     Says {

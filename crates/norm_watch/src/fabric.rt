@@ -1,4 +1,4 @@
-//! A network that is watched.
+//! A network that is watched: [`WatchedFabric`]. `normd` puts it around its network.
 
 ghost use Rattle.std.specs.Prelude.{◌≡◌};
 ghost use Rattle.norm_watch.specs.Spending.{is_ended_by_turns, spent_by};
@@ -17,11 +17,11 @@ use norm_udp::PassesOver;
 use std::fmt;
 use std::time::{Clock, Duration};
 
-/// How many seconds there are from one line of progress to the next.
+/// Seconds from one line of progress to the next.
 // Our own choice: as often as a person can read it.
 const PAUSE: u64 = 1;
 
-/// The clock is read at one take in this many. If nothing comes each sleeps a millisecond, so that they are well under a second.
+/// The clock is read at one take in this many. If nothing comes, each take sleeps a millisecond, so that all of them take well under a second.
 // Our own choice. While datagrams come a read of the clock at each would show in the rate.
 const TAKES: u32 = 64;
 
@@ -37,7 +37,7 @@ enum Role {
 #[derive(Clone, Copy)]
 struct Node {
     role: Role,
-    /// The port that it takes at.
+    /// The port at which it receives.
     port: u32,
     /// The hub's port.
     hub: u32,
@@ -45,7 +45,7 @@ struct Node {
     turns: u32,
 }
 
-/// What is said as all turns of a profile were made.
+/// What to say after all turns of a profile were made.
 #[derive(Clone, Copy)]
 struct Spent {
     turns: u32,
@@ -64,7 +64,7 @@ impl fmt::Display for Spent {
     }
 }
 
-/// Whether only its turns end a node that ends well.
+/// Whether a node of this role, if it ends well, is ended only by its turns.
 fn is_ended_by_turns(role: Role) -> bool
     ensures { result ≡ is_ended_by_turns role }
 {
@@ -75,7 +75,7 @@ fn is_ended_by_turns(role: Role) -> bool
     }
 }
 
-/// What is said of a node that ended well. `None` if its turns did not end it, or this process is no node alone.
+/// Returns what to say of a node that ended well. `None` if its turns did not end it, or this process is no node alone.
 fn spent_by(node: &Option<Node>, is_busy: bool) -> Option<Spent>
     ensures { result ≡ spent_by node.now is_busy }
 {
@@ -88,7 +88,7 @@ fn spent_by(node: &Option<Node>, is_busy: bool) -> Option<Spent>
     }
 }
 
-/// What a process is that has one node. `None` if all members are in it.
+/// Returns what the one node of a process is. `None` if all members are in it.
 fn role_of(profile: &Profile, local: &Local) -> Option<Role> {
     match local {
         Local::One(node) => {
@@ -103,7 +103,7 @@ fn role_of(profile: &Profile, local: &Local) -> Option<Role> {
     }
 }
 
-/// How many ports a node is behind the hub.
+/// Returns how far a node's port is above the hub's.
 fn place_of(profile: &Profile, local: &Local) -> u32 {
     match local {
         Local::One(node) => node.number().wrapping_sub(profile.sender).wrapping_add(1),
@@ -119,7 +119,7 @@ fn is_of_sockets(fabric: FabricKind) -> bool {
     }
 }
 
-/// The node that a process is over sockets. `None` in memory, and if all members are in it.
+/// Returns the node that a process is over sockets. `None` in memory, and if all members are in it.
 fn node_of(profile: &Profile, local: &Local) -> Option<Node> {
     if !is_of_sockets(profile.fabric) {
         return None;
@@ -134,7 +134,7 @@ fn node_of(profile: &Profile, local: &Local) -> Option<Node> {
     })
 }
 
-/// The moment, as a clock has it.
+/// Returns the clock's moment, or 0 if the clock fails.
 fn moment<R: Clock>(rt: &R) -> Duration {
     match rt.monotonic() {
         Ok(now) => now,
@@ -142,7 +142,7 @@ fn moment<R: Clock>(rt: &R) -> Duration {
     }
 }
 
-/// Whether a datagram is of an object, and repairs: INFO or DATA with the flag of a repair (RFC 5740 section 4.2.1).
+/// Whether a datagram is INFO or DATA with the flag of a repair (RFC 5740 section 4.2.1).
 fn is_repair(datagram: &[u8]) -> bool {
     if datagram.len() <= FLAGS_AT {
         return false;
@@ -153,8 +153,8 @@ fn is_repair(datagram: &[u8]) -> bool {
         && has_flag(datagram[FLAGS_AT], REPAIR)
 }
 
-/// Whether a node counts repairs as it takes them. A receiver does, which offers none; the hub offers each that it takes, and where all members are
-/// in one process each is offered before it is taken.
+/// Whether a node counts repairs as it takes them. A receiver does, since it offers none. The hub offers each that it takes, and in a process with
+/// all members each is offered before it is taken.
 fn counts_takes(local: &Local) -> bool {
     match local {
         Local::One(_) => true,
@@ -162,7 +162,8 @@ fn counts_takes(local: &Local) -> bool {
     }
 }
 
-/// A network around which a person watches.
+/// A network that a person watches. It passes each call on, and says on standard error what it sees. After the program ended well, call
+/// [`say_spent`](WatchedFabric::say_spent).
 // Around the outside, and not in the objects of norm_host: a network of any kind is watched as it stands, and each clause of the trait is passed
 // on once for all of them.
 #[derive(Drop)]
@@ -171,15 +172,15 @@ pub struct WatchedFabric<'a, R, F> {
     fabric: F,
     says: Says,
     tally: &'a Tally,
-    /// The node that this process is over sockets, alone.
+    /// The node that this process is, if it is one alone over sockets.
     node: Option<Node>,
-    /// What a receiver's rules pass over.
+    /// What a receiver's rules pass over, if this is one receiver alone.
     strays: Option<Strays>,
-    /// How many datagrams the network itself passed over, as far as that was looked at.
+    /// How many datagrams the network itself had passed over at the last look.
     passed: u64,
-    /// Whether repairs are counted as they are taken, and not only as they are offered.
+    /// Whether repairs are counted as they are taken too, and not only as they are offered.
     counts_takes: bool,
-    /// How many takes go by before the clock is read.
+    /// How many more takes go by before the clock is read.
     takes_left: u32,
     silence: Silence,
     /// When a line of progress was drawn last.
@@ -187,7 +188,7 @@ pub struct WatchedFabric<'a, R, F> {
 }
 
 impl<'a, R: Eprint + Clock, F: Fabric + PassesOver> WatchedFabric<'a, R, F> {
-    /// A network around this one. It says what it is to say on standard error, and counts repairs there.
+    /// Returns a network around this one. `says` tells what to print on standard error, and `tally` counts the repairs.
     pub fn of(rt: R, fabric: F, says: Says, tally: &'a Tally) -> WatchedFabric<'a, R, F>
         ensures { watched_by result ≡ fabric }
     {
@@ -206,7 +207,7 @@ impl<'a, R: Eprint + Clock, F: Fabric + PassesOver> WatchedFabric<'a, R, F> {
         }
     }
 
-    /// The network that is watched.
+    /// Returns the network that is watched.
     pub fn watched(&self) -> &F {
         &self.fabric
     }
@@ -217,7 +218,7 @@ impl<'a, R: Eprint + Clock, F: Fabric + PassesOver> WatchedFabric<'a, R, F> {
         let _ = eprintln!(self.rt; "{what}");
     }
 
-    /// Says that nothing came to a node, and how long, and where the hub is to be.
+    /// Says that nothing came to a node, for how long, and, except of the hub, at which address the hub is to be.
     fn say_unheard(&self, node: &Node, how_long: &str) {
         let port = node.port;
         wipe(&self.rt, self.tally);
@@ -228,7 +229,7 @@ impl<'a, R: Eprint + Clock, F: Fabric + PassesOver> WatchedFabric<'a, R, F> {
         }
     }
 
-    /// Says that all turns were made, as [`spent_by`] has it: a receiver or the hub that ended well does. It is called as the program ended well.
+    /// Says that all turns were made, if this is a receiver or the hub, alone over sockets. Call it only if the program ended well.
     pub fn say_spent(&self) {
         let is_busy = self.silence.is_broken(moment(&self.rt));
         if let Some(spent) = spent_by(&self.node, is_busy) {
@@ -236,7 +237,7 @@ impl<'a, R: Eprint + Clock, F: Fabric + PassesOver> WatchedFabric<'a, R, F> {
         }
     }
 
-    /// A node begins: what is said of its profile, and when it heard something last.
+    /// Begins to watch a node. Warns of a profile's step that is none for sockets.
     fn begin(&mut self, profile: &Profile, local: &Local)
         ensures { watched_by self.new ≡ watched_by self.old }
     {
@@ -255,7 +256,7 @@ impl<'a, R: Eprint + Clock, F: Fabric + PassesOver> WatchedFabric<'a, R, F> {
         }
     }
 
-    /// Says that a datagram of a node, or for it, was offered or taken.
+    /// Says that a datagram of this node, or for it, was offered or taken, if each is to be said.
     fn trace(&self, what: &str, node: NodeId, octets: &[u8]) {
         if self.says.trace {
             let node = node.number();
@@ -265,14 +266,14 @@ impl<'a, R: Eprint + Clock, F: Fabric + PassesOver> WatchedFabric<'a, R, F> {
         }
     }
 
-    /// Counts a datagram that repairs.
+    /// Counts a datagram, if it repairs.
     fn count(&self, octets: &[u8]) {
         if is_repair(octets) {
             self.tally.repair();
         }
     }
 
-    /// Draws the line of progress, where a second went by.
+    /// Draws the line of progress, if it is asked for and a second went by.
     fn draw(&mut self, now: Duration)
         ensures { watched_by self.new ≡ watched_by self.old }
     {
@@ -282,7 +283,7 @@ impl<'a, R: Eprint + Clock, F: Fabric + PassesOver> WatchedFabric<'a, R, F> {
         }
     }
 
-    /// Notes what a receiver took. What its rules pass over for good is said.
+    /// Notes what a receiver took. Says what its rules pass over for good.
     fn hear(&mut self, octets: &[u8])
         ensures { watched_by self.new ≡ watched_by self.old }
     {
@@ -298,7 +299,7 @@ impl<'a, R: Eprint + Clock, F: Fabric + PassesOver> WatchedFabric<'a, R, F> {
         }
     }
 
-    /// Looks whether the network itself passed over a datagram, which came too. Of the first one it is said why.
+    /// Looks whether the network itself passed over datagrams, which then came too. Of the first one it says why.
     fn look_passed(&mut self)
         ensures { watched_by self.new ≡ watched_by self.old }
     {
@@ -315,7 +316,7 @@ impl<'a, R: Eprint + Clock, F: Fabric + PassesOver> WatchedFabric<'a, R, F> {
         self.silence.note();
     }
 
-    /// Looks whether a watermark of a sender expired to which nothing ever came.
+    /// Says that nothing ever came to a sender, after one of its watermarks expired.
     fn look_expired(&mut self, node: &Node)
         ensures { watched_by self.new ≡ watched_by self.old }
     {
@@ -324,7 +325,7 @@ impl<'a, R: Eprint + Clock, F: Fabric + PassesOver> WatchedFabric<'a, R, F> {
         }
     }
 
-    /// Reads the clock: whether nothing came for ten seconds, and whether progress is to be drawn.
+    /// Reads the clock. Says so if nothing came for ten seconds, and draws progress if it is due.
     fn watch(&mut self, node: &Node)
         ensures { watched_by self.new ≡ watched_by self.old }
     {
@@ -335,7 +336,7 @@ impl<'a, R: Eprint + Clock, F: Fabric + PassesOver> WatchedFabric<'a, R, F> {
         self.draw(now);
     }
 
-    /// A take gave something, or nothing. The clock is read at the first take, and then at one in [`TAKES`].
+    /// Notes whether a take gave something. Reads the clock at the first take, and then at one in [`TAKES`].
     fn took(&mut self, is_some: bool)
         ensures { watched_by self.new ≡ watched_by self.old }
     {

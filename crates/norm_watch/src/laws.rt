@@ -1,4 +1,4 @@
-//! Laws of what this crate defines. Each is the contract of a function that does nothing.
+//! Laws of this crate's definitions. Each is the contract of a function that does nothing.
 
 ghost use Rattle.norm_watch.specs.FollowingLaws.{FollowingLaws};
 

@@ -1,36 +1,37 @@
-//! Which members are listed past what, and which watermarks are open, by the lines that say so.
+//! Which members are listed past what, and which watermarks are open, by the lines that say so: [`Listing`]. `WatchedSink` drives it.
 
 /// The most members and open watermarks of a session.
 // The key `receivers` goes up to 16, and as many watermarks are open at once. What is beyond is not counted.
 const MOST: usize = 16;
 
-/// A place in the transport order, as one number that rises with it.
+/// Returns a position in the transport order as one number, which rises with it.
 fn place_of(index: u64, block: u64, symbol: u64) -> u64 {
     // 32 bits of index, 24 of block and 8 of symbol fill 64 bits, in the order that positions have.
     index.wrapping_shl(32) | block.wrapping_shl(8) | symbol
 }
 
-/// A member, or a watermark, and a place. Its number is 0 where there is none.
+/// A member or a watermark, and its position. The number is 0 if this slot is free.
 #[derive(Clone, Copy)]
 struct Placed {
     number: u64,
     place: u64,
 }
 
-/// Nothing.
+/// A free slot.
 const NONE: Placed = Placed {
     number: 0,
     place: 0,
 };
 
-/// The members' listings, and the open watermarks, the oldest of which has the least number.
+/// The members' listings and the open watermarks. The oldest watermark has the least number. Call a method for each
+/// line of its kind, in the order of the lines.
 #[derive(Drop)]
 pub(crate) struct Listing {
     members: [Placed; MOST],
     marks: [Placed; MOST],
 }
 
-/// Puts a place where this number stands, or else where none does.
+/// Puts the position of this number into its slot, or else into the first free one. Does nothing if there is none.
 fn put(all: &mut [Placed], number: u64, place: u64) {
     let mut free = None;
     for (at, one) in all.iter().enumerate() {
@@ -49,7 +50,7 @@ fn put(all: &mut [Placed], number: u64, place: u64) {
     }
 }
 
-/// Takes out what stands there by this number.
+/// Frees the slot of this number.
 fn take_out(all: &mut [Placed], number: u64) {
     for one in all.iter_mut() {
         if one.number == number {
@@ -59,7 +60,7 @@ fn take_out(all: &mut [Placed], number: u64) {
 }
 
 impl Listing {
-    /// Nobody is listed, and nothing open.
+    /// Returns a listing with nobody listed, and no watermark open.
     pub fn new() -> Listing {
         Listing {
             members: [NONE; MOST],
@@ -67,32 +68,32 @@ impl Listing {
         }
     }
 
-    /// A watermark is opened at a place, by the numbers of its line behind the producer's.
+    /// Opens a watermark at a position, by the numbers of its line that come after the producer's.
     pub fn mark(&mut self, mark: u64, index: u64, block: u64, symbol: u64) {
         put(&mut self.marks, mark, place_of(index, block, symbol));
     }
 
-    /// A member is listed past a place.
+    /// Lists a member past a position.
     pub fn past(&mut self, node: u64, index: u64, block: u64, symbol: u64) {
         put(&mut self.members, node, place_of(index, block, symbol));
     }
 
-    /// A member is struck: it is listed no more.
+    /// Strikes a member, which is then no longer listed.
     pub fn strike(&mut self, node: u64) {
         take_out(&mut self.members, node);
     }
 
-    /// A watermark is done.
+    /// Closes a watermark that is done.
     pub fn done(&mut self, mark: u64) {
         take_out(&mut self.marks, mark);
     }
 
-    /// A new instance begins: nobody is listed, and nothing is open.
+    /// Begins a new instance, with nobody listed, and no watermark open.
     pub fn restart(&mut self) {
         *self = Listing::new();
     }
 
-    /// How many members are past the oldest open watermark; past the place of none, where none is open.
+    /// Returns how many members are past the oldest open watermark. If none is open, all that are listed.
     pub fn count(&self) -> u64 {
         let mut oldest = NONE;
         for one in self.marks.iter() {

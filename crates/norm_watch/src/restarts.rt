@@ -1,14 +1,14 @@
-//! Who is to know that a sender goes on in another instance.
+//! Who learns that a sender goes on in another instance: [`Restarts`]. `normd` implements it, and `WatchedSink` calls it.
 
 use norm_base::InstanceId;
 
-/// Who is to know of a sender's restarts before anything of the new instance is sent.
+/// Who learns of a sender's restarts before anything of the new instance is sent.
 pub trait Restarts {
-    /// The sender goes on in this instance.
+    /// Reports that the sender goes on in this instance.
     fn restarted(&mut self, instance: InstanceId);
 }
 
-/// Nobody, or whoever is there.
+/// Reports to nobody, or to the one that is there.
 impl<T: Restarts> Restarts for Option<T> {
     fn restarted(&mut self, instance: InstanceId) {
         match self {

@@ -1,20 +1,20 @@
-//! What is said on standard error of a node at work.
+//! What is printed on standard error: the line of progress and a datagram in hexadecimal. [`Says`] tells which of them are asked for.
 
 use crate::tally::Tally;
 use std::fmt;
 
-/// What is to be said.
+/// What to print.
 #[derive(Clone, Copy, Debug)]
 pub struct Says {
     /// Once a second, how far the node is.
     pub progress: bool,
     /// Each datagram that is offered or taken.
     pub trace: bool,
-    /// Lines of output go to a terminal too, where the line of progress is wiped before each.
+    /// Whether lines of output go to a terminal too. If so, the line of progress is wiped before each.
     pub beside: bool,
 }
 
-/// Goes to the line's beginning, and wipes what stands there (ECMA-48, EL).
+/// Goes to the beginning of the line, and wipes the line (ECMA-48, EL).
 // Wiped first, since the line before may have been longer.
 const BEGIN: &str = "\r\u{1b}[K";
 
@@ -37,7 +37,7 @@ impl fmt::Display for Progress<'_> {
     }
 }
 
-/// Draws the line of progress over what stands there.
+/// Draws the line of progress over the one before.
 pub(crate) fn draw<R: Eprint>(rt: &R, tally: &Tally) {
     let progress = Progress { tally };
     // What cannot be said to a person is no fault of the node.
@@ -45,7 +45,7 @@ pub(crate) fn draw<R: Eprint>(rt: &R, tally: &Tally) {
     tally.is_drawn.set(true);
 }
 
-/// Wipes the line of progress, where one stands, so that something else comes in its place.
+/// Wipes the line of progress, if one is drawn, so that something else can be printed.
 pub(crate) fn wipe<R: Eprint>(rt: &R, tally: &Tally) {
     if tally.is_drawn.get() {
         let _ = eprint!(rt; "{BEGIN}");
@@ -53,7 +53,7 @@ pub(crate) fn wipe<R: Eprint>(rt: &R, tally: &Tally) {
     }
 }
 
-/// Ends the line of progress, where one stands: the node is done.
+/// Ends the line of progress, if one is drawn. Call it when the node is done.
 pub fn end_progress<R: Eprint>(rt: &R, tally: &Tally) {
     if tally.is_drawn.get() {
         let _ = eprintln!(rt;);
@@ -67,7 +67,7 @@ pub(crate) struct Hex<'a> {
     pub octets: &'a [u8],
 }
 
-/// The digit of four bits.
+/// Returns the hexadecimal digit of four bits.
 fn digit(bits: u8) -> char {
     match char::from_digit(u32::from(bits), 16) {
         Some(digit) => digit,

@@ -1,26 +1,27 @@
-//! Whether anything comes to a node.
+//! Whether anything comes to a node: [`Silence`]. `WatchedFabric` drives it.
 
 use std::time::Duration;
 
-/// How many seconds nothing comes until that is said.
+/// After this many seconds without a datagram it is said that nothing came.
 // Our own choice: far longer than the pause between two flushes, which is twice `grtt`: 20 milliseconds by default.
 const SILENCE: u64 = 10;
 
-/// When a node heard something last, by a clock that is not read at each datagram, and whether it was said that it hears nothing.
+/// When a node heard something last, and whether it was said that it hears nothing. The clock is not read at each datagram: call
+/// [`note`](Silence::note) for each datagram, and [`read`](Silence::read) after the clock was read.
 #[derive(Clone, Copy)]
 pub(crate) struct Silence {
     /// Whether a datagram came since the clock was read.
     has_heard: bool,
     /// Whether one ever came.
     ever: bool,
-    /// The first moment that was read after a datagram came last, or at which the network began.
+    /// The first moment that was read after the last datagram came, or the one at which the network started.
     heard: Duration,
     /// Whether it was said that nothing came.
     is_said: bool,
 }
 
 impl Silence {
-    /// At the moment at which a network begins.
+    /// Returns the state at the moment at which a network starts.
     pub(crate) fn from(now: Duration) -> Silence {
         Silence {
             has_heard: false,
@@ -30,13 +31,13 @@ impl Silence {
         }
     }
 
-    /// A datagram came.
+    /// Notes that a datagram came.
     pub(crate) fn note(&mut self) {
         self.has_heard = true;
         self.ever = true;
     }
 
-    /// The clock is read. Whether it is to be said now that nothing came for ten seconds.
+    /// Notes that the clock was read. Returns whether to say now that nothing came for ten seconds, which is so once for each silence.
     pub(crate) fn read(&mut self, now: Duration) -> bool {
         if self.has_heard {
             self.heard = now;
@@ -51,7 +52,7 @@ impl Silence {
         true
     }
 
-    /// A watermark expired. Whether it is to be said now that nothing ever came.
+    /// Notes that a watermark expired. Returns whether to say now that nothing ever came.
     pub(crate) fn expire(&mut self) -> bool {
         if self.ever || self.is_said {
             return false;

@@ -1,4 +1,4 @@
-//! A sink that is watched.
+//! A sink that is watched: [`WatchedSink`]. `normd` puts it around its output.
 
 ghost use Rattle.std.specs.Prelude.{◌≡◌};
 ghost use Rattle.norm_watch.specs.Watched.{watched_in};
@@ -13,12 +13,12 @@ use norm_base::{Failed, InstanceId, Sink};
 // No word that is counted stands after the eighth.
 const MOST_WORDS: usize = 8;
 
-/// The most octets of a line that are looked at: the words that are counted stand before contents.
+/// The most octets of a line that are looked at. The words that are counted come before its contents.
 // Our own choice: the words before contents are shorter, and a line may have megabytes behind them.
 const MOST_OCTETS: usize = 128;
 
-/// A sink, each line of which is counted once it was written. Who is to know of a sender's restarts is told of each as its line was written, which is
-/// before anything of the new instance is sent.
+/// A sink that passes each line on, and counts it after it was written, if progress is printed. It reports a sender's restart after its line was
+/// written, which is before anything of the new instance is sent.
 #[derive(Drop)]
 pub struct WatchedSink<'a, R, K, T> {
     rt: R,
@@ -29,7 +29,7 @@ pub struct WatchedSink<'a, R, K, T> {
     restarts: T,
 }
 
-/// The number that a word is, as far as it is one.
+/// Returns the number that a word spells. The result has no meaning if the word is no number.
 fn number_of(word: &[u8]) -> u64 {
     let mut number = 0u64;
     for digit in word {
@@ -40,7 +40,7 @@ fn number_of(word: &[u8]) -> u64 {
     number
 }
 
-/// The words of a line, or of its beginning.
+/// Returns the first words of a line. Those that it does not have are empty.
 fn words_of(line: &[u8]) -> [&[u8]; MOST_WORDS] {
     let mut words: [&[u8]; MOST_WORDS] = [b"".as_slice(); MOST_WORDS];
     let line = &line[..line.len().min(MOST_OCTETS)];
@@ -54,8 +54,8 @@ fn words_of(line: &[u8]) -> [&[u8]; MOST_WORDS] {
     words
 }
 
-/// Counts what was enqueued or handed up, by its kind and the two words behind it: an object whole, a stream as it opens, and a stream's octets as
-/// they come, whose number stands first where they were enqueued, and behind their offset where they were handed up.
+/// Counts what was enqueued or handed up, by its kind and the two words after it. An object counts whole, a stream as it opens, and a stream's octets
+/// as they come. Their number is the first word if they were enqueued, and the second, after their offset, if they were handed up.
 fn count_part(tally: &Tally, kind: &[u8], first: &[u8], second: &[u8]) {
     if kind == b"data".as_slice() || kind == b"file".as_slice() {
         tally.object();
@@ -70,7 +70,7 @@ fn count_part(tally: &Tally, kind: &[u8], first: &[u8], second: &[u8]) {
 }
 
 impl<'a, R: Eprint, K: Sink, T: Restarts> WatchedSink<'a, R, K, T> {
-    /// A sink around this one, which counts there, where progress is said, and tells this of restarts.
+    /// Returns a sink around this one. It counts in `tally` if progress is printed, and reports restarts to `restarts`.
     pub fn of(rt: R, sink: K, says: Says, tally: &'a Tally, restarts: T) -> WatchedSink<'a, R, K, T>
         ensures { watched_in result ≡ sink }
     {
@@ -84,12 +84,12 @@ impl<'a, R: Eprint, K: Sink, T: Restarts> WatchedSink<'a, R, K, T> {
         }
     }
 
-    /// The sink that is watched.
+    /// Returns the sink that is watched.
     pub fn watched(&self) -> &K {
         &self.sink
     }
 
-    /// Tells of a restart, if this is its line.
+    /// Reports a restart, if this is its line.
     fn tell(&mut self, line: &[u8])
         ensures { watched_in self.new ≡ watched_in self.old }
     {
@@ -100,7 +100,7 @@ impl<'a, R: Eprint, K: Sink, T: Restarts> WatchedSink<'a, R, K, T> {
     }
 }
 
-/// The instance with which a sender goes on, by the line of its restart. `None` of any other line.
+/// Returns the instance in which a sender goes on, by the line of its restart. `None` for any other line.
 fn restarted_in(line: &[u8]) -> Option<InstanceId> {
     if !line.starts_with(b"restart ") {
         return None;
@@ -112,7 +112,7 @@ fn restarted_in(line: &[u8]) -> Option<InstanceId> {
     }
 }
 
-/// Counts a line: what was enqueued or handed up, a watermark, a member that is listed or struck, an instance that begins.
+/// Counts a line: what was enqueued or handed up, a watermark that opens or is done, a member that is listed or struck, or a restart.
 fn count(tally: &Tally, listing: &mut Listing, line: &[u8]) {
     let words = words_of(line);
     let first = words[0];

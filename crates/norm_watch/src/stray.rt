@@ -1,4 +1,4 @@
-//! Datagrams that come to a receiver, and that its rules pass over.
+//! Datagrams that come to a receiver, and that its rules pass over: [`Strays`]. `WatchedFabric` asks about each datagram that a receiver takes.
 
 ghost use Rattle.std.specs.Prelude.{◌≡◌, Some};
 ghost use Rattle.norm_watch.specs.Following.{goes_to, names_index, followed, followed_by, is_older};
@@ -10,14 +10,14 @@ use norm_udp::{Heard, heard_in};
 use std::fmt;
 use std::time::Duration;
 
-/// How many seconds after a datagram that may be late another shows that it is not. Our own choice.
+/// After this many seconds a second datagram shows that the first was not just late. Our own choice.
 // A network that delays gives an old datagram for a moment, and a sender that is passed over sends on.
 const LATE: u64 = 1;
 
-/// Where the instance of a sender's datagram ends, which stands behind the sender's id (RFC 5740 section 4.2).
+/// The offset after the instance of a sender's datagram, which comes after the sender's id (RFC 5740 section 4.2).
 const INSTANCE_END: usize = INSTANCE_AT + 2;
 
-/// What is said of such datagrams.
+/// What to say of such datagrams.
 #[derive(Clone, Copy, Debug)]
 pub(crate) enum Stray {
     /// They are of the receiver's sender, in an instance that the receiver does not go back to.
@@ -54,10 +54,10 @@ impl fmt::Display for Stray {
     }
 }
 
-/// What is said once, after it was seen of the same number twice, with a second between: a network may be late.
+/// Something to say once, after the same number was seen twice, with a second between: a network may be late.
 #[derive(Clone, Copy)]
 struct Again {
-    /// The number of which it was seen.
+    /// The number that was seen.
     number: Option<u32>,
     /// When it was.
     since: Duration,
@@ -65,7 +65,7 @@ struct Again {
 }
 
 impl Again {
-    /// Nothing was seen yet.
+    /// Returns the state before anything was seen.
     fn new() -> Again {
         Again {
             number: None,
@@ -74,7 +74,7 @@ impl Again {
         }
     }
 
-    /// Notes that it is seen of a number at this moment. Whether it is to be said now. A second after one number was seen, another takes its place.
+    /// Notes that a number is seen at this moment. Returns whether to say so now. A number is kept for a second before another replaces it.
     fn see(&mut self, number: u32, now: Duration) -> bool {
         if self.is_said {
             return false;
@@ -94,7 +94,7 @@ impl Again {
     }
 }
 
-/// Whether a receiver in this instance goes on to that one.
+/// Whether a receiver that is in the instance `current` goes on to `instance`.
 fn goes_to(current: &Option<InstanceId>, instance: InstanceId) -> bool
     ensures { result ≡ goes_to current.now instance }
 {
@@ -104,7 +104,7 @@ fn goes_to(current: &Option<InstanceId>, instance: InstanceId) -> bool
     }
 }
 
-/// Whether a message names an object, as an instance begins with it.
+/// Whether a message names an object, to a receiver that knows only index 0, as at the beginning of an instance.
 fn names_index(profile: &Profile, object: Option<u16>) -> bool
     ensures { result ≡ names_index profile.now object }
 {
@@ -114,7 +114,7 @@ fn names_index(profile: &Profile, object: Option<u16>) -> bool
     }
 }
 
-/// The instance that a receiver is in after a message of its sender.
+/// Returns the instance that a receiver is in after a message of its sender.
 fn followed(profile: &Profile, current: &Option<InstanceId>, heard: &Heard) -> Option<InstanceId>
     ensures { result ≡ followed profile.now current.now heard.now }
 {
@@ -134,14 +134,15 @@ fn is_older(current: &Option<InstanceId>, instance: InstanceId) -> bool
     }
 }
 
-/// Whether a datagram has the profile's sender and this instance, if it is a sender's.
+/// Whether a datagram, if it is a sender's, is of the profile's sender and of this instance.
 fn is_from(profile: &Profile, instance: &InstanceId, octets: &[u8]) -> bool {
     octets.len() >= INSTANCE_END
         && read_32(octets, SOURCE_AT) == profile.sender
         && read_16(octets, INSTANCE_AT) == instance.0
 }
 
-/// What a receiver alone takes: the instance that it is in by that, and what its rules pass over.
+/// Which instance a receiver alone is in, by what it takes, and what its rules pass over. Call [`unusual`](Strays::unusual) for each datagram that is
+/// taken, and [`hear`](Strays::hear) for what it returns.
 #[derive(Drop)]
 pub(crate) struct Strays {
     profile: Profile,
@@ -151,7 +152,7 @@ pub(crate) struct Strays {
 }
 
 impl Strays {
-    /// That of these members. `None` unless they are one receiver alone.
+    /// Returns the state of these members, if they are one receiver alone.
     pub(crate) fn of(profile: &Profile, local: &Local) -> Option<Strays> {
         match local {
             Local::One(node) if node.number() != profile.sender => Some(Strays {
@@ -164,7 +165,7 @@ impl Strays {
         }
     }
 
-    /// Whether a datagram is of the sender and instance that the receiver follows, as most are: no message has to be read for that.
+    /// Whether a datagram is of the sender and instance that the receiver follows, as most are. Reads no message for that.
     fn is_usual(&self, octets: &[u8]) -> bool {
         match &self.current {
             Some(current) => is_from(&self.profile, current, octets),
@@ -172,7 +173,7 @@ impl Strays {
         }
     }
 
-    /// What a datagram says of its sender, unless that is what the receiver follows, or it is no sender's.
+    /// Returns what a datagram says of its sender. `None` if that is what the receiver follows, or if the datagram is no sender's.
     pub(crate) fn unusual(&self, octets: &[u8]) -> Option<Heard> {
         if self.is_usual(octets) {
             return None;
@@ -180,7 +181,7 @@ impl Strays {
         heard_in(octets)
     }
 
-    /// Notes what the receiver's sender says.
+    /// Notes what the receiver's sender says. Returns what to say of it, if anything.
     fn hear_own(&mut self, heard: &Heard, now: Duration) -> Option<Stray>
         ensures { self.new.current ≡ followed self.old.profile self.old.current heard.now }
     {
@@ -200,7 +201,7 @@ impl Strays {
         }
     }
 
-    /// Notes what another sender says.
+    /// Notes what another sender says. Returns what to say of it, if anything.
     fn hear_other(&mut self, heard: &Heard, now: Duration) -> Option<Stray>
         ensures { self.new.current ≡ self.old.current }
     {
@@ -213,7 +214,7 @@ impl Strays {
         })
     }
 
-    /// Notes what a datagram says that was taken at this moment. What is to be said of it, if anything.
+    /// Notes what a datagram says that was taken at this moment. Returns what to say of it, if anything.
     pub(crate) fn hear(&mut self, heard: &Heard, now: Duration) -> Option<Stray>
         ensures { self.new.current ≡ followed_by self.old.profile self.old.current (Some heard.now) }
     {

@@ -1,9 +1,10 @@
-//! What went by, counted.
+//! What the watched sink and the watched network count: [`Tally`].
 
 use std::cell::Cell;
 
-/// What the sink and the network of a node count together: octets and objects of the lines, a stream as one object, repairs of the datagrams, and
-/// of the members that are listed how many are past the oldest open watermark; whether a watermark expired, and whether a line of progress is drawn.
+/// What the sink and the network of a node count together: octets and objects by the lines (a stream is one object), repairs by the
+/// datagrams, and how many of the listed members are past the oldest open watermark. Lend it to `WatchedFabric::of` and
+/// `WatchedSink::of`, and then to `end_progress`.
 // Cells, because the sink and the network both count here, and each holds it by a shared loan.
 #[derive(Drop)]
 pub struct Tally {
@@ -13,12 +14,12 @@ pub struct Tally {
     pub(crate) past: Cell<u64>,
     /// Whether a watermark expired.
     pub(crate) has_expired: Cell<bool>,
-    /// Whether a line of progress stands on standard error, and nothing behind it.
+    /// Whether a line of progress stands on standard error, with nothing after it.
     pub(crate) is_drawn: Cell<bool>,
 }
 
 impl Tally {
-    /// Nothing went by.
+    /// Returns a tally in which nothing is counted.
     pub fn new() -> Tally {
         Tally {
             octets: Cell::new(0),
@@ -30,17 +31,17 @@ impl Tally {
         }
     }
 
-    /// An object; its octets are counted beside it.
+    /// Counts an object, without its octets.
     pub(crate) fn object(&self) {
         self.objects.set(self.objects.get().saturating_add(1));
     }
 
-    /// So many octets of an object.
+    /// Counts this many octets of an object.
     pub(crate) fn octets(&self, octets: u64) {
         self.octets.set(self.octets.get().saturating_add(octets));
     }
 
-    /// A datagram that repairs.
+    /// Counts a datagram that repairs.
     pub(crate) fn repair(&self) {
         self.repairs.set(self.repairs.get().saturating_add(1));
     }

@@ -1,4 +1,5 @@
-//! normd: a reliable multicast sender and receiver after NORM (RFC 5740). All that it does stands in `norm_program`.
+//! normd: a reliable multicast sender and receiver after NORM (RFC 5740). [`main`] makes the objects of the process, numbers a send (`numbering`),
+//! and runs `norm_program` on them, which does all the rest.
 #![tactic(auto)]
 
 mod numbering;
@@ -16,12 +17,12 @@ use std::sync::Wait;
 use std::thread::Threads;
 use std::time::Clock;
 
-/// Octets of the block that is freed at the start: some objects of 1 MiB.
+/// Octets of the block that is freed at the start: eight objects of 1 MiB.
 // Our own choice. The C library raises its bound for no block above 32 MiB, so a greater one than that would change nothing.
 const FREED_FIRST: usize = 8 << 20;
 
-/// Has memory that is freed kept for what comes next. The C library gives it back to the system above a bound that grows with the greatest
-/// block that was freed; at first that is so low that each object of 1 MiB would be made of new pages.
+/// Has the C library keep memory that is freed for what comes next. It gives memory back to the system above a bound that grows with the greatest
+/// block that was freed. At first that is so low that each object of 1 MiB would be made of new pages.
 fn keep_what_is_freed(alloc: Global) -> Result<(), Memory> {
     let block: Vec<u8> = Vec::with_capacity(alloc, FREED_FIRST)?;
     drop(block);
@@ -42,7 +43,7 @@ fn tell(
     Ok(())
 }
 
-/// Numbers a send, where the words were read and ask for one.
+/// Numbers a send, if the words were read and ask for one. Returns what [`number`] does.
 fn numbered(
     rt: HostRuntime,
     alloc: Global,
@@ -66,7 +67,7 @@ fn sends_much(words: &Result<Vec<String>, WordsFault>) -> bool {
     }
 }
 
-/// The network of the process, with threads that send where the words ask for a node that sends much. Where none can be made it sends by itself.
+/// Returns the network of the process. If the words ask for a node that sends much, threads send for it, if they can be made.
 fn network<R: Net + Threads + Wait + Clock + Copy + Send + Drop + 'static>(
     rt: R,
     alloc: Global,
@@ -80,8 +81,7 @@ fn network<R: Net + Threads + Wait + Clock + Copy + Send + Drop + 'static>(
     Ok(fabric)
 }
 
-/// Makes the real objects, and runs the program on them. Its files are those of the folder that it runs in, and each profile that it is
-/// given the path of.
+/// Makes the real objects, and runs the program on them. Its files are those of the folder that it runs in, and each profile whose path it is given.
 fn main(rt: HostRuntime) -> ExitCode {
     let alloc = rt.alloc();
     if let Err(code) = needed(&rt, keep_what_is_freed(alloc)) {

@@ -1,5 +1,5 @@
-//! The instance of a send: where neither its words nor its profile give one, it is drawn above each that this user's earlier sends took, and put into the
-//! words. One that is given is kept, so that later sends lie above it.
+//! The instance of a send. [`number`], which `main` calls before the program runs, keeps one that the words or the profile give, so that later sends
+//! lie above it. If none is given, it draws one above each that this user's earlier sends took, and puts it into the words.
 
 use norm_args::{NodeTask, node_task_of};
 use norm_base::{InstanceId, Memory, Profile};
@@ -10,7 +10,7 @@ use std::alloc::Global;
 use std::io;
 use std::time::Clock;
 
-/// Where the numbers of one sender are kept.
+/// The file that keeps the numbers of one sender.
 #[derive(Drop)]
 pub(crate) struct Numbers {
     rt: HostRuntime,
@@ -19,7 +19,7 @@ pub(crate) struct Numbers {
 }
 
 impl Numbers {
-    /// Those of the sender of a profile. `None` if there is no folder to keep them in.
+    /// Returns the numbers of a profile's sender. `None` if there is no folder to keep them in.
     fn of(rt: HostRuntime, alloc: Global, profile: &Profile) -> Result<Option<Numbers>, Memory> {
         let Some(folder) = state_folder(&rt)? else {
             return Ok(None);
@@ -31,7 +31,7 @@ impl Numbers {
         }))
     }
 
-    /// Keeps an instance that was given. One that does not lie above the last one is used all the same, and standard error warns. So is one that cannot
+    /// Keeps an instance that was given. If it does not lie above the last one, standard error warns. The send uses it in any case, also if it cannot
     /// be kept: whoever gives instances sees to it that they rise.
     fn keep(&self, instance: InstanceId) {
         // A given instance is used in any case: whoever gives it may have started all receivers anew.
@@ -51,7 +51,7 @@ impl Numbers {
         self.file.draw(minute_at(now))
     }
 
-    /// What to say if none could be taken.
+    /// Returns what to say if none could be taken.
     fn into_fault(self, error: io::Error) -> InstanceFault {
         self.file.into_fault(error)
     }
@@ -70,7 +70,7 @@ struct Asked {
     instance: Option<u32>,
 }
 
-/// What the words ask, if they ask for a send.
+/// Returns what the words ask for, if it is a send.
 fn asked_by(alloc: Global, words: &[String]) -> Result<Option<Asked>, Memory> {
     match node_task_of(alloc, words)? {
         Some(NodeTask::Send { profile, instance }) => Ok(Some(Asked {
@@ -81,7 +81,7 @@ fn asked_by(alloc: Global, words: &[String]) -> Result<Option<Asked>, Memory> {
     }
 }
 
-/// What the profile at a path is. `None` if it cannot be loaded, which the program says where it loads it.
+/// Loads the profile at a path. `None` if it cannot be loaded, which the program says when it loads it.
 fn document_at(rt: HostRuntime, alloc: Global, path: &str) -> Result<Option<Document>, Memory> {
     let mut files = FolderFiles::of(alloc, rt, ".")?;
     files.tell(path)?;
@@ -93,7 +93,7 @@ fn document_at(rt: HostRuntime, alloc: Global, path: &str) -> Result<Option<Docu
     }
 }
 
-/// Puts an instance into the words, behind the first.
+/// Puts an instance into the words, after the first.
 fn put(alloc: Global, words: &mut Vec<String>, instance: InstanceId) -> Result<(), Memory> {
     let instance = instance.0;
     // Into the words, as if a person had given it: so the program's one function has the instance in its words, and no clause knows of drawn ones.
@@ -104,7 +104,7 @@ fn put(alloc: Global, words: &mut Vec<String>, instance: InstanceId) -> Result<(
     Ok(())
 }
 
-/// Keeps the instance that the words or the profile give, if there is a place for it.
+/// Keeps the instance that the words or the profile give, if it has 16 bits and there is a file for it.
 fn keep_given(numbers: &Option<Numbers>, given: u32) {
     let Ok(instance) = u16::try_from(given) else {
         return;
@@ -114,7 +114,7 @@ fn keep_given(numbers: &Option<Numbers>, given: u32) {
     }
 }
 
-/// Draws an instance and puts it into the words. If none can be drawn the files are stopped, so that nothing is sent.
+/// Draws an instance and puts it into the words. If none can be drawn, it stops the files, so that nothing is sent.
 fn draw(
     alloc: Global,
     numbers: Option<Numbers>,
@@ -138,11 +138,11 @@ fn draw(
 }
 
 /// Numbers a send, if the words ask for one whose profile can be loaded: keeps the instance that the words or the profile give, or else draws one and
-/// puts it into the words. Answers where the instances of its restarts are kept.
+/// puts it into the words. Returns the file that is to keep the instances of its restarts.
 ///
 /// # Errors
 ///
-/// `Memory` where memory runs out.
+/// `Memory` if memory runs out.
 pub(crate) fn number(
     rt: HostRuntime,
     alloc: Global,
