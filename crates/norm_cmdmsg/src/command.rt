@@ -1,4 +1,4 @@
-//! What a command says.
+//! The commands of a sender as values, and which of them can be written.
 
 ghost use Rattle.std.specs.Prelude.{◌≡◌, ◌*◌, ◌≤◌, ◌↔◌, ◌%◌, ◌⊎◌, IsTrue, [], length};
 ghost use Rattle.norm_ext.specs.Requests.{IsRequests};
@@ -11,30 +11,30 @@ use norm_ext::fitting::{are_requests, has_room, is_narrow};
 use norm_ext::places::{COMMAND, COMMAND_WORDS, NAMING, NODE, OBJECT, SUB_TYPE_AT, WORD};
 use norm_ext::{CmdHead, SubType};
 
-/// The octets before the rest of a command that is not read.
+/// The octets before the `rest` of a command that is kept unread.
 // The common header and the fields of each command up to its sub-type (RFC 5740 section 4.2.3).
 pub(crate) const BEFORE_REST: usize = SUB_TYPE_AT + 1;
 
-/// A command. Its parts are lent from the datagram.
+/// A command. Its slices borrow from the datagram.
 #[derive(Clone, Copy, Debug, PartialEq, Eq)]
 pub enum CommandMsg<'a> {
-    /// All was sent up to a symbol, and these nodes are asked to acknowledge it.
+    /// The sender sent everything up to this symbol, and these nodes should acknowledge it.
     Flush {
         head: CmdHead,
         /// The object transport id.
         object: u16,
         id: PayloadId,
-        /// The header extensions, whole words.
+        /// The header extensions, in whole words.
         exts: &'a [u8],
-        /// Node ids of 32 bits.
+        /// Node ids of 32 bits. If the command was read, some may still be no members.
         nodes: &'a [u8],
     },
-    /// The transmission ends.
+    /// The sender's transmission ends.
     Eot {
         head: CmdHead,
         exts: &'a [u8],
     },
-    /// What stands before a symbol is not repaired any more, nor are these objects.
+    /// The sender no longer repairs anything before this symbol, nor these objects.
     Squelch {
         head: CmdHead,
         object: u16,
@@ -43,7 +43,7 @@ pub enum CommandMsg<'a> {
         /// Object transport ids of 16 bits.
         invalid: &'a [u8],
     },
-    /// The sender heard these requests.
+    /// The sender already received these requests.
     RepairAdv {
         head: CmdHead,
         flags: u8,
@@ -51,7 +51,7 @@ pub enum CommandMsg<'a> {
         /// A list of whole requests.
         requests: &'a [u8],
     },
-    /// These nodes are asked for an acknowledgement.
+    /// These nodes should send an acknowledgement of this type and id.
     AckReq {
         head: CmdHead,
         ack_type: u8,
@@ -59,26 +59,26 @@ pub enum CommandMsg<'a> {
         exts: &'a [u8],
         nodes: &'a [u8],
     },
-    /// Congestion control or an application's command, which is not read.
+    /// A command for congestion control, or one of an application. Its content is kept unread.
     Opaque {
         head: CmdHead,
-        /// 4 or 7.
+        /// 4 for congestion control, 7 for an application.
         sub_type: u8,
-        /// The header's length in words.
+        /// The length of the header in words.
         words: u8,
-        /// All octets behind the sub-type.
+        /// All octets after the sub-type.
         rest: &'a [u8],
     },
 }
 
-/// Whether the back-off factor and the group's size have four bits each.
+/// Whether the back-off factor and the group size fit into four bits each.
 fn head_fits(head: &CmdHead) -> bool
     ensures { IsTrue result ↔ IsNarrow head.now }
 {
     is_narrow(head.backoff, head.gsize)
 }
 
-/// Whether the extensions and the content have room behind so many octets of fixed fields.
+/// Whether extensions and content have room after `fixed` octets of fixed fields.
 fn parts_fit(fixed: usize, exts: &[u8], content: &[u8]) -> bool
     requires { fixed ≤ word_size * most_header_words }
     ensures { IsTrue result ↔ HasRoom fixed exts.now content.now }
@@ -86,7 +86,7 @@ fn parts_fit(fixed: usize, exts: &[u8], content: &[u8]) -> bool
     has_room(fixed, exts, content.len())
 }
 
-/// Whether a command that is not read has such a sub-type, and a header that its octets have.
+/// Whether an unread command has sub-type 4 or 7, has a whole header of `words` words, and fits into a datagram.
 fn unread_fits(sub_type: u8, words: u8, rest: &[u8]) -> bool
     ensures { IsTrue result ↔ IsUnread sub_type words rest.now }
 {
@@ -100,10 +100,11 @@ fn unread_fits(sub_type: u8, words: u8, rest: &[u8]) -> bool
 }
 
 impl<'a> CommandMsg<'a> {
-    /// Whether it can be written: its extensions are whole, its header has at most 255 words, the whole at most 1,500
-    /// octets, `backoff` and `gsize` are below 16, a list of node ids is a multiple of four octets and one of object ids
-    /// of two, requests are whole, and a command that is not read has sub-type 4 or 7 and at least the header that
-    /// `words` says.
+    /// Whether [`write_command`](crate::write_command) can write it:
+    /// - `backoff` and `gsize` are below 16;
+    /// - its extensions and requests are whole, its node ids have four octets each and its object ids two;
+    /// - its header has at most 255 words, and the datagram at most 1,500 octets;
+    /// - if it is kept unread, it has sub-type 4 or 7, and at least the header that `words` says, of four words or more.
     pub fn fits(&self) -> bool
         ensures { IsTrue result ↔ CanWrite self.now }
     {

@@ -1,5 +1,5 @@
-//! The commands of a sender (RFC 5740 section 4.2.3): read and written by the grammar of `norm_ext`. `read_command`
-//! gives a `CommandMsg`, whose parts are lent from the datagram.
+//! The commands of a sender (RFC 5740 section 4.2.3). [`read_command`] reads octets as a [`CommandMsg`], which borrows from them, and
+//! [`write_command`] writes one. A sender writes its FLUSH and SQUELCH with this crate; `norm_codec` reads and writes all commands with it.
 #![tactic(auto)]
 
 mod command;

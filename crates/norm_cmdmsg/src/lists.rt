@@ -1,4 +1,4 @@
-//! Lists of numbers: node ids of 32 bits, object transport ids of 16.
+//! Iterators over lists of numbers in commands: node ids of 32 bits, and object transport ids of 16 bits.
 
 ghost use Rattle.std.specs.Prelude.{◌≡◌, ◌==◌, ◌%◌, [], ◌∷◌, MatchOption, length};
 ghost use Rattle.std.specs.List.{list_any};
@@ -10,7 +10,7 @@ use norm_ext::places::{NODE, OBJECT};
 use norm_ext::{read_16, read_32};
 use std::marker::Model;
 
-/// The node ids of a list that are left, in their order.
+/// Iterates over the node ids of a list. They are numbers, since some may be no members.
 // Whole numbers: the walk takes four octets at a time, and a rest would not have them.
 #[derive(Debug, Drop)]
 pub struct Nodes<'a> {
@@ -29,7 +29,7 @@ impl<'a> Model for Nodes<'a> {
     ghost invariant = { λ n. length n.list.now % node_size ≡ 0 };
 }
 
-/// The node ids of a list whose length is a multiple of 4.
+/// Returns an iterator over a list of node ids, whose length is a multiple of 4.
 pub fn nodes_of(list: &[u8]) -> Nodes<'_>
     requires { length list.now % node_size ≡ 0 }
     ensures { result ≡ all_nodes list.now }
@@ -37,7 +37,7 @@ pub fn nodes_of(list: &[u8]) -> Nodes<'_>
     Nodes { list }
 }
 
-/// Whether a list of node ids, whose length is a multiple of 4, has this one.
+/// Whether a list of node ids names this node. A receiver asks this to see if a FLUSH is for it.
 pub fn names(list: &[u8], node: NodeId) -> bool
     requires { length list.now % node_size ≡ 0 }
     ensures { result ≡ list_any (λ n. n == node) (all_nodes list.now) }
@@ -51,7 +51,7 @@ pub fn names(list: &[u8], node: NodeId) -> bool
     false
 }
 
-/// The first node id of a list, and the list behind it.
+/// Splits off the first node id. Returns `None` if the list is empty.
 fn cut_node(list: &[u8]) -> Option<(u32, &[u8])>
     requires { length list.now % node_size ≡ 0 }
     ensures { MatchOption result
@@ -74,7 +74,7 @@ impl<'a> Iterator for Nodes<'a> {
 
     ghost next_gives = { λ old given new. (given ≡ slice_get old 0) × (new ≡ drop 1 old) };
 
-    /// The next node id.
+    /// Returns the next node id.
     fn next(&mut self) -> Option<u32> {
         let (node, rest) = cut_node(self.list)?;
         self.list = rest;
@@ -82,7 +82,7 @@ impl<'a> Iterator for Nodes<'a> {
     }
 }
 
-/// The object transport ids of a list that are left, in their order.
+/// Iterates over the object transport ids of a list.
 // Whole numbers, as for `Nodes`.
 #[derive(Debug, Drop)]
 pub struct Objects<'a> {
@@ -101,7 +101,7 @@ impl<'a> Model for Objects<'a> {
     ghost invariant = { λ n. length n.list.now % object_size ≡ 0 };
 }
 
-/// The object transport ids of a list whose length is a multiple of 2.
+/// Returns an iterator over a list of object transport ids, whose length is a multiple of 2.
 pub fn objects_of(list: &[u8]) -> Objects<'_>
     requires { length list.now % object_size ≡ 0 }
     ensures { result ≡ all_objects list.now }
@@ -109,7 +109,7 @@ pub fn objects_of(list: &[u8]) -> Objects<'_>
     Objects { list }
 }
 
-/// The first object transport id of a list, and the list behind it.
+/// Splits off the first object transport id. Returns `None` if the list is empty.
 fn cut_object(list: &[u8]) -> Option<(u16, &[u8])>
     requires { length list.now % object_size ≡ 0 }
     ensures { MatchOption result
@@ -132,7 +132,7 @@ impl<'a> Iterator for Objects<'a> {
 
     ghost next_gives = { λ old given new. (given ≡ slice_get old 0) × (new ≡ drop 1 old) };
 
-    /// The next object transport id.
+    /// Returns the next object transport id.
     fn next(&mut self) -> Option<u16> {
         let (object, rest) = cut_object(self.list)?;
         self.list = rest;

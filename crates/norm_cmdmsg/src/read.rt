@@ -1,4 +1,4 @@
-//! Reading of commands (RFC 5740 section 4.2.3).
+//! Reads commands (RFC 5740 section 4.2.3). The header is checked first, then the sub-type; each sub-type has its own reader.
 
 ghost use Rattle.std.specs.Prelude.{◌≡◌, ◌+◌, ◌*◌, ◌≤◌, ◌<◌, Ok, Err, MatchResult, IfOk, length};
 ghost use Rattle.norm_ext.specs.Places.{word_size, sub_type_at, command_header, naming_header};
@@ -17,7 +17,7 @@ use norm_ext::places::{
 };
 use norm_ext::{MessageType, Refusal, SubType, check_requests, read_16, read_name};
 
-/// The command of these octets, of which the header's `end` octets are there.
+/// Reads a FLUSH whose header has `end` octets. The list of nodes follows the header.
 #[tactic(auto, unfolding(norm_ext::specs::Reading::flush_read))]
 fn read_flush(bytes: &[u8], end: usize) -> Result<CommandMsg<'_>, Refusal>
     requires end { end ≡ word_size * words_of bytes.now }
@@ -40,7 +40,7 @@ fn read_flush(bytes: &[u8], end: usize) -> Result<CommandMsg<'_>, Refusal>
     })
 }
 
-/// The command of these octets, of which the header's `end` octets are there.
+/// Reads an EOT whose header has `end` octets. `BadList` if anything follows the header.
 #[tactic(auto, unfolding(norm_ext::specs::Reading::eot_read))]
 fn read_eot(bytes: &[u8], end: usize) -> Result<CommandMsg<'_>, Refusal>
     requires end { end ≡ word_size * words_of bytes.now }
@@ -61,7 +61,7 @@ fn read_eot(bytes: &[u8], end: usize) -> Result<CommandMsg<'_>, Refusal>
     })
 }
 
-/// The command of these octets, of which the header's `end` octets are there.
+/// Reads a SQUELCH whose header has `end` octets. The list of objects follows the header.
 #[tactic(auto, unfolding(norm_ext::specs::Reading::squelch_read))]
 fn read_squelch(bytes: &[u8], end: usize) -> Result<CommandMsg<'_>, Refusal>
     requires end { end ≡ word_size * words_of bytes.now }
@@ -84,7 +84,7 @@ fn read_squelch(bytes: &[u8], end: usize) -> Result<CommandMsg<'_>, Refusal>
     })
 }
 
-/// The command of these octets, of which the header's `end` octets are there.
+/// Reads a REPAIR_ADV whose header has `end` octets. The list of requests follows the header.
 #[tactic(auto, unfolding(norm_ext::specs::Reading::repair_adv_read))]
 fn read_repair_adv(bytes: &[u8], end: usize) -> Result<CommandMsg<'_>, Refusal>
     requires end { end ≡ word_size * words_of bytes.now }
@@ -105,7 +105,7 @@ fn read_repair_adv(bytes: &[u8], end: usize) -> Result<CommandMsg<'_>, Refusal>
     })
 }
 
-/// The command of these octets, of which the header's `end` octets are there.
+/// Reads an ACK_REQ whose header has `end` octets. The list of nodes follows the header.
 #[tactic(auto, unfolding(norm_ext::specs::Reading::ack_req_read))]
 fn read_ack_req(bytes: &[u8], end: usize) -> Result<CommandMsg<'_>, Refusal>
     requires end { end ≡ word_size * words_of bytes.now }
@@ -127,7 +127,7 @@ fn read_ack_req(bytes: &[u8], end: usize) -> Result<CommandMsg<'_>, Refusal>
     })
 }
 
-/// The command of these octets, which is not read.
+/// Reads a command whose content is kept unread. Refuses it only if its source is no member.
 #[tactic(auto, unfolding(norm_ext::specs::Reading::opaque_read))]
 fn read_opaque(bytes: &[u8]) -> Result<CommandMsg<'_>, Refusal>
     requires { command_header ≤ length bytes.now }
@@ -143,7 +143,7 @@ fn read_opaque(bytes: &[u8]) -> Result<CommandMsg<'_>, Refusal>
     })
 }
 
-/// The sub-type of a command.
+/// Returns the sub-type, or `SubType` if it is not 1 to 7.
 fn known_sub_type(bytes: &[u8]) -> Result<SubType, Refusal>
     requires { command_header ≤ length bytes.now }
     ensures exact { result ≡ sub_type_in bytes.now }
@@ -156,7 +156,7 @@ fn known_sub_type(bytes: &[u8]) -> Result<SubType, Refusal>
     }
 }
 
-/// The command of this sub-type.
+/// Reads a command of this sub-type, whose header has `end` octets.
 fn read_by(sub_type: SubType, bytes: &[u8], end: usize) -> Result<CommandMsg<'_>, Refusal>
     requires end { end ≡ word_size * words_of bytes.now }
     requires least { word_size * least_words MessageType.Command bytes.now ≤ end }
@@ -176,7 +176,11 @@ fn read_by(sub_type: SubType, bytes: &[u8], end: usize) -> Result<CommandMsg<'_>
     }
 }
 
-/// The command that the octets spell, or the first refusal.
+/// Reads a command. It takes no memory: the result borrows from the octets.
+///
+/// # Errors
+///
+/// If the octets spell no command, the first refusal that applies, in the order of [`Refusal`].
 #[tactic(auto, unfolding(norm_ext::specs::Reading::command_read))]
 pub fn read_command(bytes: &[u8]) -> Result<CommandMsg<'_>, Refusal>
     ensures exact { MatchResult result (λ m. command_read bytes.now ≡ Ok (command_of m)) (λ refusal. command_read bytes.now ≡ Err refusal) }

@@ -1,4 +1,4 @@
-//! Writing of commands (RFC 5740 section 4.2.3).
+//! Writes commands (RFC 5740 section 4.2.3).
 
 ghost use Rattle.std.specs.Prelude.{◌≡◌, ◌+◌, ◌≤◌, ◌<◌, ◌%◌, ◌++◌, [], length};
 ghost use Rattle.norm_base.specs.Sizes.{datagram_room};
@@ -22,7 +22,7 @@ use norm_ext::places::{COMMAND_WORDS, NAMING_WORDS, WORD};
 use norm_ext::pushing::{push_16, push_command_head, push_front, push_name};
 use norm_ext::{CmdHead, MessageType, SubType};
 
-/// Writes the common header and the fields that a command begins with.
+/// Writes the common header and the fields at the beginning of a command. `words` is the length of the whole header.
 fn push_head(head: &CmdHead, words: u8, sub_type: u8, out: &mut Datagram)
     requires empty { out.old ≡ [] }
     requires head { IsNarrow head.now }
@@ -38,7 +38,7 @@ fn push_head(head: &CmdHead, words: u8, sub_type: u8, out: &mut Datagram)
     push_command_head(head, sub_type, out);
 }
 
-/// Adds the FEC Encoding ID, an object and a symbol of it.
+/// Appends the FEC Encoding ID, the object and the symbol's name: seven octets.
 fn push_symbol(object: u16, id: &PayloadId, out: &mut Datagram)
     requires { length out.old + 7 ≤ datagram_room }
     ensures { out.new ≡ out.old ++ symbol_octets object id.now }
@@ -48,7 +48,6 @@ fn push_symbol(object: u16, id: &PayloadId, out: &mut Datagram)
     push_name(id, out);
 }
 
-/// Writes a FLUSH.
 fn write_flush(
     head: &CmdHead,
     object: u16,
@@ -70,7 +69,7 @@ fn write_flush(
     out.push(nodes);
 }
 
-/// Writes an EOT.
+/// Writes an EOT. Its three reserved octets are 0.
 fn write_eot(head: &CmdHead, exts: &[u8], out: &mut Datagram)
     requires empty { out.old ≡ [] }
     requires head { IsNarrow head.now }
@@ -83,7 +82,6 @@ fn write_eot(head: &CmdHead, exts: &[u8], out: &mut Datagram)
     out.push(exts);
 }
 
-/// Writes a SQUELCH.
 fn write_squelch(
     head: &CmdHead,
     object: u16,
@@ -105,7 +103,6 @@ fn write_squelch(
     out.push(invalid);
 }
 
-/// Writes a REPAIR_ADV.
 fn write_repair_adv(head: &CmdHead, flags: u8, exts: &[u8], requests: &[u8], out: &mut Datagram)
     requires empty { out.old ≡ [] }
     requires head { IsNarrow head.now }
@@ -120,7 +117,6 @@ fn write_repair_adv(head: &CmdHead, flags: u8, exts: &[u8], requests: &[u8], out
     out.push(requests);
 }
 
-/// Writes an ACK_REQ.
 fn write_ack_req(
     head: &CmdHead,
     ack_type: u8,
@@ -142,7 +138,7 @@ fn write_ack_req(
     out.push(nodes);
 }
 
-/// Writes a command that is not read.
+/// Writes a command whose content was kept unread.
 fn write_opaque(head: &CmdHead, sub_type: u8, words: u8, rest: &[u8], out: &mut Datagram)
     requires empty { out.old ≡ [] }
     requires head { IsNarrow head.now }
@@ -153,7 +149,7 @@ fn write_opaque(head: &CmdHead, sub_type: u8, words: u8, rest: &[u8], out: &mut 
     out.push(rest);
 }
 
-/// Writes the command into the empty datagram: the octets that spell it, with zeros in the reserved places.
+/// Writes a command into an empty datagram. Reserved octets are 0. Ask [`fits`](CommandMsg::fits) first if it may not fit.
 pub fn write_command(msg: &CommandMsg<'_>, out: &mut Datagram)
     requires empty { out.old ≡ [] }
     requires message { CanWrite msg.now }

@@ -1,5 +1,5 @@
-//! One reader and one writer for every message of NORM (RFC 5740 section 4). `decode` says which message octets
-//! spell, or the first thing that is wrong with them; `encode` writes a message.
+//! Reads and writes any NORM message (RFC 5740 section 4). [`decode`] returns the [`Message`] that octets spell, or the first thing that is wrong
+//! with them. [`encode`] writes a message. Senders, receivers, `norm_udp` and `norm_show` read each datagram with [`decode`].
 #![tactic(auto)]
 
 mod message;

@@ -1,4 +1,4 @@
-//! A message of any type.
+//! A message of any type as a value, and which messages can be written.
 
 ghost use Rattle.std.specs.Prelude.{◌≡◌, ◌↔◌, IsTrue, length};
 ghost use Rattle.norm_codec.specs.CanEncode.{CanEncode, IsReport};
@@ -9,7 +9,7 @@ use norm_ext::places::{COMMON, COMMON_WORDS, WORD};
 use norm_fbmsg::{AckMsg, NackMsg};
 use norm_objmsg::grammar::{DataMsg, InfoMsg};
 
-/// A message. Its parts are lent from the datagram.
+/// A message. Its slices borrow from the datagram.
 #[derive(Clone, Copy, Debug, PartialEq, Eq)]
 pub enum Message<'a> {
     Info(InfoMsg<'a>),
@@ -17,19 +17,19 @@ pub enum Message<'a> {
     Command(CommandMsg<'a>),
     Nack(NackMsg<'a>),
     Ack(AckMsg<'a>),
-    /// A report, which is not read.
+    /// A report. Its content is kept unread.
     // RFC 5740 section 4.4.1 leaves the content to the implementation.
     Report {
         source: NodeId,
         sequence: u16,
-        /// The header's length in words.
+        /// The length of the header in words.
         words: u8,
-        /// All octets behind the common header.
+        /// All octets after the common header.
         rest: &'a [u8],
     },
 }
 
-/// Whether a report has the header that `words` says, and room.
+/// Whether a report has a whole header of `words` words, at least two, and fits into a datagram.
 fn report_fits(words: u8, rest: &[u8]) -> bool
     ensures { IsTrue result ↔ IsReport words rest.now }
 {
@@ -38,8 +38,8 @@ fn report_fits(words: u8, rest: &[u8]) -> bool
 }
 
 impl<'a> Message<'a> {
-    /// Whether `encode` can write it: the condition of its own message's write, and of a report that `words` is at least
-    /// 2, that it has so many words, and that the whole has at most 1,500 octets.
+    /// Whether [`encode`](crate::encode) can write it. A report needs a header of at least two words, all words that `words` says, and at most 1,500
+    /// octets; for any other message, its own `fits` decides.
     pub fn fits(&self) -> bool
         ensures { IsTrue result ↔ CanEncode self.now }
     {

@@ -1,4 +1,4 @@
-//! Reading of any message.
+//! Reads messages of any type.
 
 ghost use Rattle.std.specs.Prelude.{◌≡◌, ◌≤◌, Ok, Err, MatchResult, IfOk, IfErr, length};
 ghost use Rattle.norm_ext.specs.Places.{common};
@@ -16,7 +16,7 @@ use norm_ext::{MessageType, Refusal, read_16};
 use norm_fbmsg::{read_ack, read_nack};
 use norm_objmsg::grammar::{read_data, read_info};
 
-/// The report that the octets spell, or the first refusal.
+/// Reads a report, or returns the first refusal that applies.
 #[tactic(auto, unfolding(norm_ext::specs::Reading::report_read))]
 fn read_report(bytes: &[u8]) -> Result<Message<'_>, Refusal>
     ensures exact { MatchResult result (λ m. report_read bytes.now ≡ Ok (message_of m)) (λ refusal. report_read bytes.now ≡ Err refusal) }
@@ -32,7 +32,7 @@ fn read_report(bytes: &[u8]) -> Result<Message<'_>, Refusal>
     })
 }
 
-/// The type that the octets name.
+/// Returns the type, or `BadType` if its code is not 1 to 6.
 fn read_type(bytes: &[u8]) -> Result<MessageType, Refusal>
     requires { common ≤ length bytes.now }
     ensures { result ≡ known_type bytes.now }
@@ -44,7 +44,7 @@ fn read_type(bytes: &[u8]) -> Result<MessageType, Refusal>
     }
 }
 
-/// The message of this type that the octets spell, or the first refusal.
+/// Reads a message of this type, or returns the first refusal that applies.
 fn read_message(kind: MessageType, bytes: &[u8]) -> Result<Message<'_>, Refusal>
     ensures exact { MatchResult result (λ m. read_as kind bytes.now ≡ Ok (message_of m)) (λ refusal. read_as kind bytes.now ≡ Err refusal) }
     ensures whole { IfOk result IsWhole }
@@ -74,7 +74,7 @@ fn read_message(kind: MessageType, bytes: &[u8]) -> Result<Message<'_>, Refusal>
     }
 }
 
-/// Reads by the type.
+/// Reads a message of any type. `decode` is the same with more promises.
 #[tactic(auto, unfolding(norm_ext::specs::Reading::decoded))]
 fn read_any(bytes: &[u8]) -> Result<Message<'_>, Refusal>
     ensures exact { MatchResult result (λ m. decoded bytes.now ≡ Ok (message_of m)) (λ refusal. decoded bytes.now ≡ Err refusal) }
@@ -85,7 +85,11 @@ fn read_any(bytes: &[u8]) -> Result<Message<'_>, Refusal>
     read_message(kind, bytes)
 }
 
-/// The message that the octets spell, or the first thing that is wrong with them.
+/// Reads a message. It takes no memory: the result borrows from the octets. Any octets are allowed.
+///
+/// # Errors
+///
+/// If the octets spell no message, the first refusal that applies, in the order of [`Refusal`].
 pub fn decode(bytes: &[u8]) -> Result<Message<'_>, Refusal>
     // It is what the grammar's reading gives.
     ensures exact { MatchResult result (λ m. decoded bytes.now ≡ Ok (message_of m)) (λ refusal. decoded bytes.now ≡ Err refusal) }

@@ -1,4 +1,4 @@
-//! Writing of any message.
+//! Writes messages of any type.
 
 ghost use Rattle.std.specs.Prelude.{◌≡◌, []};
 ghost use Rattle.norm_ext.specs.Message.{Report};
@@ -14,7 +14,6 @@ use norm_ext::pushing::push_front;
 use norm_fbmsg::{write_ack, write_nack};
 use norm_objmsg::grammar::{write_data, write_info};
 
-/// Writes a report.
 fn write_report(source: NodeId, sequence: u16, words: u8, rest: &[u8], out: &mut Datagram)
     requires empty { out.old ≡ [] }
     requires room { IsReport words rest.now }
@@ -24,8 +23,7 @@ fn write_report(source: NodeId, sequence: u16, words: u8, rest: &[u8], out: &mut
     out.push(rest);
 }
 
-/// Writes the message into the empty datagram: the octets that spell it, with zeros in the reserved places and the
-/// time stamps.
+/// Writes a message into an empty datagram. Reserved octets and time stamps are 0. Ask [`fits`](Message::fits) first if it may not fit.
 pub fn encode(msg: &Message<'_>, out: &mut Datagram)
     requires empty { out.old ≡ [] }
     requires message { CanEncode msg.now }

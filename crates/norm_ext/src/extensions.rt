@@ -1,4 +1,4 @@
-//! Header extensions (RFC 5740 section 4.1): a list of them, and a walk over it.
+//! Lists of header extensions (RFC 5740 section 4.1). [`Extensions::check`] checks a list, and the result is an iterator over it.
 
 ghost use Rattle.std.specs.Prelude.{◌≡◌, ◌+◌, ◌≤◌, ◌<◌, ◌^◌, [], ◌∷◌, MatchOption, MatchResult, OnOk, length, drop, take};
 ghost use Rattle.norm_ext.specs.Extensions.{extensions_of, extensions_checked, extension_checked, extension_length, extension_of, content_at as content_place, IsChecked};
@@ -7,14 +7,14 @@ use crate::places::WORD;
 use crate::refusal::ExtFault;
 use std::marker::Model;
 
-/// The first type of the extensions that are one word and say no length.
+/// From this type on, an extension is one word and has no length field.
 // RFC 5740 section 4.1: types from 128 on have one word and no length.
 const FIRST_SHORT_TYPE: u8 = 128;
-/// The place of an extension's length in words.
+/// The offset of the length field in an extension. It counts words of four octets.
 // RFC 5740 section 4.1.
 const LENGTH_AT: usize = 1;
 
-/// The extensions of a list that are left, in their order.
+/// Iterates over the extensions of a list as pairs of type and content.
 // The list was checked. So the walk trusts each length, and need not answer a refusal.
 #[derive(Debug, Drop)]
 pub struct Extensions<'a> {
@@ -32,7 +32,7 @@ impl<'a> Model for Extensions<'a> {
     ghost invariant = { λ e. IsChecked e.words.now };
 }
 
-/// The octets that the extension at the front says it has.
+/// Returns how many octets the first extension claims to have.
 fn length_of(words: &[u8]) -> usize
     requires { 2 ≤ length words.now }
     ensures { result ≡ extension_length words.now }
@@ -44,14 +44,14 @@ fn length_of(words: &[u8]) -> usize
     }
 }
 
-/// The octets before an extension's content.
+/// Returns how many octets of an extension of this type come before its content.
 fn content_at(kind: u8) -> usize
     ensures { result ≡ content_place kind }
 {
     if kind < FIRST_SHORT_TYPE { 2 } else { 1 }
 }
 
-/// The octets of the extension at the front, or what is wrong with it. It stands at a place.
+/// Returns how many octets the first extension has. `at` is its offset, which an error reports.
 fn check_first(words: &[u8], at: usize) -> Result<usize, ExtFault>
     ensures { MatchResult result
         (λ len. (extension_checked at words.now ≡ Ok tt) × (len ≡ extension_length words.now) × (len ≤ length words.now) × (0 < len))
@@ -72,7 +72,7 @@ fn check_first(words: &[u8], at: usize) -> Result<usize, ExtFault>
     Ok(len)
 }
 
-/// The first that is wrong with a list of extensions, which begins at a place.
+/// Checks a list of extensions. An error reports the offset of the first bad one, if the list begins at the offset `from`.
 pub(crate) fn check_list(words: &[u8], from: usize) -> Result<(), ExtFault>
     requires { from + length words.now < 2 ^ 64 }
     ensures exact { result ≡ extensions_checked from words.now }
@@ -88,8 +88,8 @@ pub(crate) fn check_list(words: &[u8], from: usize) -> Result<(), ExtFault>
     Ok(())
 }
 
-/// The type and the content of the extension at the front of a list of whole extensions, and the list behind it.
-/// `None` where the list is empty.
+/// Splits a list of whole extensions into the type and the content of the first one, and the rest of the list.
+/// Returns `None` if the list is empty.
 fn cut_first(words: &[u8]) -> Option<(u8, &[u8], &[u8])>
     requires { IsChecked words.now }
     ensures { MatchOption result
@@ -106,7 +106,11 @@ fn cut_first(words: &[u8]) -> Option<(u8, &[u8], &[u8])>
 }
 
 impl<'a> Extensions<'a> {
-    /// The extensions of a list, or the first that is wrong with it.
+    /// Checks a list and returns an iterator over it. Takes time in proportion to the number of extensions.
+    ///
+    /// # Errors
+    ///
+    /// The first fault, with its offset in the list.
     pub fn check(words: &'a [u8]) -> Result<Extensions<'a>, ExtFault>
         ensures { MatchResult result
             (λ exts. (extensions_checked 0 words.now ≡ Ok tt) × (exts ≡ extensions_of words.now))
@@ -129,7 +133,7 @@ impl<'a> Iterator for Extensions<'a> {
 
     ghost next_gives = { λ old given new. (option_map (λ x. extension_of x.0 x.1.now) given ≡ slice_get old 0) × (new ≡ drop 1 old) };
 
-    /// The type and the content of the next extension.
+    /// Returns the type and the content of the next extension.
     fn next(&mut self) -> Option<(u8, &'a [u8])> {
         let (kind, content, rest) = cut_first(self.words)?;
         self.words = rest;

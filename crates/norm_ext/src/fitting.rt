@@ -1,4 +1,4 @@
-//! What a message is asked before it is written: whether its parts fit.
+//! Tells whether a message can be written. The `fits` of each message calls these.
 
 ghost use Rattle.std.specs.Prelude.{◌≡◌, ◌↔◌, ◌+◌, ◌*◌, ◌≤◌, ◌<◌, ◌^◌, IsTrue, Ok, length};
 ghost use Rattle.norm_ext.specs.Extensions.{IsChecked};
@@ -11,26 +11,26 @@ use crate::places::WORD;
 use crate::requests::check_requests;
 use norm_base::DATAGRAM_ROOM;
 
-/// The most octets of a header: 255 words.
+/// The most octets that a header can have: 255 words.
 // RFC 5740 section 4.1: hdr_len has 8 bits and counts words of four octets. What has a longer header cannot be written.
 const MOST_HEADER: usize = 255 * WORD;
 
-/// Whether the octets are a list of whole extensions.
+/// Whether these octets are a list of whole extensions, with nothing left over.
 pub fn are_extensions(exts: &[u8]) -> bool
     ensures { IsTrue result ↔ IsChecked exts.now }
 {
     check_list(exts, 0).is_ok()
 }
 
-/// Whether the octets are a list of whole requests.
+/// Whether these octets are a list of whole requests, with nothing left over.
 pub fn are_requests(list: &[u8]) -> bool
     ensures { IsTrue result ↔ IsRequests list.now }
 {
     check_requests(list, 0).is_ok()
 }
 
-/// Whether the extensions are whole, and with so many octets of fixed fields before them and so many of content behind
-/// them leave the header and the datagram their lengths.
+/// Whether a message can have these extensions, after `fixed` octets of fixed fields and before `content` octets of content: they are whole,
+/// the header has at most 255 words, and the datagram at most 1,500 octets.
 pub fn has_room(fixed: usize, exts: &[u8], content: usize) -> bool
     requires { fixed ≤ word_size * most_header_words }
     ensures { IsTrue result ↔ HasRoom fixed exts.now content }
@@ -40,7 +40,7 @@ pub fn has_room(fixed: usize, exts: &[u8], content: usize) -> bool
     header <= MOST_HEADER && content <= DATAGRAM_ROOM - header && are_extensions(exts)
 }
 
-/// Whether the back-off factor and the group's size have four bits each.
+/// Whether the back-off factor and the group size fit into four bits each.
 pub fn is_narrow(backoff: u8, gsize: u8) -> bool
     ensures { IsTrue result ↔ IsNarrow backoff gsize }
 {

@@ -1,4 +1,5 @@
 //! The FEC Object Transmission Information of FEC Encoding ID 5, as a header extension (RFC 5510 section 5.2.4.1).
+//! A sender puts [`fti_words`] into each INFO and DATA; a receiver gets it back with [`read_fti`].
 
 ghost use Rattle.std.specs.Prelude.{◌≡◌, ◌+◌, ◌≤◌, ◌++◌, [], ◌∷◌, length};
 ghost use Rattle.norm_base.specs.Sizes.{datagram_room};
@@ -9,16 +10,16 @@ use crate::numbers::{read_16, read_48};
 use norm_base::Datagram;
 use std::marker::Model;
 
-/// The extension's type.
+/// The type of the extension.
 // RFC 5740 section 4.1, EXT_FTI.
 pub const FTI_TYPE: u8 = 64;
-/// Its length in words.
+/// The length of the extension in words.
 // Our own layout, after RFC 5510 section 5.2.4.1: 48 bits of L, 16 of E, 8 of B and 8 of max_n behind type and length.
 const FTI_WORDS: u8 = 3;
-/// The octets of its content.
+/// The length of its content in octets.
 // Three words without the octets of the type and the length.
 const CONTENT: usize = 10;
-/// The places of its fields there.
+/// The offsets of the fields in the content.
 // The order of RFC 5510 section 5.2.4.1, with widths of our own.
 const L_AT: usize = 0;
 
@@ -28,8 +29,8 @@ const B_AT: usize = 8;
 
 const MAX_N_AT: usize = 9;
 
-/// An object's length in octets, below 2^48, its symbol length in octets, its block length in symbols, and the
-/// most encoding symbols of a block.
+/// How an object is cut: its length in octets (below 2^48), the octets of a symbol, the most source symbols of a block, and the most encoding
+/// symbols of a block.
 // The length is below 2^48, as many bits as it is written with. A longer one would be read as another.
 #[derive(Clone, Copy, Debug, PartialEq, Eq)]
 pub struct Fti {
@@ -51,7 +52,7 @@ impl Model for Fti {
     ghost inverse = { λ f. record { l = f.l; e = f.e; b = f.b; max_n = f.max_n } };
 }
 
-/// What the content of an extension of ten octets says.
+/// Reads the ten octets of an extension's content.
 fn fti_from(content: &[u8]) -> Fti
     requires { length content.now ≡ 10 }
     ensures { result ≡ fti_in content.now }
@@ -64,7 +65,7 @@ fn fti_from(content: &[u8]) -> Fti
     }
 }
 
-/// What the first extension with type 64 and three words says. `None` exactly where there is none.
+/// Reads the first extension of type 64 that has three words. Returns `None` if there is none.
 pub fn read_fti(exts: Extensions<'_>) -> Option<Fti>
     ensures { result ≡ fti_of exts.entry }
 {
@@ -76,7 +77,7 @@ pub fn read_fti(exts: Extensions<'_>) -> Option<Fti>
     None
 }
 
-/// The extension's twelve octets, for a message to lend as its one extension.
+/// Returns the extension as twelve octets, which a message can borrow as its list of extensions.
 // An array, because a message lends its extensions from elsewhere: so making them takes no memory.
 pub fn fti_words(fti: &Fti) -> [u8; 12]
     ensures octets { result ≡ extension_octets (fti_extension fti.now) }
@@ -91,7 +92,7 @@ pub fn fti_words(fti: &Fti) -> [u8; 12]
     ]
 }
 
-/// Adds the extension's twelve octets.
+/// Appends the twelve octets of the extension to a datagram.
 // Nothing calls it so far. It stays for programs over this crate that write extensions by themselves.
 pub fn write_fti(fti: &Fti, out: &mut Datagram)
     requires { length out.old + 12 ≤ datagram_room }

@@ -1,9 +1,9 @@
-//! The fields that several messages share.
+//! Header fields that several messages share.
 
 use fec_plan::PayloadId;
 use norm_base::{InstanceId, NodeId};
 
-/// The fields that INFO and DATA begin with. `backoff` and `gsize` are numbers of four bits.
+/// The fields at the beginning of INFO and DATA. `backoff` and `gsize` have four bits each.
 #[derive(Clone, Copy, Debug, PartialEq, Eq)]
 pub struct ObjHead {
     pub source: NodeId,
@@ -17,7 +17,7 @@ pub struct ObjHead {
     pub object: u16,
 }
 
-/// The fields that a command begins with. `backoff` and `gsize` are numbers of four bits.
+/// The fields at the beginning of a command. `backoff` and `gsize` have four bits each.
 #[derive(Clone, Copy, Debug, PartialEq, Eq)]
 pub struct CmdHead {
     pub source: NodeId,
@@ -28,7 +28,7 @@ pub struct CmdHead {
     pub gsize: u8,
 }
 
-/// What an item of a request, or an acknowledgement, names: an object by its transport id, and a symbol of it.
+/// An object, by its transport id, and one of its symbols: an item of a request, or what a flush acknowledgement confirms.
 #[derive(Clone, Copy, Debug, PartialEq, Eq)]
 pub struct Item {
     /// The object transport id.

@@ -1,5 +1,5 @@
-//! What is looked at in every message: its header, its FEC Encoding ID, its extensions, its nodes and its lists.
-//! The reads of the crates above call these in the order in which refusals come.
+//! Checks and reads the parts that messages share. The readers of single messages call these in the order in which refusals are reported:
+//! first the header, then the encoding, the extensions, the requests, the nodes, and the length of a list.
 
 ghost use Rattle.std.specs.Prelude.{◌≡◌, ◌+◌, ◌*◌, ◌%◌, ◌≤◌, ◌<◌, Ok, Err, MatchResult, IfOk, OnOk, length};
 ghost use Rattle.norm_base.specs.Member.{IsMember};
@@ -20,14 +20,14 @@ use crate::places::{
 use crate::refusal::{ExtFault, Refusal};
 use norm_base::{InstanceId, NodeId};
 
-/// The version of NORM.
+/// The version of NORM that is read and written.
 // RFC 5740 section 4.1. A datagram of another version is refused.
 pub const VERSION: u8 = 1;
 /// The FEC Encoding ID of Reed-Solomon over GF(2^8) (RFC 5510).
 // RFC 5510 section 5. Any other code is refused with `FecId`.
 pub const ENCODING_ID: u8 = 5;
 
-/// The version, in octets that have a common header.
+/// Checks the version. `Short` if there is no whole common header, `Version` for another version.
 pub fn check_version(bytes: &[u8]) -> Result<(), Refusal>
     ensures exact { result ≡ version_checked bytes.now }
     ensures long { OnOk result (common ≤ length bytes.now) }
@@ -42,7 +42,7 @@ pub fn check_version(bytes: &[u8]) -> Result<(), Refusal>
     Ok(())
 }
 
-/// The octet at a place, or 0 where there is none.
+/// Returns the octet at an offset, or 0 if the datagram is shorter.
 fn octet_or_zero(bytes: &[u8], at: usize) -> u8
     ensures { result ≡ octet at bytes.now }
 {
@@ -53,7 +53,7 @@ fn octet_or_zero(bytes: &[u8], at: usize) -> u8
     }
 }
 
-/// The least words of a message's header: a flush and a squelch name a symbol.
+/// Returns the fewest words that the header of this message can have. FLUSH and SQUELCH have one more than other commands, since they name a symbol.
 fn least_of(kind: MessageType, bytes: &[u8]) -> u8
     ensures { result ≡ least_words kind bytes.now }
 {
@@ -73,7 +73,7 @@ fn least_of(kind: MessageType, bytes: &[u8]) -> u8
     }
 }
 
-/// The header of a message of this type: its version, its type and its length.
+/// Checks version, type and header length of a message of this type.
 #[tactic(auto, unfolding(crate::specs::Reading::header_checked))]
 fn check_fields(kind: MessageType, bytes: &[u8]) -> Result<(), Refusal>
     ensures exact { result ≡ header_checked kind bytes.now }
@@ -98,7 +98,12 @@ fn check_fields(kind: MessageType, bytes: &[u8]) -> Result<(), Refusal>
     Ok(())
 }
 
-/// The octets of the header of a message of this type, or what is wrong with its version, type or length.
+/// Checks version, type and header length of a message of this type. Returns the header's length in octets: the datagram has at least this many,
+/// and all fixed fields of the type lie within them.
+///
+/// # Errors
+///
+/// The first of `Short`, `Version`, `BadType`, `HeaderLength` and `PastEnd` that applies.
 pub fn check_header(kind: MessageType, bytes: &[u8]) -> Result<usize, Refusal>
     ensures { MatchResult result
         (λ end. (header_checked kind bytes.now ≡ Ok tt) × (end ≡ word_size * words_of bytes.now) × (word_size * least_words kind bytes.now ≤ end) × (end ≤ length bytes.now))
@@ -108,7 +113,7 @@ pub fn check_header(kind: MessageType, bytes: &[u8]) -> Result<usize, Refusal>
     Ok(WORD * usize::from(bytes[WORDS_AT]))
 }
 
-/// The FEC Encoding ID.
+/// Refuses any FEC Encoding ID except 5, with `FecId`.
 pub fn check_encoding(id: u8) -> Result<(), Refusal>
     ensures { result ≡ encoding_checked id }
 {
@@ -118,7 +123,11 @@ pub fn check_encoding(id: u8) -> Result<(), Refusal>
     Ok(())
 }
 
-/// The header's extensions, from a place on up to the header's end.
+/// Returns the header's extensions: the octets between the offsets `from` and `end`. `end` is the header's length, as `check_header` returns it.
+///
+/// # Errors
+///
+/// `Ext` with the offset of the first bad extension in the datagram.
 pub fn check_extensions(bytes: &[u8], from: usize, end: usize) -> Result<&[u8], Refusal>
     requires end { end ≡ word_size * words_of bytes.now }
     requires from { from ≤ end }
@@ -137,7 +146,7 @@ pub fn check_extensions(bytes: &[u8], from: usize, end: usize) -> Result<&[u8], 
     }
 }
 
-/// The member with this number.
+/// Returns the member with this number, or `BadNode` if no member can have it.
 pub fn check_member(number: u32) -> Result<NodeId, Refusal>
     ensures { MatchResult result
         (λ node. (member_checked number ≡ Ok tt) × (node ≡ number))
@@ -149,7 +158,7 @@ pub fn check_member(number: u32) -> Result<NodeId, Refusal>
     }
 }
 
-/// The source.
+/// Returns the source of a message, or `BadNode` if it is no member.
 pub fn check_source(bytes: &[u8]) -> Result<NodeId, Refusal>
     requires { common ≤ length bytes.now }
     ensures { MatchResult result
@@ -159,7 +168,7 @@ pub fn check_source(bytes: &[u8]) -> Result<NodeId, Refusal>
     check_member(read_32(bytes, SOURCE_AT))
 }
 
-/// A list of numbers of so many octets.
+/// Checks that a list consists of whole numbers of `width` octets each. `BadList` if octets are left over.
 pub fn check_numbers(width: usize, list: &[u8]) -> Result<(), Refusal>
     requires { 0 < width }
     ensures exact { result ≡ list_checked width list.now }
@@ -172,7 +181,7 @@ pub fn check_numbers(width: usize, list: &[u8]) -> Result<(), Refusal>
     Ok(())
 }
 
-/// The fields that INFO and DATA begin with, with the source that was read.
+/// Reads the fields at the beginning of INFO and DATA. `source` was read before, by `check_source`.
 pub fn read_object_head(bytes: &[u8], source: NodeId) -> ObjHead
     requires long { info_header ≤ length bytes.now }
     requires source { source ≡ source_of bytes.now }
@@ -191,7 +200,7 @@ pub fn read_object_head(bytes: &[u8], source: NodeId) -> ObjHead
     }
 }
 
-/// The fields that a command begins with, with the source that was read.
+/// Reads the fields at the beginning of a command. `source` was read before, by `check_source`.
 pub fn read_command_head(bytes: &[u8], source: NodeId) -> CmdHead
     requires long { sub_type_at ≤ length bytes.now }
     requires source { source ≡ source_of bytes.now }

@@ -1,5 +1,5 @@
-//! The items of repair requests (RFC 5740 section 4.3.1): split one after the other, and what they name. A sender reads
-//! what it is asked for by these, and a receiver what others ask for.
+//! The items of repair requests (RFC 5740 section 4.3.1): splits a list of them and says which symbols they name. A sender reads NACKs with
+//! these, and a receiver reads what others requested.
 
 ghost use Rattle.std.specs.Prelude.{◌≡◌, ◌<◌, ◌∷◌, [], MatchOption, length};
 ghost use Rattle.norm_ext.specs.Requests.{items_named};
@@ -13,7 +13,7 @@ use crate::places::{ITEM, ITEM_NAME_AT, ITEM_OBJECT_AT};
 use fec_plan::{PayloadId, Position};
 use norm_base::Profile;
 
-/// The first of some items, and the octets of the rest. `None` where there is none.
+/// Splits off the first item. Returns `None` if there is none.
 pub fn split_item(items: &[u8]) -> Option<(Item, &[u8])>
     ensures { MatchOption result (items_named items.now ≡ [])
         (λ x. items_named items.now ≡ x.0 ∷ items_named x.1.now) }
@@ -28,7 +28,7 @@ pub fn split_item(items: &[u8]) -> Option<(Item, &[u8])>
     Some((item, items.split_at(ITEM).1))
 }
 
-/// The first two of some items, and the octets of the rest. `None` where they are less than two.
+/// Splits off the first two items. Returns `None` if there are fewer than two.
 pub fn split_pair(items: &[u8]) -> Option<(Item, Item, &[u8])>
     ensures { MatchOption result (length (items_named items.now) < 2)
         (λ x. items_named items.now ≡ x.0 ∷ x.1 ∷ items_named x.2.now) }
@@ -42,7 +42,7 @@ pub fn split_pair(items: &[u8]) -> Option<(Item, Item, &[u8])>
     Some((first, second, rest))
 }
 
-/// The symbol that an item names to a node that knows indices up to this one. `None` where the item names no index.
+/// Returns the symbol that an item names for a node that knows indices up to `known`. Returns `None` if its id names no index.
 // An id is read once, when it is heard: what it names depends on what its hearer knows at that moment.
 pub fn position_of(profile: &Profile, known: u32, item: Item) -> Option<Position>
     ensures { result ≡ item_named profile.now known item }
@@ -57,7 +57,7 @@ pub fn position_of(profile: &Profile, known: u32, item: Item) -> Option<Position
     }
 }
 
-/// The ends of the range that two items name. `None` where one of them names no index.
+/// Returns both ends of the range that two items name, as [`position_of`] does for each. Returns `None` if one of them names no index.
 pub fn ends_of(
     profile: &Profile,
     known: u32,
@@ -76,7 +76,7 @@ pub fn ends_of(
     }
 }
 
-/// The item that names a symbol.
+/// Returns the item that names a symbol.
 pub fn item_of(profile: &Profile, at: Position) -> Item
     ensures { result ≡ item_at profile.now at }
 {
@@ -89,7 +89,7 @@ pub fn item_of(profile: &Profile, at: Position) -> Item
     }
 }
 
-/// Whether a request's flags have this one.
+/// Whether the flags of a request include `flag`.
 pub fn has_flag(flags: u8, flag: u8) -> bool
     requires { 0 < flag }
     ensures { result ≡ has_this flags flag }

@@ -1,4 +1,4 @@
-//! The numbers of a message's type, of a command's sub-type, of a request's form and of flags (RFC 5740 section 4).
+//! The codes of message types, of command sub-types, of request forms and of flags (RFC 5740 section 4).
 
 ghost use Rattle.std.specs.Prelude.{◌≡◌, IfSome};
 ghost use Rattle.norm_ext.specs.Numbers.{type_number, type_of, sub_type_number, sub_type_of, form_number, form_of};
@@ -15,14 +15,14 @@ pub enum MessageType {
 }
 
 impl MessageType {
-    /// The type's number.
+    /// Returns its code, from 1 to 6.
     pub fn number(self) -> u8
         ensures { result ≡ type_number self }
     {
         self as u8
     }
 
-    /// The type with this number. `None` where no type has it.
+    /// Returns the type with this code, or `None` if there is none.
     pub fn of(number: u8) -> Option<MessageType>
         ensures { result ≡ type_of number }
     {
@@ -51,14 +51,14 @@ pub enum SubType {
 }
 
 impl SubType {
-    /// The sub-type's number.
+    /// Returns its code, from 1 to 7.
     pub fn number(self) -> u8
         ensures { result ≡ sub_type_number self }
     {
         self as u8
     }
 
-    /// The sub-type with this number. `None` where no sub-type has it.
+    /// Returns the sub-type with this code, or `None` if there is none.
     pub fn of(number: u8) -> Option<SubType>
         ensures exact { result ≡ sub_type_of number }
         ensures number { IfSome result (λ sub_type. sub_type_number sub_type ≡ number) }
@@ -85,14 +85,14 @@ pub enum Form {
 }
 
 impl Form {
-    /// The form's number.
+    /// Returns its code, from 1 to 3.
     pub fn number(self) -> u8
         ensures { result ≡ form_number self }
     {
         self as u8
     }
 
-    /// The form with this number. `None` where no form has it.
+    /// Returns the form with this code, or `None` if there is none.
     pub fn of(number: u8) -> Option<Form>
         ensures { result ≡ form_of number }
     {
@@ -105,28 +105,28 @@ impl Form {
     }
 }
 
-/// Flags, as they stand in their octets.
+/// The bits of flags.
 pub mod flags {
-    /// INFO and DATA: sent again.
+    /// INFO and DATA: sent as a repair.
     // These six: NORM_FLAG_ of RFC 5740 section 4.2.1.
     pub const REPAIR: u8 = 0x01;
-    /// INFO and DATA: asked for by its own name.
+    /// INFO and DATA: requested by its own name.
     pub const EXPLICIT: u8 = 0x02;
     /// INFO and DATA: the object has an info.
     pub const INFO: u8 = 0x04;
-    /// INFO and DATA: nothing is repaired.
+    /// INFO and DATA: the sender repairs nothing of the object.
     pub const UNRELIABLE: u8 = 0x08;
     /// INFO and DATA: the object is a file.
     pub const FILE: u8 = 0x10;
     /// INFO and DATA: the object is a stream.
     pub const STREAM: u8 = 0x20;
-    /// A request: symbols.
+    /// A request for symbols.
     // These four: NORM_NACK_ of RFC 5740 section 4.3.1.
     pub const WANT_SEGMENT: u8 = 0x01;
-    /// A request: blocks.
+    /// A request for blocks.
     pub const WANT_BLOCK: u8 = 0x02;
-    /// A request: infos.
+    /// A request for infos.
     pub const WANT_INFO: u8 = 0x04;
-    /// A request: objects.
+    /// A request for objects.
     pub const WANT_OBJECT: u8 = 0x08;
 }

@@ -1,14 +1,13 @@
-//! What is promised of the grammar and of object ids. Each law is the contract of a function that does nothing.
+//! What is proved of the grammar and of object ids. Each law is the contract of an empty function.
 
 ghost use Rattle.norm_ext.specs.Laws.{ReadIsSpelled, SpelledIsRead, SpellsOne, ReadAgain, RefusedIsFirst, FirstIsRefused, SpelledIsNotRefused, AskedIsRead, OneMoreTakes, NamesNearest, NamedAgain};
 
-/// What is read of octets is spelled by them.
+/// If octets are read as a message, they spell it.
 pub fn read_is_spelled()
     ensures { ReadIsSpelled }
 {}
 
-/// What octets spell is read of them. With `read_is_spelled`: octets are read as a message exactly where they spell
-/// it.
+/// If octets spell a message, they are read as it. With `read_is_spelled`: they are read as a message if and only if they spell it.
 pub fn spelled_is_read()
     ensures { SpelledIsRead }
 {}
@@ -18,45 +17,45 @@ pub fn spells_one()
     ensures { SpellsOne }
 {}
 
-/// A message whose fields fit is read again of its octets.
+/// If the fields of a message fit, its octets are read as this message.
 pub fn read_again()
     ensures { ReadAgain }
 {}
 
-/// A refusal that is given applies to the octets, and none that comes before it does.
+/// If octets are refused, the refusal applies to them, and none before it does.
 pub fn refused_is_first()
     ensures { RefusedIsFirst }
 {}
 
-/// The first refusal that applies is given. With `refused_is_first`: octets are refused exactly with the first that
+/// The first refusal that applies is reported. With `refused_is_first`: octets are refused with a refusal if and only if it is the first that
 /// applies.
 pub fn first_is_refused()
     ensures { FirstIsRefused }
 {}
 
-/// No refusal applies to octets that spell a message. So octets spell one exactly where none applies.
+/// No refusal applies to octets that spell a message. So octets spell a message if and only if no refusal applies.
 pub fn spelled_is_not_refused()
     ensures { SpelledIsNotRefused }
 {}
 
-/// What a `RequestWriter` writes of items within their widths is a list of whole requests, and is read again as the
-/// requests that the items make.
+/// If the items fit their widths, what a `RequestWriter` writes of them is a list of whole requests, and it is read as the requests that the
+/// items make.
 pub fn asked_is_read()
     ensures { AskedIsRead }
 {}
 
-/// What one more takes behind others that are asked for: `octets_behind` the last of them.
+/// How many octets one more item or range adds to a list: `octets_behind`, which depends on the last one before it.
 pub fn one_more_takes()
     ensures { OneMoreTakes }
 {}
 
-/// An id names the index that has it within 32,768 below and 32,767 above what is known, where there is such an index,
-/// and no other.
+/// An id names an index if and only if the index has this id, an object can have it, and it lies at most 32,768 below or 32,767 above what is
+/// known.
 pub fn names_nearest()
     ensures { NamesNearest }
 {}
 
-/// The id of an index within 32,767 of what is known names that index.
+/// If an index lies within 32,767 of what is known, the id of the index names it.
 pub fn named_again()
     ensures { NamedAgain }
 {}

@@ -1,7 +1,9 @@
-//! The grammar of NORM messages (RFC 5740 section 4), and what all messages share: header extensions, the FEC
-//! Object Transmission Information, and repair requests. `specs/` has the whole grammar; the crates above read and
-//! write its messages with the calls of `header`, `pushing`, `Extensions` and `requests_of`, and ask by `fitting` whether
-//! a message can be written. A receiver writes its requests by a `RequestWriter`.
+//! The grammar of NORM messages (RFC 5740 section 4), and the parts that all messages share: header extensions, the FEC Object Transmission
+//! Information, and repair requests.
+//!
+//! `specs/` has the whole grammar. `norm_objmsg`, `norm_cmdmsg`, `norm_fbmsg` and `norm_codec` read messages with [`header`] and
+//! [`check_requests`], write them with [`pushing`], and check with [`fitting`] if a message can be written. Senders and receivers iterate over
+//! [`Extensions`] and [`Requests`]. A receiver writes its requests with a [`RequestWriter`].
 #![tactic(auto)]
 
 mod extensions;

@@ -1,4 +1,4 @@
-//! Big-endian numbers at a place of octets.
+//! Reads big-endian numbers at an offset of a slice.
 
 ghost use Rattle.std.specs.Prelude.{◌≡◌, ◌+◌, ◌≤◌, ◌<◌, length};
 ghost use Rattle.norm_ext.specs.Numbers.{number, name_at};
@@ -6,7 +6,7 @@ ghost use Rattle.norm_ext.specs.Numbers.{number, name_at};
 use byteorder::{BigEndian, ByteOrder};
 use fec_plan::PayloadId;
 
-/// The number of 16 bits at a place.
+/// Returns the 16-bit number at an offset.
 pub fn read_16(bytes: &[u8], at: usize) -> u16
     requires { at + 2 ≤ length bytes.now }
     ensures { result ≡ number 2 at bytes.now }
@@ -14,7 +14,7 @@ pub fn read_16(bytes: &[u8], at: usize) -> u16
     BigEndian::read_u16(bytes.split_at(at).1)
 }
 
-/// The number of 32 bits at a place.
+/// Returns the 32-bit number at an offset.
 pub fn read_32(bytes: &[u8], at: usize) -> u32
     requires { at + 4 ≤ length bytes.now }
     ensures { result ≡ number 4 at bytes.now }
@@ -22,7 +22,7 @@ pub fn read_32(bytes: &[u8], at: usize) -> u32
     BigEndian::read_u32(bytes.split_at(at).1)
 }
 
-/// The number of 48 bits at a place.
+/// Returns the 48-bit number at an offset.
 pub(crate) fn read_48(bytes: &[u8], at: usize) -> u64
     requires { at + 6 ≤ length bytes.now }
     ensures { result ≡ number 6 at bytes.now }
@@ -30,7 +30,7 @@ pub(crate) fn read_48(bytes: &[u8], at: usize) -> u64
     BigEndian::read_u48(bytes.split_at(at).1)
 }
 
-/// The symbol that is named at a place.
+/// Returns the symbol name at an offset: 24 bits of block and 8 of symbol.
 pub fn read_name(bytes: &[u8], at: usize) -> PayloadId
     requires { at + 4 ≤ length bytes.now }
     ensures { result ≡ name_at at bytes.now }

@@ -1,4 +1,4 @@
-//! Object transport ids and the indices that they name (RFC 5740 section 4.2.1).
+//! Object transport ids and the indices that they name (RFC 5740 section 4.2.1). An index counts all objects from 0; its id has only 16 bits.
 
 ghost use Rattle.std.specs.Prelude.{◌≡◌, ◌^◌, ◌<◌};
 ghost use Rattle.norm_base.specs.Sizes.{id_count};
@@ -6,18 +6,18 @@ ghost use Rattle.norm_ext.specs.ObjectIds.{object_id as id_of_index, index_named
 
 use norm_base::{ID_COUNT, Profile};
 
-/// So many ids there are.
+/// How many ids there are.
 // RFC 5740 section 4.2.1: an object transport id has 16 bits.
 const ALL_IDS: u64 = ID_COUNT as u64;
-/// How far below what is known an id still names an index.
+/// How far below the known index an id still names an index.
 // Our own choice: half of all ids name indices below what is known, the others what is known and indices above. What lies further away would be
 // taken for another object.
 const BELOW: u64 = 32_768;
-/// The greatest index of an object.
+/// The greatest index that an object can have.
 // Our own choice: the index behind it still has 32 bits. An object more is refused with `IdsSpent`.
 pub const LAST_INDEX: u32 = 4_294_967_294;
 
-/// The id of an index, or of what would be one behind the last.
+/// Returns the id of an index. The index may be above the last one of an object.
 fn id_of(profile: &Profile, index: u64) -> u64
     requires { index < 2 ^ 33 }
     ensures exact { result ≡ id_of_index profile.now index }
@@ -26,15 +26,15 @@ fn id_of(profile: &Profile, index: u64) -> u64
     (u64::from(profile.first) + index) % ALL_IDS
 }
 
-/// The id of the object with this index.
+/// Returns the id of the object with this index.
 pub fn object_id(profile: &Profile, index: u32) -> u16
     ensures { result ≡ id_of_index profile.now index }
 {
     id_of(profile, u64::from(index)) as u16
 }
 
-/// The index that an id names to a node that knows indices up to this one: the one that has the id, of those from 32,768
-/// below to 32,767 above. `None` where that is below 0 or above the last index.
+/// Returns the index that an id names for a node that knows indices up to `known`: the one with this id from 32,768 below to 32,767 above.
+/// Returns `None` if it would be below 0 or above the last index.
 pub fn index_named(profile: &Profile, known: u32, object: u16) -> Option<u32>
     ensures { result ≡ index_of_id profile.now known object }
 {

@@ -1,4 +1,4 @@
-//! What is written of every message: the common header and the fields that several messages share.
+//! Writes what messages have in common. Each call appends to the datagram, which needs room for it.
 
 ghost use Rattle.std.specs.Prelude.{◌≡◌, ◌+◌, ◌*◌, ◌≤◌, ◌<◌, ◌++◌, length};
 ghost use Rattle.norm_base.specs.Sizes.{datagram_room};
@@ -12,7 +12,7 @@ use byteorder::{BigEndian, ByteOrder};
 use fec_plan::PayloadId;
 use norm_base::{Datagram, InstanceId, NodeId};
 
-/// Adds a number of 16 bits.
+/// Appends a 16-bit number.
 pub fn push_16(n: u16, out: &mut Datagram)
     requires { length out.old + 2 ≤ datagram_room }
     ensures { out.new ≡ out.old ++ big_bytes 2 n }
@@ -22,7 +22,7 @@ pub fn push_16(n: u16, out: &mut Datagram)
     out.push(&octets);
 }
 
-/// Adds a number of 32 bits.
+/// Appends a 32-bit number.
 pub fn push_32(n: u32, out: &mut Datagram)
     requires { length out.old + 4 ≤ datagram_room }
     ensures { out.new ≡ out.old ++ big_bytes 4 n }
@@ -32,7 +32,7 @@ pub fn push_32(n: u32, out: &mut Datagram)
     out.push(&octets);
 }
 
-/// Adds a node's id.
+/// Appends a node id, in four octets.
 pub fn push_node(node: NodeId, out: &mut Datagram)
     requires { length out.old + 4 ≤ datagram_room }
     ensures { out.new ≡ out.old ++ big_bytes 4 node }
@@ -40,7 +40,7 @@ pub fn push_node(node: NodeId, out: &mut Datagram)
     push_32(node.number(), out);
 }
 
-/// Adds an instance's id.
+/// Appends an instance id, in two octets.
 pub fn push_instance(instance: InstanceId, out: &mut Datagram)
     requires { length out.old + 2 ≤ datagram_room }
     ensures { out.new ≡ out.old ++ big_bytes 2 instance }
@@ -48,7 +48,7 @@ pub fn push_instance(instance: InstanceId, out: &mut Datagram)
     push_16(instance.0, out);
 }
 
-/// Adds a symbol's name.
+/// Appends the name of a symbol, in four octets.
 pub fn push_name(id: &PayloadId, out: &mut Datagram)
     requires { length out.old + 4 ≤ datagram_room }
     ensures { out.new ≡ out.old ++ name_octets id.now }
@@ -56,7 +56,7 @@ pub fn push_name(id: &PayloadId, out: &mut Datagram)
     out.push(&id.bytes());
 }
 
-/// Adds the common header of a message of this type.
+/// Appends the common header: eight octets. `kind` is the code of the type, and `words` the length of the whole header.
 pub fn push_front(kind: u8, words: u8, sequence: u16, source: NodeId, out: &mut Datagram)
     requires kind { kind < 16 }
     requires room { length out.old + 8 ≤ datagram_room }
@@ -67,7 +67,7 @@ pub fn push_front(kind: u8, words: u8, sequence: u16, source: NodeId, out: &mut 
     push_32(source.number(), out);
 }
 
-/// Adds the fields that INFO and DATA begin with behind the common header.
+/// Appends the eight octets that follow the common header in INFO and DATA.
 pub fn push_object_head(head: &ObjHead, out: &mut Datagram)
     requires backoff { head.now.backoff < 16 }
     requires gsize { head.now.gsize < 16 }
@@ -84,7 +84,7 @@ pub fn push_object_head(head: &ObjHead, out: &mut Datagram)
     push_16(head.object, out);
 }
 
-/// Adds the fields that a command begins with behind the common header.
+/// Appends the five octets that follow the common header in a command, up to its sub-type.
 pub fn push_command_head(head: &CmdHead, sub_type: u8, out: &mut Datagram)
     requires backoff { head.now.backoff < 16 }
     requires gsize { head.now.gsize < 16 }

@@ -1,41 +1,42 @@
-//! Why octets spell no message.
+//! Why octets are refused.
 
-/// The first thing that is wrong with a datagram, in the order of the variants. Places are octets of the datagram.
+/// The first thing that is wrong with a datagram. If several apply, the first in the order of the variants is reported. `at` is an offset in the
+/// datagram.
 #[derive(Clone, Copy, Debug, PartialEq, Eq)]
 pub enum Refusal {
-    /// Fewer octets than the common header has.
+    /// The datagram is shorter than the common header.
     Short { len: usize },
-    /// A version other than 1.
+    /// The version is not 1.
     Version { v: u8 },
-    /// A type that is not 1 to 6, or not that of the call.
+    /// The type is not 1 to 6, or not the one that was expected.
     BadType { t: u8 },
-    /// A header of fewer words than its message has at least.
+    /// The header's length is less than the least for this message.
     HeaderLength { words: u8, least: u8 },
-    /// A header that passes the end.
+    /// The datagram is shorter than its header says.
     PastEnd { words: u8, len: usize },
-    /// A FEC Encoding ID other than 5.
+    /// The FEC Encoding ID is not 5.
     FecId { id: u8 },
-    /// A command's sub-type that is not 1 to 7.
+    /// The command's sub-type is not 1 to 7.
     SubType { s: u8 },
-    /// An extension of length 0, or past the header's end.
+    /// An extension has length 0, or does not end within the header.
     Ext { at: usize },
-    /// A request whose form is not 1 to 3.
+    /// The form of a request is not 1 to 3.
     RequestForm { at: usize },
-    /// A request that passes the end, or whose length is no whole number of items, or of pairs of them.
+    /// A request does not end within the datagram, or its length is not a whole number of items (of pairs of items, if its form is ranges).
     RequestLength { at: usize },
-    /// An item with a FEC Encoding ID other than 5.
+    /// The FEC Encoding ID of an item is not 5.
     ItemFec { at: usize, id: u8 },
-    /// A source, or a named sender, that is no member.
+    /// The source, or the sender that feedback names, is no member.
     BadNode,
-    /// A list with octets left over.
+    /// Octets are left over at the end of a list or after an EOT, or a flush acknowledgement has `rest` octets and not one item.
     BadList { rest: usize },
 }
 
-/// The first thing that is wrong with a list of header extensions. Places are octets of the list.
+/// The first thing that is wrong with a list of header extensions. `at` is the offset of the bad one.
 #[derive(Clone, Copy, Debug, PartialEq, Eq)]
 pub enum ExtFault {
-    /// An extension whose length is 0.
+    /// The length of an extension is 0.
     ZeroLength { at: usize },
-    /// An extension that passes the list's end.
+    /// An extension does not end within the list.
     Overrun { at: usize },
 }

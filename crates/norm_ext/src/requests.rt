@@ -1,4 +1,4 @@
-//! Repair requests (RFC 5740 section 4.3.1): a list of them, checked and walked.
+//! Lists of repair requests (RFC 5740 section 4.3.1). Check a list with [`check_requests`] and then iterate over it with [`requests_of`].
 
 ghost use Rattle.std.specs.Prelude.{◌≡◌, ◌+◌, ◌*◌, ◌/◌, ◌≤◌, ◌<◌, ◌^◌, [], ◌∷◌, Ok, Err, Some, MatchOption, MatchResult, OnOk, min, length, drop, take, slice_get};
 ghost use Rattle.norm_ext.specs.Places.{request_front, item_width};
@@ -13,7 +13,7 @@ use crate::places::{ITEM, ITEM_NAME_AT, ITEM_OBJECT_AT, ITEMS_LENGTH_AT, REQUEST
 use crate::refusal::Refusal;
 use std::marker::Model;
 
-/// A request: its form, its flags, and the octets of its items.
+/// A repair request. `items` are the octets of its items.
 // The items stay octets, with their reserved ones: a message that is written takes its list of requests as it is lent.
 #[derive(Clone, Copy, Debug)]
 pub struct Request<'a> {
@@ -23,14 +23,14 @@ pub struct Request<'a> {
 }
 
 impl<'a> Request<'a> {
-    /// The number of its items, or the greatest number where there are more than 32 bits count.
+    /// Returns how many items it has, at most `u32::MAX`.
     pub fn count(&self) -> u32
         ensures { result ≡ min (length self.now.items.now / item_width) 4294967295 }
     {
         (self.items.len() / ITEM).min(u32::MAX as usize) as u32
     }
 
-    /// The item with this number, from 0.
+    /// Returns the item with this index, counted from 0.
     pub fn item(&self, i: u32) -> Item
         requires { item_width * i + item_width ≤ length self.now.items.now }
         ensures { slice_get (items_named self.now.items.now) i ≡ Some result }
@@ -43,7 +43,7 @@ impl<'a> Request<'a> {
     }
 }
 
-/// The octets of an item of a form: of ranges a pair.
+/// Returns the octets of an item of this form. For ranges it is a pair of items.
 fn size_of_item(form: Form) -> usize
     ensures { result ≡ item_size form }
 {
@@ -53,7 +53,7 @@ fn size_of_item(form: Form) -> usize
     }
 }
 
-/// The first item of another FEC Encoding ID.
+/// Refuses the first item whose FEC Encoding ID is not 5. `at` is the offset of the items in the datagram.
 fn check_items(items: &[u8], at: usize) -> Result<(), Refusal>
     requires { at + length items.now < 2 ^ 64 }
     ensures { result ≡ items_checked at items.now }
@@ -71,7 +71,8 @@ fn check_items(items: &[u8], at: usize) -> Result<(), Refusal>
     Ok(())
 }
 
-/// The octets of the items of the request at the front, or what is wrong with its length.
+/// Returns how many octets the items of the first request have. `RequestLength` if the request does not end within `octets`, or if its items are
+/// not whole.
 fn check_length(octets: &[u8], form: Form, at: usize) -> Result<usize, Refusal>
     ensures { MatchResult result
         (λ len. (request_length_checked at form octets.now ≡ Ok tt) × (len ≡ items_length octets.now) × (request_front + len ≤ length octets.now))
@@ -87,7 +88,7 @@ fn check_length(octets: &[u8], form: Form, at: usize) -> Result<usize, Refusal>
     Ok(len)
 }
 
-/// The octets of the request at the front, or what is wrong with it. It stands at a place.
+/// Returns how many octets the first request has. `at` is its offset in the datagram, which a refusal reports.
 fn check_first(octets: &[u8], at: usize) -> Result<usize, Refusal>
     requires some { 0 < length octets.now }
     requires place { at + length octets.now < 2 ^ 64 }
@@ -103,7 +104,11 @@ fn check_first(octets: &[u8], at: usize) -> Result<usize, Refusal>
     Ok(REQUEST + len)
 }
 
-/// The first that is wrong with a list of requests, which begins at this octet of its datagram.
+/// Checks a list of requests, which begins at the offset `at` of its datagram. Takes time in proportion to its length.
+///
+/// # Errors
+///
+/// `RequestForm`, `RequestLength` or `ItemFec` for the first bad request.
 pub fn check_requests(list: &[u8], at: usize) -> Result<(), Refusal>
     requires { at + length list.now < 2 ^ 64 }
     ensures exact { result ≡ requests_checked at list.now }
@@ -119,7 +124,7 @@ pub fn check_requests(list: &[u8], at: usize) -> Result<(), Refusal>
     Ok(())
 }
 
-/// The requests of a list that are left, in their order.
+/// Iterates over the requests of a list.
 // The list was checked. So the walk trusts each length, and need not answer a refusal.
 #[derive(Debug, Drop)]
 pub struct Requests<'a> {
@@ -137,7 +142,7 @@ impl<'a> Model for Requests<'a> {
     ghost invariant = { λ r. IsRequests r.list.now };
 }
 
-/// The requests of a list that `check_requests` passes, in their order.
+/// Returns an iterator over a list that `check_requests` accepted.
 pub fn requests_of(list: &[u8]) -> Requests<'_>
     requires { IsRequests list.now }
     ensures { result ≡ all_requests list.now }
@@ -145,7 +150,7 @@ pub fn requests_of(list: &[u8]) -> Requests<'_>
     Requests { list }
 }
 
-/// The request at the front of a list of whole requests, and the list behind it. `None` where the list is empty.
+/// Splits off the first request of a list of whole requests. Returns `None` if the list is empty.
 fn cut_first(list: &[u8]) -> Option<(Request<'_>, &[u8])>
     requires { IsRequests list.now }
     ensures { MatchOption result
@@ -174,7 +179,7 @@ impl<'a> Iterator for Requests<'a> {
 
     ghost next_gives = { λ old given new. (option_map request_of given ≡ slice_get old 0) × (new ≡ drop 1 old) };
 
-    /// The next request.
+    /// Returns the next request.
     fn next(&mut self) -> Option<Request<'a>> {
         let (request, rest) = cut_first(self.list)?;
         self.list = rest;

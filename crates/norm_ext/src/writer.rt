@@ -1,4 +1,4 @@
-//! Writing of repair requests, item by item (RFC 5740 section 4.3.1).
+//! Writes repair requests item by item (RFC 5740 section 4.3.1). A receiver builds the content of its NACKs with it.
 
 ghost use Rattle.std.specs.Prelude.{◌≡◌, ◌↔◌, ◌+◌, ◌-◌, ◌*◌, ◌≤◌, ◌<◌, ◌^◌, ℕ, List, [], ◌∷◌, ◌++◌, IsTrue, IsSome, Some, true, false, length, take, drop};
 ghost use Rattle.std.specs.Bool.{MatchBool};
@@ -27,15 +27,18 @@ const FRONT: u16 = places::REQUEST as u16;
 // `places::ITEM` in 16 bits.
 const ITEM: u16 = places::ITEM as u16;
 
-/// A writer of requests behind what a datagram has. `new`, then `push_item` for each item or range, on one datagram that
-/// nobody else changes meanwhile. An item joins the last request where it has the form and the flags of that.
+/// Appends requests to a datagram.
+/// 1. [`new`](RequestWriter::new), with a limit for the octets of all its requests.
+/// 2. [`push_item`](RequestWriter::push_item) for each item or range. Nobody else may change the datagram between the calls.
+///
+/// If an item has the form and the flags of the last request, it joins that request. Otherwise it begins a new one.
 // `used` is never above `limit`: their difference says whether one more fits.
 #[derive(Debug, Drop)]
 pub struct RequestWriter {
     limit: u16,
     /// The octets of the requests so far.
     used: u16,
-    /// The last request's form, and of that request the flags and the octets of its items.
+    /// The form of the last request, if there is one. The next two are its flags and the octets of its items.
     form: Option<Form>,
     flags: u8,
     len: u16,
@@ -53,7 +56,7 @@ impl Model for RequestWriter {
     ghost invariant = { λ w. (w.used ≤ w.limit) × ((w.form ≡ None) ⊎ (request_front + w.len ≤ w.used)) };
 }
 
-/// Adds an item.
+/// Appends an item.
 fn push_one(item: &Item, out: &mut Datagram)
     requires { length out.old + item_width ≤ datagram_room }
     ensures { out.new ≡ out.old ++ item_octets (written_item item.now) }
@@ -63,7 +66,7 @@ fn push_one(item: &Item, out: &mut Datagram)
     push_name(&item.id, out);
 }
 
-/// The octets of an item, or of the two ends of a range.
+/// Returns the octets of an item, or of the two ends of a range.
 fn ends_len(last: &Option<Item>) -> u16
     ensures exact { (first : Named) → result ≡ item_width * length (ends_of first last.now) }
     ensures few { result ≤ 2 * item_width }
@@ -74,7 +77,7 @@ fn ends_len(last: &Option<Item>) -> u16
     }
 }
 
-/// Adds an item, or the two ends of a range.
+/// Appends an item, or the two ends of a range.
 fn push_ends(first: &Item, last: &Option<Item>, out: &mut Datagram)
     requires { length out.old + item_width * length (ends_of first.now last.now) ≤ datagram_room }
     ensures { out.new ≡ out.old ++ flat_map item_octets (ends_of first.now last.now) }
@@ -86,7 +89,7 @@ fn push_ends(first: &Item, last: &Option<Item>, out: &mut Datagram)
 }
 
 impl RequestWriter {
-    /// A writer of at most so many octets of requests.
+    /// Returns a writer of at most `limit` octets of requests.
     pub fn new(limit: u16) -> RequestWriter
         ensures { result ≡ writing limit [] }
     {
@@ -99,7 +102,7 @@ impl RequestWriter {
         }
     }
 
-    /// Whether the last request has this form and these flags.
+    /// Whether an item with this form and these flags joins the last request.
     fn joins(&self, form: Form, flags: u8) -> bool
         ensures { IsTrue result ↔ ((self.now.form ≡ Some form) × (self.now.flags ≡ flags)) }
     {
@@ -109,7 +112,7 @@ impl RequestWriter {
         }
     }
 
-    /// Makes the last request longer by so many octets of items, which come next.
+    /// Adds `items` octets to the length of the last request. The caller appends them next.
     fn lengthen(&mut self, items: u16, out: &mut Datagram)
         requires some { request_front + self.old.len ≤ self.old.used }
         requires used { self.old.used ≤ length out.old }
@@ -125,7 +128,7 @@ impl RequestWriter {
         out.replace(at, &self.len.to_be_bytes());
     }
 
-    /// Begins a request with so many octets of items, which come next.
+    /// Begins a request with `items` octets of items. The caller appends them next.
     fn begin(&mut self, form: Form, flags: u8, items: u16, out: &mut Datagram)
         requires few { items ≤ 2 * item_width }
         requires room { length out.old + request_front ≤ datagram_room }
@@ -141,8 +144,8 @@ impl RequestWriter {
         self.len = items;
     }
 
-    /// Adds an item, or a range by its two ends; the limit's octets, less those of the requests so far, must have room.
-    /// `false` exactly where the requests would pass the limit, and nothing is changed then.
+    /// Appends an item, or a range by its two ends. Returns false if the requests would exceed the limit; then nothing changes.
+    /// The datagram needs room for what the limit still allows.
     // Proof: it asks for numbers alone: if the datagram stands for a list of requests, it stands for one more. No list is kept.
     pub fn push_item(
         &mut self,

@@ -1,6 +1,5 @@
-//! The feedback of receivers (RFC 5740 section 4.3): negative and positive acknowledgements, read and written by
-//! the grammar of `norm_ext`. `read_nack` gives a `NackMsg` and `read_ack` an `AckMsg`, whose parts are lent from the
-//! datagram.
+//! The feedback of receivers (RFC 5740 section 4.3): NACKs and ACKs. [`read_nack`] and [`read_ack`] read octets as a [`NackMsg`] or an
+//! [`AckMsg`], which borrow from them; [`write_nack`] and [`write_ack`] write them. [`is_for`] tells if a sender has to consider them.
 #![tactic(auto)]
 
 mod hearing;

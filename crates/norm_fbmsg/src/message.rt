@@ -1,4 +1,4 @@
-//! What a receiver's feedback says.
+//! Feedback as values, and which of it can be written.
 
 ghost use Rattle.std.specs.Prelude.{◌≡◌, ◌↔◌, IsTrue, length};
 ghost use Rattle.norm_ext.specs.Requests.{requests_of, IsRequests};
@@ -13,45 +13,45 @@ use norm_ext::{Item, Requests, requests_of as requests_in};
 // NORM_ACK_FLUSH. An acknowledgement of any other type is lent as it is, and not read.
 pub const FLUSH_ACK: u8 = 2;
 
-/// A negative acknowledgement: a receiver asks for repair. Its parts are lent from the datagram.
+/// A NACK: a receiver requests repairs. Its slices borrow from the datagram.
 #[derive(Clone, Copy, Debug, PartialEq, Eq)]
 pub struct NackMsg<'a> {
     pub source: NodeId,
     pub sequence: u16,
-    /// The sender that is asked.
+    /// The sender that should repair.
     pub sender: NodeId,
     pub instance: InstanceId,
-    /// The header extensions, whole words.
+    /// The header extensions, in whole words.
     pub exts: &'a [u8],
     /// A list of whole requests.
     pub requests: &'a [u8],
 }
 
-/// What an acknowledgement holds.
+/// The content of an acknowledgement.
 #[derive(Clone, Copy, Debug, PartialEq, Eq)]
 pub enum AckBody<'a> {
-    /// The symbol up to which all has come; of type 2 alone.
+    /// The receiver confirms everything up to this symbol. Only acknowledgements of type `FLUSH_ACK` have it.
     Mark(Item),
-    /// What is not read, of every other type.
+    /// The content of every other type, kept unread.
     Opaque(&'a [u8]),
 }
 
-/// A positive acknowledgement. Its parts are lent from the datagram.
+/// An ACK. Its slices borrow from the datagram.
 #[derive(Clone, Copy, Debug, PartialEq, Eq)]
 pub struct AckMsg<'a> {
     pub source: NodeId,
     pub sequence: u16,
-    /// The sender that asked.
+    /// The sender that requested it.
     pub sender: NodeId,
     pub instance: InstanceId,
     pub ack_type: u8,
     pub ack_id: u8,
-    /// The header extensions, whole words.
+    /// The header extensions, in whole words.
     pub exts: &'a [u8],
     pub body: AckBody<'a>,
 }
 
-/// Whether the extensions and so many octets of content have room behind the fixed fields.
+/// Whether extensions and `content` octets of content have room after the fixed fields.
 fn parts_fit(exts: &[u8], content: usize) -> bool
     ensures { IsTrue result ↔ CanWriteParts exts.now content }
 {
@@ -59,15 +59,15 @@ fn parts_fit(exts: &[u8], content: usize) -> bool
 }
 
 impl<'a> NackMsg<'a> {
-    /// Whether it can be written: its extensions and requests are whole, its header has at most 255 words, and the whole
-    /// at most 1,500 octets.
+    /// Whether [`write_nack`](crate::write_nack) can write it: its extensions and requests are whole, its header has at most 255 words, and the
+    /// datagram at most 1,500 octets.
     pub fn fits(&self) -> bool
         ensures { IsTrue result ↔ CanWriteNack self.now }
     {
         parts_fit(self.exts, self.requests.len()) && are_requests(self.requests)
     }
 
-    /// Its requests, in their order.
+    /// Returns an iterator over its requests. They are whole if the message was read.
     pub fn requests(&self) -> Requests<'a>
         requires { IsRequests self.now.requests.now }
         ensures { result ≡ requests_of self.now.requests.now }
@@ -77,7 +77,7 @@ impl<'a> NackMsg<'a> {
 }
 
 impl<'a> AckBody<'a> {
-    /// Its octets.
+    /// Returns its length in octets.
     fn len(&self) -> usize
         ensures { result ≡ body_length self.now }
     {
@@ -87,7 +87,7 @@ impl<'a> AckBody<'a> {
         }
     }
 
-    /// Whether it is an item exactly where the type is 2.
+    /// Whether the type can have this content: an item if the type is `FLUSH_ACK`, and unread octets otherwise.
     fn is_of(&self, ack_type: u8) -> bool
         ensures { IsTrue result ↔ HasBody ack_type self.now }
     {
@@ -99,8 +99,8 @@ impl<'a> AckBody<'a> {
 }
 
 impl<'a> AckMsg<'a> {
-    /// Whether it can be written: its extensions are whole, its header has at most 255 words, the whole at most 1,500
-    /// octets, and it holds an item exactly where its type is 2.
+    /// Whether [`write_ack`](crate::write_ack) can write it: its extensions are whole, its header has at most 255 words, the datagram at most 1,500
+    /// octets, and it has an item if and only if its type is `FLUSH_ACK`.
     pub fn fits(&self) -> bool
         ensures { IsTrue result ↔ CanWriteAck self.now }
     {

@@ -1,4 +1,4 @@
-//! Reading of feedback (RFC 5740 section 4.3).
+//! Reads feedback (RFC 5740 section 4.3).
 
 ghost use Rattle.std.specs.Prelude.{◌≡◌, ◌+◌, ◌*◌, ◌≤◌, ◌<◌, ◌^◌, Ok, Err, MatchResult, IfOk, OnOk, length};
 ghost use Rattle.norm_ext.specs.Places.{item_width};
@@ -16,7 +16,11 @@ use norm_ext::places::{
 };
 use norm_ext::{Item, MessageType, Refusal, check_requests, read_16, read_32, read_name};
 
-/// The negative acknowledgement that the octets spell, or the first refusal.
+/// Reads a NACK. It takes no memory: the result borrows from the octets.
+///
+/// # Errors
+///
+/// If the octets spell no NACK, the first refusal that applies, in the order of [`Refusal`].
 #[tactic(auto, unfolding(norm_ext::specs::Reading::nack_read))]
 pub fn read_nack(bytes: &[u8]) -> Result<NackMsg<'_>, Refusal>
     ensures exact { MatchResult result (λ m. nack_read bytes.now ≡ Ok (nack_of m)) (λ refusal. nack_read bytes.now ≡ Err refusal) }
@@ -38,7 +42,8 @@ pub fn read_nack(bytes: &[u8]) -> Result<NackMsg<'_>, Refusal>
     })
 }
 
-/// The FEC Encoding ID of a flush's acknowledgement, where its content is one item.
+/// Refuses a flush acknowledgement if it has one item whose FEC Encoding ID is not 5. `at` is the offset of the content.
+/// Accepts it if the content is not as long as an item: `check_ack_length` refuses that later.
 fn check_ack_encoding(ack_type: u8, at: usize, content: &[u8]) -> Result<(), Refusal>
     ensures { result ≡ ack_encoding_checked ack_type at content.now }
 {
@@ -52,7 +57,7 @@ fn check_ack_encoding(ack_type: u8, at: usize, content: &[u8]) -> Result<(), Ref
     Ok(())
 }
 
-/// The length of a flush's acknowledgement's content, which is one item.
+/// Refuses a flush acknowledgement if its content is not as long as one item.
 fn check_ack_length(ack_type: u8, content: &[u8]) -> Result<(), Refusal>
     ensures exact { result ≡ ack_length_checked ack_type content.now }
     ensures item { OnOk result (ack_type ≡ flush_ack → length content.now ≡ item_width) }
@@ -64,7 +69,7 @@ fn check_ack_length(ack_type: u8, content: &[u8]) -> Result<(), Refusal>
     Ok(())
 }
 
-/// What an acknowledgement of a type holds.
+/// Returns the content of an acknowledgement of this type.
 fn body_of(ack_type: u8, content: &[u8]) -> AckBody<'_>
     requires { ack_type ≡ flush_ack → length content.now ≡ item_width }
     ensures { content_of result ≡ ack_content_of ack_type content.now }
@@ -78,7 +83,11 @@ fn body_of(ack_type: u8, content: &[u8]) -> AckBody<'_>
     })
 }
 
-/// The positive acknowledgement that the octets spell, or the first refusal.
+/// Reads an ACK. It takes no memory: the result borrows from the octets.
+///
+/// # Errors
+///
+/// If the octets spell no ACK, the first refusal that applies, in the order of [`Refusal`].
 #[tactic(auto, unfolding(norm_ext::specs::Reading::ack_read))]
 pub fn read_ack(bytes: &[u8]) -> Result<AckMsg<'_>, Refusal>
     ensures exact { MatchResult result (λ m. ack_read bytes.now ≡ Ok (ack_of m)) (λ refusal. ack_read bytes.now ≡ Err refusal) }

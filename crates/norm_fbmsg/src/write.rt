@@ -1,4 +1,4 @@
-//! Writing of feedback (RFC 5740 section 4.3).
+//! Writes feedback (RFC 5740 section 4.3).
 
 ghost use Rattle.std.specs.Prelude.{◌≡◌, ◌+◌, ◌≤◌, ◌++◌, [], length};
 ghost use Rattle.norm_base.specs.Sizes.{datagram_room};
@@ -16,7 +16,7 @@ use norm_ext::header::ENCODING_ID;
 use norm_ext::places::{FEEDBACK_WORDS, WORD};
 use norm_ext::pushing::{push_16, push_front, push_instance, push_name, push_node};
 
-/// Writes a negative acknowledgement with these extensions and requests.
+/// Writes a NACK with these extensions and requests, and the other fields of `msg`.
 fn write_nack_parts(msg: &NackMsg<'_>, exts: &[u8], requests: &[u8], out: &mut Datagram)
     requires empty { out.old ≡ [] }
     requires parts { CanWriteParts exts.now (length requests.now) }
@@ -39,8 +39,7 @@ fn write_nack_parts(msg: &NackMsg<'_>, exts: &[u8], requests: &[u8], out: &mut D
     out.push(requests);
 }
 
-/// Writes the message into the empty datagram: the octets that spell it, with zeros in the reserved places and the
-/// time stamps.
+/// Writes a NACK into an empty datagram. Reserved octets and the time stamp are 0. Ask [`fits`](NackMsg::fits) first if it may not fit.
 pub fn write_nack(msg: &NackMsg<'_>, out: &mut Datagram)
     requires empty { out.old ≡ [] }
     requires message { CanWriteNack msg.now }
@@ -49,7 +48,7 @@ pub fn write_nack(msg: &NackMsg<'_>, out: &mut Datagram)
     write_nack_parts(msg, msg.exts, msg.requests, out);
 }
 
-/// Adds what an acknowledgement holds.
+/// Appends the content of an acknowledgement.
 fn push_body(body: &AckBody<'_>, out: &mut Datagram)
     requires { length out.old + body_length body.now ≤ datagram_room }
     ensures { out.new ≡ out.old ++ content_octets (content_of body.now) (zero_list 1) }
@@ -64,7 +63,7 @@ fn push_body(body: &AckBody<'_>, out: &mut Datagram)
     }
 }
 
-/// Writes a positive acknowledgement with these extensions.
+/// Writes an ACK with these extensions, and the other fields of `msg`.
 fn write_ack_parts(msg: &AckMsg<'_>, exts: &[u8], out: &mut Datagram)
     requires empty { out.old ≡ [] }
     requires parts { CanWriteParts exts.now (body_length msg.now.body) }
@@ -87,8 +86,7 @@ fn write_ack_parts(msg: &AckMsg<'_>, exts: &[u8], out: &mut Datagram)
     push_body(&msg.body, out);
 }
 
-/// Writes the message into the empty datagram: the octets that spell it, with zeros in the reserved places and the
-/// time stamps.
+/// Writes an ACK into an empty datagram. Reserved octets and the time stamp are 0. Ask [`fits`](AckMsg::fits) first if it may not fit.
 pub fn write_ack(msg: &AckMsg<'_>, out: &mut Datagram)
     requires empty { out.old ≡ [] }
     requires message { CanWriteAck msg.now }

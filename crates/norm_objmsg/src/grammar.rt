@@ -1,5 +1,4 @@
-//! INFO and DATA with any header extensions (RFC 5740 section 4.2.1 and 4.2.2), read by the grammar of `norm_ext`.
-//! Their parts are lent from the datagram.
+//! Reads and writes INFO and DATA with any header extensions (RFC 5740 sections 4.2.1 and 4.2.2), and reads the segment in a stream's symbol.
 
 ghost use Rattle.std.specs.Prelude.{◌≡◌, ◌↔◌, ◌+◌, ◌≤◌, ◌<◌, IsTrue, Ok, Err, MatchResult, IfOk, [], length};
 ghost use Rattle.norm_ext.specs.Reading.{info_read, data_read};
@@ -26,28 +25,28 @@ const MSG_START_AT: usize = 2;
 
 const OFFSET_AT: usize = 4;
 
-/// NORM_INFO: an object's info.
+/// NORM_INFO: the info of an object. Its slices borrow from the datagram.
 #[derive(Clone, Copy, Debug, PartialEq, Eq)]
 pub struct InfoMsg<'a> {
     pub head: ObjHead,
-    /// The header extensions, whole words.
+    /// The header extensions, in whole words.
     pub exts: &'a [u8],
     pub info: &'a [u8],
 }
 
-/// NORM_DATA: one symbol of an object.
+/// NORM_DATA: one symbol of an object. Its slices borrow from the datagram.
 #[derive(Clone, Copy, Debug, PartialEq, Eq)]
 pub struct DataMsg<'a> {
     pub head: ObjHead,
     pub id: PayloadId,
-    /// The header extensions, whole words.
+    /// The header extensions, in whole words.
     pub exts: &'a [u8],
     pub payload: &'a [u8],
 }
 
 impl<'a> InfoMsg<'a> {
-    /// Whether it can be written: its extensions are whole, its header has at most 255 words, the whole at most 1,500
-    /// octets, and `backoff` and `gsize` are below 16.
+    /// Whether [`write_info`] can write it: its extensions are whole, its header has at most 255 words, the datagram at most 1,500 octets, and
+    /// `backoff` and `gsize` are below 16.
     pub fn fits(&self) -> bool
         ensures { IsTrue result ↔ CanWrite info_header self.now.head self.now.exts.now self.now.info.now }
     {
@@ -56,7 +55,7 @@ impl<'a> InfoMsg<'a> {
 }
 
 impl<'a> DataMsg<'a> {
-    /// Whether it can be written, as `InfoMsg::fits`.
+    /// Whether [`write_data`] can write it: the conditions are those of [`InfoMsg::fits`].
     pub fn fits(&self) -> bool
         ensures { IsTrue result ↔ CanWrite data_header self.now.head self.now.exts.now self.now.payload.now }
     {
@@ -65,20 +64,24 @@ impl<'a> DataMsg<'a> {
     }
 }
 
-/// The payload of a stream's symbol: a segment and where it stands.
+/// A segment of a stream with its offset, as a symbol's payload has it.
 // The order (norm_order) has a definition of its own for a segment's octets, because it does not stand on the messages.
 #[derive(Clone, Copy, Debug, PartialEq, Eq)]
 pub struct StreamPart<'a> {
-    /// The length that the payload says.
+    /// The number of octets, as the payload says.
     pub len: u16,
     pub msg_start: u16,
-    /// The offset in the stream.
+    /// The offset of the segment in the stream.
     pub offset: u32,
-    /// The first `len` octets behind the eight that say so.
+    /// The `len` octets after the eight of the three fields before.
     pub octets: &'a [u8],
 }
 
-/// The NORM_INFO message that the octets spell, or the first refusal.
+/// Reads a NORM_INFO. It takes no memory: the result borrows from the octets.
+///
+/// # Errors
+///
+/// If the octets spell no NORM_INFO, the first refusal that applies, in the order of [`Refusal`].
 #[tactic(auto, unfolding(norm_ext::specs::Reading::info_read))]
 pub fn read_info(bytes: &[u8]) -> Result<InfoMsg<'_>, Refusal>
     ensures exact { MatchResult result (λ m. info_read bytes.now ≡ Ok (info_of m)) (λ refusal. info_read bytes.now ≡ Err refusal) }
@@ -96,7 +99,11 @@ pub fn read_info(bytes: &[u8]) -> Result<InfoMsg<'_>, Refusal>
     })
 }
 
-/// The NORM_DATA message that the octets spell, or the first refusal.
+/// Reads a NORM_DATA. It takes no memory: the result borrows from the octets.
+///
+/// # Errors
+///
+/// If the octets spell no NORM_DATA, the first refusal that applies, in the order of [`Refusal`].
 #[tactic(auto, unfolding(norm_ext::specs::Reading::data_read))]
 pub fn read_data(bytes: &[u8]) -> Result<DataMsg<'_>, Refusal>
     ensures exact { MatchResult result (λ m. data_read bytes.now ≡ Ok (data_of m)) (λ refusal. data_read bytes.now ≡ Err refusal) }
@@ -115,8 +122,8 @@ pub fn read_data(bytes: &[u8]) -> Result<DataMsg<'_>, Refusal>
     })
 }
 
-/// The segment that a stream's payload has. `None` exactly where there are fewer than 8 octets, or fewer behind these
-/// than the payload says.
+/// Returns the segment in the payload of a stream's symbol. Returns `None` if the payload has fewer than eight octets, or fewer after them than
+/// it says. More octets are ignored.
 // Nothing calls it so far: a receiver hands up the octets of a coded row. It stays for programs that read single datagrams.
 pub fn read_part(payload: &[u8]) -> Option<StreamPart<'_>>
     ensures { option_map part_of result ≡ segment_in payload.now }
@@ -136,7 +143,7 @@ pub fn read_part(payload: &[u8]) -> Option<StreamPart<'_>>
     })
 }
 
-/// Writes the parts of a NORM_INFO message.
+/// Writes a NORM_INFO from its parts.
 fn write_info_parts(head: &ObjHead, exts: &[u8], info: &[u8], out: &mut Datagram)
     requires empty { out.old ≡ [] }
     requires parts { CanWrite info_header head.now exts.now info.now }
@@ -155,7 +162,7 @@ fn write_info_parts(head: &ObjHead, exts: &[u8], info: &[u8], out: &mut Datagram
     out.push(info);
 }
 
-/// Writes the message into the empty datagram: the octets that spell it.
+/// Writes a NORM_INFO into an empty datagram. Ask [`fits`](InfoMsg::fits) first if it may not fit.
 pub fn write_info(msg: &InfoMsg<'_>, out: &mut Datagram)
     requires empty { out.old ≡ [] }
     requires message { CanWrite info_header msg.now.head msg.now.exts.now msg.now.info.now }
@@ -164,7 +171,7 @@ pub fn write_info(msg: &InfoMsg<'_>, out: &mut Datagram)
     write_info_parts(&msg.head, msg.exts, msg.info, out);
 }
 
-/// Writes the parts of a NORM_DATA message.
+/// Writes a NORM_DATA from its parts.
 fn write_data_parts(head: &ObjHead, id: &PayloadId, exts: &[u8], payload: &[u8], out: &mut Datagram)
     requires empty { out.old ≡ [] }
     requires parts { CanWrite data_header head.now exts.now payload.now }
@@ -184,7 +191,7 @@ fn write_data_parts(head: &ObjHead, id: &PayloadId, exts: &[u8], payload: &[u8],
     out.push(payload);
 }
 
-/// Writes the message into the empty datagram: the octets that spell it.
+/// Writes a NORM_DATA into an empty datagram. Ask [`fits`](DataMsg::fits) first if it may not fit.
 pub fn write_data(msg: &DataMsg<'_>, out: &mut Datagram)
     requires empty { out.old ≡ [] }
     requires message { CanWrite data_header msg.now.head msg.now.exts.now msg.now.payload.now }

@@ -1,4 +1,4 @@
-//! A sender that a test drives.
+//! The sender that these tests drive.
 
 use norm_base::{Datagram, InstanceId, Memory, Moment, Octets, Origin, Profile, Sent};
 use norm_send_rules::{Job, MarkFault, News, Receipt, SendFault};
@@ -6,13 +6,13 @@ use norm_sender::Sender;
 use std::alloc::Global;
 use std::marker::Model;
 
-/// Whose commands those of tests are.
+/// The origin of each command of these tests.
 const BY: Origin = Origin {
     producer: 1,
     number: 1,
 };
 
-/// A sender in the middle of no file, so that each of its calls may come next.
+/// A sender that is not in the middle of a file between two calls. So any call may come next.
 #[derive(Drop)]
 pub(crate) struct Driven {
     sender: Sender,
@@ -30,7 +30,7 @@ impl Model for Driven {
 }
 
 impl Driven {
-    /// A new sender of instance 7.
+    /// Returns a new sender with instance 7. `Memory` if memory runs out.
     pub(crate) fn new(alloc: Global, profile: &Profile) -> Result<Driven, Memory> {
         let sender = Sender::new(alloc, profile, InstanceId(7))?;
         Ok(Driven { sender })
@@ -44,7 +44,7 @@ impl Driven {
         self.sender.tick(now, out)
     }
 
-    /// Enqueues a data object.
+    /// Enqueues a data object without an info. If it is refused, it is dropped.
     pub(crate) fn data(&mut self, bytes: Octets) -> Result<Receipt, SendFault> {
         let job = Job::Data { info: None, bytes };
         match self.sender.command(BY, job, Moment(0)) {
@@ -65,7 +65,7 @@ impl Driven {
         self.sender.news()
     }
 
-    /// Enqueues a file by two pieces of its octets. The first has so many.
+    /// Enqueues a file in two pieces. The first has `first` octets, or all of them if there are fewer.
     pub(crate) fn file_in_two(
         &mut self,
         name: Octets,
@@ -85,7 +85,7 @@ impl Driven {
         }
     }
 
-    /// Begins a file, and gives it up when so many octets are missing. Returns whether it was begun.
+    /// Begins a file that has `missing` octets more than `piece`, adds `piece`, and gives the file up. Returns whether the file was begun.
     pub(crate) fn file_given_up(&mut self, name: Octets, piece: &[u8], missing: u32) -> bool {
         let len = piece.len() as u64 + u64::from(missing);
         match self.sender.begin_file(name, len) {

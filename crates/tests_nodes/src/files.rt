@@ -1,4 +1,5 @@
-//! Rows of files that a sender is handed in two pieces, or that are given up. The datagrams are spelled by the formats of their messages.
+//! Tests of files that a sender gets in two pieces, and of one that is given up. The expected datagrams are written in hexadecimal, after the
+//! formats of their messages.
 
 use crate::driven::Driven;
 use crate::spelled::{Runs, filled, octets_of, profile_of};
@@ -9,55 +10,55 @@ use std::alloc::Global;
 use std::process::Abort;
 use std::test::Fail;
 
-/// What is told.
+/// News of the sender, as a step compares them.
 #[derive(Clone, Copy, PartialEq, Eq)]
 enum Told {
-    /// A member is listed past the last symbol of the file with this index.
+    /// The member with this id is listed past the last symbol of the file with this index.
     Past(u32, u32),
-    /// A watermark ended.
+    /// The watermark with this number ended.
     Done(u32, Outcome),
     Nothing,
-    /// What no row wants.
+    /// News that no step expects.
     Other,
 }
 
-/// A call of a sender, with what it has to answer. A moment is a number of milliseconds.
+/// A call of a sender, and the result that it has to have. Times are in milliseconds.
 #[derive(Clone, Copy)]
 enum Step {
-    /// A file of such octets under the name of this one letter, in two pieces. The first has so many. The file gets this index; with none,
-    /// it is refused, since object 0 may not go.
+    /// Enqueues a file with these octets in two pieces. Its name is this one letter, and its first piece has this many octets. The file gets this
+    /// index. If there is none, it is refused because object 0 cannot be dropped.
     InTwo(u8, Runs, usize, Option<u32>),
-    /// A file of which such octets come, and that is given up when so many are missing.
+    /// Begins a file, adds these octets, and gives it up with this many octets missing.
     GivesUp(Runs, u32),
-    /// A mark makes the watermark of this number, which ends at the last symbol of the file with this index.
+    /// A mark makes the watermark with this number, at the last symbol of the file with this index.
     Mark(u32, u32),
-    /// A mark is refused, since nothing was enqueued.
+    /// A mark is refused because nothing was enqueued.
     Unmarked,
     Restart(u16),
-    /// A tick at a moment sends these octets, spelled as a text, and so many octets after them.
+    /// A tick at this time sends the octets of the hexadecimal text, and then this many octets of one value.
     Sends(u64, &'static str, (usize, u8)),
-    /// So many ticks, the first at a moment and one each millisecond, send a datagram each.
+    /// Ticks send this many datagrams, one each millisecond, and the first at this time.
     SendsMany(u64, u64),
-    /// A tick at a moment sends nothing.
+    /// A tick at this time sends nothing.
     Waits(u64),
-    /// A datagram comes at a moment.
+    /// A datagram arrives at this time.
     Hears(u64, &'static str),
     Tells(Told),
 }
 
-/// A sender, and the datagram that it writes to.
+/// A sender, and the datagram into which it writes.
 #[derive(Drop)]
 struct Files {
     sender: Driven,
     out: Datagram,
 }
 
-/// A moment by its milliseconds.
+/// Returns the moment at this many milliseconds.
 fn moment(milliseconds: u64) -> Moment {
     Moment(milliseconds.saturating_mul(1000))
 }
 
-/// The last symbol of a file of 1,048,576 octets.
+/// Returns the last symbol of the file with this index, if that has 1,048,576 octets.
 fn last_of(index: u32) -> Position {
     Position {
         index,
@@ -66,7 +67,7 @@ fn last_of(index: u32) -> Position {
     }
 }
 
-/// What a listing past this position says.
+/// Returns the listing of a member past this position as a step compares it. It is `Other` if this is not the last symbol of such a file.
 fn past_of(node: NodeId, at: Position) -> Told {
     if at == last_of(at.index) {
         return Told::Past(node.number(), at.index);
@@ -74,7 +75,7 @@ fn past_of(node: NodeId, at: Position) -> Told {
     Told::Other
 }
 
-/// What news say.
+/// Returns news as a step compares them.
 fn told_by(news: News) -> Told {
     match news {
         News::Past { node, at } => past_of(node, at),
@@ -82,7 +83,7 @@ fn told_by(news: News) -> Told {
     }
 }
 
-/// What news say; of none, that nothing is told.
+/// Returns news as a step compares them, or `Nothing` if there are none.
 fn told_of(news: Option<News>) -> Told {
     match news {
         Some(news) => told_by(news),
@@ -90,7 +91,7 @@ fn told_of(news: Option<News>) -> Told {
     }
 }
 
-/// What a file of so many octets is answered.
+/// Returns the result that a file of `len` octets has to have: this index, or a refusal if there is none.
 fn answer_of(wanted: Option<u32>, len: u64) -> Result<Receipt, SendFault> {
     match wanted {
         Some(index) => Ok(Receipt::Object { index, len }),
@@ -99,7 +100,7 @@ fn answer_of(wanted: Option<u32>, len: u64) -> Result<Receipt, SendFault> {
 }
 
 impl Files {
-    /// Whether a file in two pieces is answered so.
+    /// Whether a file in two pieces gets this index, or is refused if there is none.
     fn in_two(
         &mut self,
         alloc: Global,
@@ -125,7 +126,7 @@ impl Files {
         self.sender.tick(now, &mut self.out) == Sent::Datagram && self.out.bytes() == wanted
     }
 
-    /// Whether so many ticks send a datagram each, the first at this moment.
+    /// Whether ticks send `count` datagrams, one each millisecond, and the first at this time.
     fn sends_many(&mut self, first: u64, count: u64) -> bool {
         for number in 0..count {
             let now = moment(first.saturating_add(number));
@@ -152,7 +153,7 @@ impl Files {
         told_of(self.sender.news()) == wanted
     }
 
-    /// Makes a call, and says whether it was answered as it has to be.
+    /// Makes a call. Returns whether its result is the expected one.
     fn does(&mut self, alloc: Global, step: Step) -> Result<bool, Memory> {
         match step {
             Step::InTwo(letter, runs, first, wanted) => {
@@ -178,7 +179,7 @@ impl Files {
     }
 }
 
-/// Makes calls in their order, and sees what each answers.
+/// Makes calls in order. The test fails at the first one whose result is not the expected one.
 fn plays(rt: &impl Abort, alloc: Global, keys: &[(Key, u32)], steps: &[Step]) -> Result<(), Fail> {
     let Some(profile) = profile_of(keys) else {
         panic!(rt; "no profile");
@@ -194,7 +195,7 @@ fn plays(rt: &impl Abort, alloc: Global, keys: &[(Key, u32)], steps: &[Step]) ->
     Ok(())
 }
 
-/// A file that comes in two pieces, one that is given up, and a restart behind it.
+/// A file in two pieces, one that is given up, and a restart. After the restart, the first file is sent again as object 0.
 const MID_FILE: [Step; 11] = [
     Step::InTwo(0x61, &[(1, 0x68), (1, 0x69)], 1, Some(0)),
     Step::Sends(
@@ -231,14 +232,15 @@ fn a_file_that_is_given_up_leaves_nothing(rt: HostRuntime) -> Result<(), Fail> {
     plays(&rt, rt.alloc(), &[(Key::E, 64), (Key::B, 4)], &steps)
 }
 
-/// Files of 1,048,576 octets: the first, the second and the last symbol are each of one octet over and over, and so are all between.
+/// Files of 1,048,576 octets. The first symbol, the second, the last, and all between have one octet value each.
 const FILE_A: Runs = &[(1400, 0xa0), (1400, 0xa1), (1_044_400, 0xa2), (1376, 0xa3)];
 
 const FILE_B: Runs = &[(1400, 0xb0), (1400, 0xb1), (1_044_400, 0xb2), (1376, 0xb3)];
 
 const FILE_C: Runs = &[(1400, 0xc0), (1400, 0xc1), (1_044_400, 0xc2), (1376, 0xc3)];
 
-/// A window of two such files, whose ring has 1,499 slots: the third waits for the first, and lies in the last slot and the first 748.
+/// A window of two such files, whose ring has 1,499 slots. The third file is refused until the first one is confirmed. Then it takes the last slot
+/// and the first 748.
 const THREE_FILES: [Step; 35] = [
     Step::InTwo(0x61, FILE_A, 700_001, Some(0)),
     Step::Mark(1, 0),

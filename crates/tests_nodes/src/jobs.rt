@@ -1,4 +1,4 @@
-//! More objects than there are transport ids, one after the other, from a sender to a receiver.
+//! A test that passes more objects than there are transport ids from a sender to a receiver, one after the other.
 
 use crate::driven::Driven;
 use crate::spelled::{filled, octets_of, profile_of};
@@ -9,10 +9,10 @@ use norm_send_rules::Receipt;
 use std::alloc::Global;
 use std::test::Fail;
 
-/// The datagram of the first object, of one octet. Its sequence number stands in octets 2 and 3, and its id in octets 14 and 15.
+/// The DATA of the first object, which has one octet. Octets 2 and 3 are its sequence number, and octets 14 and 15 its id.
 const FIRST: &str = "12080000 00000001 00074041 00050000 00000000 40030000 00000001 00400406 61";
 
-/// A sender, a receiver, and the datagram that was written last.
+/// A sender, a receiver, and the last datagram that the sender wrote.
 #[derive(Drop)]
 struct Jobs {
     sender: Driven,
@@ -20,7 +20,7 @@ struct Jobs {
     out: Datagram,
 }
 
-/// The datagram of the object with this index.
+/// Returns the expected datagram of the object with this index.
 fn datagram(alloc: Global, index: u32) -> Result<Vec<u8>, Fail> {
     let mut octets = octets_of(alloc, FIRST, (0, 0))?;
     let high = u8::try_from(index / 256 % 256).unwrap_or(0);
@@ -33,7 +33,7 @@ fn datagram(alloc: Global, index: u32) -> Result<Vec<u8>, Fail> {
     Ok(octets)
 }
 
-/// Whether a hand-up is the object of this index, with its one octet.
+/// Whether a hand-up is the object with this index and the one octet `a`.
 fn is_object(up: &Option<Up>, wanted: u32) -> bool {
     match up {
         Some(Up::Object { index, bytes, .. }) => *index == wanted
@@ -43,7 +43,7 @@ fn is_object(up: &Option<Up>, wanted: u32) -> bool {
 }
 
 impl Jobs {
-    /// Whether an object joins the order as the one of this index.
+    /// Whether the sender accepts an object and gives it this index.
     fn joins(&mut self, octet: Octets, index: u32) -> bool {
         self.sender.data(octet) == Ok(Receipt::Object { index, len: 1 })
     }
@@ -53,17 +53,17 @@ impl Jobs {
         self.sender.tick(now, &mut self.out) == Sent::Datagram && self.out.bytes() == wanted
     }
 
-    /// They come to the receiver.
+    /// Delivers the sender's last datagram to the receiver.
     fn come(&mut self, now: Moment) -> Result<(), Fail> {
         Ok(self.receiver.deliver(self.out.bytes(), now, 0)?)
     }
 
-    /// Whether the receiver hands up the object of this index, and nothing else.
+    /// Whether the receiver hands up the object with this index, and nothing else.
     fn hands_up(&mut self, index: u32) -> bool {
         is_object(&self.receiver.take_up(), index) && self.receiver.take_up().is_none()
     }
 
-    /// Whether an object is enqueued as the one of this index, sent, delivered, and handed up once, at once.
+    /// Enqueues, sends and delivers an object. Returns whether it gets this index, and is handed up once, right after it was delivered.
     fn passes(&mut self, alloc: Global, index: u32) -> Result<bool, Fail> {
         let now = Moment(u64::from(index).saturating_mul(1000));
         let octet = filled(alloc, &[(1, 0x61)])?;
@@ -76,13 +76,13 @@ impl Jobs {
     }
 }
 
-/// The receiver with this node id.
+/// Returns the receiver with this node id. `Memory` if memory runs out.
 // The call stands alone: an exit after it, by `?`, costs much to prove, since a receiver has many parts.
 fn receiver_of(alloc: Global, profile: &Profile, node: NodeId) -> Result<Receiver, Memory> {
     Receiver::new(alloc, profile, node)
 }
 
-/// A sender with a window of one object, and a receiver.
+/// Returns a receiver, and a sender whose window has one object. If another one comes, the sender drops the one that it sent.
 fn begun(alloc: Global) -> Result<Jobs, Fail> {
     let keys = [(Key::E, 64), (Key::B, 4), (Key::Mode, 1), (Key::Window, 1)];
     let (profile, node) = match (profile_of(&keys), NodeId::of(2)) {
@@ -96,7 +96,7 @@ fn begun(alloc: Global) -> Result<Jobs, Fail> {
     })
 }
 
-/// Of so many objects, each of one octet, the first that does not pass.
+/// Passes up to `count` objects of one octet each. Returns the index of the first one that does not pass, or `None` if all do.
 fn first_of(alloc: Global, jobs: &mut Jobs, count: u32) -> Result<Option<u32>, Fail> {
     for index in 0..count {
         if !jobs.passes(alloc, index)? {
@@ -106,13 +106,13 @@ fn first_of(alloc: Global, jobs: &mut Jobs, count: u32) -> Result<Option<u32>, F
     Ok(None)
 }
 
-/// The same, from a new sender to a new receiver.
+/// As [`first_of`], with a new sender and a new receiver.
 fn first_that_stays(alloc: Global, count: u32) -> Result<Option<u32>, Fail> {
     let mut jobs = begun(alloc)?;
     first_of(alloc, &mut jobs, count)
 }
 
-/// The id of object 65,536 is 0 once more, and each object is handed up once, in order.
+/// Object 65,536 has the id 0 again. Each object is still handed up once, in order.
 #[test]
 fn ids_begin_again_and_indices_go_on(rt: HostRuntime) -> Result<(), Fail> {
     if let Some(index) = first_that_stays(rt.alloc(), 70_000)? {

@@ -1,4 +1,4 @@
-//! Tests of the nodes that no row of `replay` says: files in pieces, and more objects than there are transport ids.
+//! Tests of senders and receivers that the rows of `replay` leave out: files in pieces, and more objects than there are transport ids.
 #![tactic(auto)]
 
 #[cfg(test)]

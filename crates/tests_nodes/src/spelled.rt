@@ -1,12 +1,12 @@
-//! Octets and profiles as tests spell them.
+//! Octets and profiles in the short forms of these tests.
 
 use norm_base::{Given, Key, Memory, Octets, Profile};
 use std::alloc::Global;
 
-/// Runs of so many octets, each of one octet.
+/// Spans of equal octets: how many, and their value.
 pub(crate) type Runs = &'static [(usize, u8)];
 
-/// Runs of so many octets, each of one octet.
+/// Returns the octets of these spans. `Memory` if memory runs out.
 pub(crate) fn filled(alloc: Global, runs: &[(usize, u8)]) -> Result<Octets, Memory> {
     let mut octets = Vec::new(alloc);
     for (count, octet) in runs {
@@ -17,7 +17,7 @@ pub(crate) fn filled(alloc: Global, runs: &[(usize, u8)]) -> Result<Octets, Memo
     Ok(Octets::of(octets))
 }
 
-/// The octets that a text spells in hexadecimal, with spaces between them; none if it spells no octets.
+/// Returns the octets of a hexadecimal text, in which spaces are ignored. Returns none if it is not hexadecimal.
 fn decoded(alloc: Global, text: &str) -> Result<Vec<u8>, Memory> {
     let mut digits = Vec::new(alloc);
     for digit in text.as_bytes() {
@@ -31,7 +31,7 @@ fn decoded(alloc: Global, text: &str) -> Result<Vec<u8>, Memory> {
     }
 }
 
-/// The octets that a text spells, and so many octets after them.
+/// Returns the octets of a hexadecimal text, and then `behind.0` octets of the value `behind.1`.
 pub(crate) fn octets_of(
     alloc: Global,
     front: &str,
@@ -44,7 +44,7 @@ pub(crate) fn octets_of(
     Ok(octets)
 }
 
-/// The profile with these keys.
+/// Returns the profile with these values and otherwise the defaults. Returns `None` if they break a rule.
 // Each key comes through the loop: a call of `set` that names its key costs much to prove.
 pub(crate) fn profile_of(keys: &[(Key, u32)]) -> Option<Profile> {
     let mut given = Given::new();

@@ -1,8 +1,9 @@
-//! Worked rows of the partition, of a symbol's name and of the order of positions.
+//! Tests of `fec_plan`: how objects and streams are cut, names of symbols, and the order of positions. The expected numbers are worked examples.
 
 use fec_plan::{PayloadId, Plan, PlanFault, Position, laws};
 
-/// How an object is cut: its blocks; of one block its source and encoding symbols, and the octets of its last source symbol.
+/// Cuts an object. Returns how many blocks it has, and for one block the number of source symbols, the number of encoding symbols, and the octets
+/// of its last source symbol. Returns `None` if the object cannot be cut so.
 fn cut(l: u32, e: u16, b: u8, max_n: u8, block: u32) -> Option<(u32, u8, u8, u16)> {
     let plan = Plan::of(u64::from(l), e, b, max_n).ok()?;
     let sources = plan.source_len(block);
@@ -30,7 +31,8 @@ fn objects_are_cut_as_in_worked_rows(rt: HostRuntime) {
     }
 }
 
-/// How a stream is cut: its blocks; of one block its source and encoding symbols, and the octets of its first symbol.
+/// Cuts a stream. Returns how many blocks it has, and for one block the number of source symbols, the number of encoding symbols, and the octets
+/// of its first symbol. Returns `None` if it cannot be cut so.
 fn stream_cut(e: u16, b: u8, max_n: u8, block: u32) -> Option<(u32, u8, u8, u16)> {
     let plan = Plan::stream(e, b, max_n).ok()?;
     let (sources, encoded) = (plan.source_len(block), plan.encoded_len(block));
@@ -48,7 +50,7 @@ fn blocks_of_a_stream_are_alike(rt: HostRuntime) {
     assert!(rt; Plan::stream(63, 4, 6).err() == Some(PlanFault::BadSymbol { e: 63 }));
 }
 
-/// What is wrong with a cut of an object.
+/// Returns why an object cannot be cut, or `None` if it can.
 fn fault_of(l: u32, e: u16, b: u8, max_n: u8) -> Option<PlanFault> {
     Plan::of(u64::from(l), e, b, max_n).err()
 }
@@ -82,7 +84,7 @@ fn a_name_is_24_bits_of_block_and_8_of_symbol(rt: HostRuntime) {
     assert!(rt; id.bytes() == [1, 2, 3, 4]);
 }
 
-/// A position.
+/// Makes a position from an index, a block and a symbol.
 fn position(at: (u32, u16, u8)) -> Position {
     let (index, block, symbol) = at;
     Position {

@@ -1,4 +1,4 @@
-//! Rows of RFC 5510's field from outside, and products as polynomials.
+//! Tests of `gf_field`: values of RFC 5510's field that were not computed by this code, and all products against products of polynomials.
 
 use gf_field::{add_scaled, alpha_log, alpha_pow, inv, mul};
 
@@ -34,7 +34,7 @@ fn products_powers_and_inverses_are_those_of_the_field(rt: HostRuntime) {
     assert!(rt; inv(0x04) == 0x47);
 }
 
-/// The product as polynomials over two elements, reduced afterwards from the highest bit on.
+/// Multiplies two octets as polynomials over two elements, and then reduces the product by `0x11d` from the highest bit down.
 fn reduced_product(a: u8, b: u8) -> u8 {
     let mut product = 0u32;
     for place in 0..8u32 {
@@ -69,7 +69,7 @@ fn a_power_of_the_logarithm_is_the_octet(rt: HostRuntime) {
     }
 }
 
-/// Octets of no pattern.
+/// Returns 200 octets without an obvious pattern.
 fn octets_of(factor: u8) -> [u8; 200] {
     let mut octets = [0; 200];
     for (i, octet) in octets.iter_mut().enumerate() {
@@ -78,7 +78,7 @@ fn octets_of(factor: u8) -> [u8; 200] {
     octets
 }
 
-/// The sums with `c` times other octets, by products of polynomials.
+/// Returns `before` plus `c` times `octets`. Each product is a [`reduced_product`].
 fn expected(before: &[u8; 200], octets: &[u8; 200], c: u8) -> [u8; 200] {
     let mut sums = *before;
     for (sum, octet) in sums.iter_mut().zip(octets) {
@@ -87,7 +87,7 @@ fn expected(before: &[u8; 200], octets: &[u8; 200], c: u8) -> [u8; 200] {
     sums
 }
 
-/// The octets, of which so many are added to.
+/// Returns `before` after [`add_scaled`] added `c` times `octets` to its first `len` octets.
 fn scaled(before: &[u8; 200], octets: &[u8; 200], len: usize, c: u8) -> [u8; 200] {
     let mut sums = *before;
     if len <= 200 {

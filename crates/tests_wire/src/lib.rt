@@ -1,4 +1,4 @@
-//! Tests of what messages are made of: the field, codes, plans of objects, the base and the messages. A module for each crate.
+//! Tests of `norm_base` and `norm_text`, of plans, the field and the code, and of the messages. There is a module for each crate that is tested.
 #![tactic(auto)]
 
 #[cfg(test)]

@@ -1,4 +1,4 @@
-//! Each call once with ample memory.
+//! Tests of `norm_base`: each call once, with enough memory.
 
 ghost use Rattle.std.specs.Prelude.{◌≡◌};
 
@@ -7,12 +7,12 @@ use std::alloc::Global;
 use std::process::Abort;
 use std::test::Fail;
 
-/// The member with this id.
+/// Returns the member with this id. The test fails if no member can have it.
 fn member(rt: &impl Abort, n: u32) -> NodeId {
     NodeId::of(n).expect(rt, "a member's id")
 }
 
-/// A profile of sender 1 and receivers 2 and 3.
+/// Returns a profile with sender 1 and receivers 2 and 3.
 fn two_receivers() -> Profile
     ensures { result.receivers ≡ 2 }
 {
@@ -36,7 +36,7 @@ fn the_least_and_the_greatest_id_name_no_member(rt: HostRuntime) {
     assert!(rt; two_receivers().receiver(1) == member(&rt, 3));
 }
 
-/// Octets that are pushed, and then replaced in part.
+/// Returns a datagram to which octets were appended, and that was then replaced in part.
 fn written(alloc: Global) -> Result<Datagram, Memory> {
     let mut datagram = Datagram::new(alloc)?;
     datagram.push(b"hel");
@@ -44,7 +44,7 @@ fn written(alloc: Global) -> Result<Datagram, Memory> {
     Ok(datagram)
 }
 
-/// The room of a datagram that is cleared.
+/// Clears a datagram and returns its room.
 fn cleared_room(mut datagram: Datagram) -> usize {
     datagram.clear();
     datagram.room()
@@ -83,7 +83,7 @@ fn each_key_is_found_by_its_name_at_its_place(rt: HostRuntime) {
     assert!(rt; Key::E.value_of(b"64").is_none());
 }
 
-/// These values, and no others.
+/// Sets these values and no others.
 fn given_of(values: &[(Key, u32)]) -> Given {
     let mut given = Given::default();
     for (key, value) in values {
@@ -104,7 +104,7 @@ fn given_values_are_kept_for_their_keys(rt: HostRuntime) {
     assert!(rt; given.value(Key::MaxN) == 6);
 }
 
-/// Whether values make a profile that drops, with so many encoding symbols.
+/// Whether these values make a profile of mode `Drop` with this `max_n`.
 fn drops_with(values: &[(Key, u32)], max_n: u8) -> bool {
     match profile_of(values) {
         Some(profile) => profile.max_n == max_n && profile.mode == Mode::Drop,

@@ -1,4 +1,4 @@
-//! Worked datagrams: what is refused, and with what, and what is read and written.
+//! Tests of `norm_codec` and of `RequestWriter` with worked datagrams: how they are refused, read and written.
 
 ghost use Rattle.std.specs.Prelude.{◌≡◌, ◌≤◌, []};
 
@@ -11,26 +11,26 @@ use std::alloc::Global;
 use std::process::Abort;
 use std::test::Fail;
 
-/// Eight octets that begin with these two and end with the source 1.
+/// Returns a common header from source 1 with these first two octets.
 fn header(first: u8, words: u8) -> [u8; 8] {
     [first, words, 0, 0, 0, 0, 0, 1]
 }
 
-/// A DATA of source 1 and instance 7 without extensions, of which octets 7 and 13 are these.
+/// Returns a DATA of instance 7 without extensions. `source` is its octet 7, and `encoding` its octet 13.
 fn data(source: u8, encoding: u8) -> [u8; 20] {
     [
         0x12, 5, 0, 0, 0, 0, 0, source, 0, 7, 0x40, 0x41, 0, encoding, 0, 0, 0, 0, 0, 0,
     ]
 }
 
-/// A DATA with one extension, of which octet 21 is this.
+/// Returns a DATA with one extension. `words` is the length that the extension claims, at octet 21.
 fn extended(words: u8) -> [u8; 24] {
     [
         0x12, 6, 0, 0, 0, 0, 0, 1, 0, 7, 0x40, 0x41, 0, 5, 0, 0, 0, 0, 0, 0, 0x40, words, 0, 0,
     ]
 }
 
-/// A NACK of node 2 to sender 1 with one request, of which the form, the length and the encoding are these.
+/// Returns a NACK from node 2 to sender 1 with one request of this form. `length` is what the request claims, and `encoding` is its item's.
 fn nack(form: u8, length: u8, encoding: u8) -> [u8; 36] {
     [
         0x14, 6, 0, 0, 0, 0, 0, 2, 0, 0, 0, 1, 0, 7, 0, 0, 0, 0, 0, 0, 0, 0, 0, 0, form, 1, 0,
@@ -38,7 +38,7 @@ fn nack(form: u8, length: u8, encoding: u8) -> [u8; 36] {
     ]
 }
 
-/// With what octets are refused.
+/// Returns why octets are refused, or `None` if they are read.
 fn refusal_of(bytes: &[u8]) -> Option<Refusal> {
     match decode(bytes) {
         Ok(_) => None,
@@ -88,12 +88,12 @@ fn requests_are_refused_as_in_worked_rows(rt: HostRuntime) {
     }
 }
 
-/// A FLUSH of instance 7 and source 1 up to the first symbol of object 0, which asks node 2.
+/// A FLUSH of sender 1 and instance 7 up to the first symbol of object 0. It asks node 2 for an acknowledgement.
 const FLUSH: [u8; 24] = [
     0x13, 5, 0, 1, 0, 0, 0, 1, 0, 7, 0x40, 0x41, 1, 5, 0, 0, 0, 0, 0, 0, 0, 0, 0, 2,
 ];
 
-/// Its head.
+/// Returns the head of `FLUSH`.
 fn flush_head(rt: &impl Abort) -> CmdHead {
     CmdHead {
         source: NodeId::of(1).expect(rt, "a member's id"),
@@ -105,7 +105,7 @@ fn flush_head(rt: &impl Abort) -> CmdHead {
     }
 }
 
-/// A message's octets, where it can be written.
+/// Returns the octets of a message, or an empty datagram if the message cannot be written.
 fn written(alloc: Global, msg: &Message<'_>) -> Result<Datagram, Memory> {
     let mut out = Datagram::new(alloc)?;
     if msg.fits() {
@@ -114,7 +114,7 @@ fn written(alloc: Global, msg: &Message<'_>) -> Result<Datagram, Memory> {
     Ok(out)
 }
 
-/// Whether these octets are read as the worked FLUSH.
+/// Whether octets are read as the message of `FLUSH`.
 fn is_flush(rt: &impl Abort, bytes: &[u8]) -> bool {
     match decode(bytes) {
         Ok(Message::Command(msg)) => is_flush_command(rt, &msg),
@@ -122,7 +122,7 @@ fn is_flush(rt: &impl Abort, bytes: &[u8]) -> bool {
     }
 }
 
-/// Whether a command is the worked FLUSH.
+/// Whether a command is the message of `FLUSH`.
 fn is_flush_command(rt: &impl Abort, msg: &CommandMsg<'_>) -> bool {
     match msg {
         CommandMsg::Flush {
@@ -142,7 +142,7 @@ fn is_flush_command(rt: &impl Abort, msg: &CommandMsg<'_>) -> bool {
     }
 }
 
-/// The octets of the message that these spell, and none where they spell none.
+/// Reads octets and writes their message again. Returns an empty datagram if they are refused.
 fn rewritten(alloc: Global, bytes: &[u8]) -> Result<Datagram, Memory> {
     match decode(bytes) {
         Ok(msg) => written(alloc, &msg),
@@ -159,7 +159,7 @@ fn a_flush_is_read_and_written(rt: HostRuntime) -> Result<(), Fail> {
     Ok(())
 }
 
-/// Whether a writer of so many octets takes one erasure count of 1 for object 0 and block 0.
+/// Whether a writer with this limit accepts an erasure count of 1 for object 0, block 0.
 fn takes_a_count(limit: u16, out: &mut Datagram) -> bool
     requires empty { out.old ≡ [] }
     requires limit { limit ≤ 1500 }

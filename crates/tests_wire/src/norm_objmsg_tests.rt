@@ -1,4 +1,4 @@
-//! A worked NORM_DATA message, and octets that spell none.
+//! Tests of `norm_objmsg` and of transmission information: a worked NORM_DATA, and octets that are refused.
 
 ghost use Rattle.std.specs.Prelude.{◌<◌};
 
@@ -9,13 +9,13 @@ use norm_objmsg::{DataMsg, ObjHead, read_data, write_data};
 use std::process::Abort;
 use std::test::Fail;
 
-/// Sequence 0 of instance 7 and source 1: object 0, of 5 octets, cut by e 64, b 4 and max_n 6.
+/// A NORM_DATA from source 1, instance 7, with sequence 0: object 0, which has 5 octets and is cut by E 64, B 4 and max_n 6.
 const WORKED: [u8; 37] = [
     0x12, 0x08, 0, 0, 0, 0, 0, 1, 0, 7, 0x40, 0x41, 0, 5, 0, 0, 0, 0, 0, 0, 0x40, 3, 0, 0, 0, 0, 0,
     5, 0, 0x40, 4, 6, 0x68, 0x65, 0x6c, 0x6c, 0x6f,
 ];
 
-/// The head of the worked message.
+/// Returns the head of `WORKED`.
 fn worked_head(rt: &impl Abort) -> ObjHead
     ensures { (result.backoff < 16) × (result.gsize < 16) }
 {
@@ -31,7 +31,7 @@ fn worked_head(rt: &impl Abort) -> ObjHead
     }
 }
 
-/// What its extension says.
+/// The transmission information of `WORKED`.
 const FTI: Fti = Fti {
     l: 5,
     e: 64,
@@ -55,7 +55,7 @@ fn the_worked_message_is_written(rt: HostRuntime) -> Result<(), Fail> {
     Ok(())
 }
 
-/// Whether extensions say what the worked message's does.
+/// Whether extensions have the transmission information of `WORKED`.
 fn is_fti(exts: &[u8]) -> bool {
     match Extensions::check(exts) {
         Ok(exts) => read_fti(exts) == Some(FTI),
@@ -63,7 +63,7 @@ fn is_fti(exts: &[u8]) -> bool {
     }
 }
 
-/// Whether these octets are read as the worked message.
+/// Whether octets are read as the message of `WORKED`.
 fn is_worked(rt: &impl Abort, bytes: &[u8]) -> bool {
     match read_data(bytes) {
         Ok(msg) => {
@@ -82,7 +82,7 @@ fn the_worked_message_is_read(rt: HostRuntime) {
     assert!(rt; is_worked(&rt, &bytes));
 }
 
-/// Whether these octets spell a message.
+/// Whether octets are read as a NORM_DATA.
 fn is_read(bytes: &[u8]) -> bool {
     read_data(bytes).is_ok()
 }

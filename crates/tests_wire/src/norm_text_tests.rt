@@ -1,11 +1,11 @@
-//! Printed lines word by word, and octets as digits at each length at which the code takes another way.
+//! Tests of `norm_text`: printed lines, one call at a time, and octets as digits at each length at which the code takes another way.
 
 use norm_base::{Kind, Octets};
 use norm_text::{Line, kind_word, push_digits};
 use std::alloc::{AllocError, Global};
 use std::test::Fail;
 
-/// What is put behind a line, with how it reads there.
+/// What is appended to a line, and by which call.
 #[derive(Clone, Copy)]
 enum What {
     Word(&'static [u8]),
@@ -18,7 +18,7 @@ enum What {
     Info(Option<&'static [u8]>),
 }
 
-/// Puts an info.
+/// Appends an info, or what a line has if there is none.
 fn put_info(alloc: Global, line: &mut Line, info: Option<&'static [u8]>) -> Result<(), AllocError> {
     match info {
         Some(octets) => line.info(&Some(Octets::of(Vec::from_slice(alloc, octets)?))),
@@ -39,20 +39,20 @@ fn put(alloc: Global, line: &mut Line, what: What) -> Result<(), AllocError> {
     }
 }
 
-/// A line of one word and what is put behind it.
+/// Returns a line of the word `data` and what is appended to it.
 fn line_of(alloc: Global, what: What) -> Result<Vec<u8>, AllocError> {
     let mut line = Line::begin(alloc, b"data", 8)?;
     put(alloc, &mut line, what)?;
     line.end()
 }
 
-/// Whether the line with this behind its first word reads so.
+/// Whether the line with this after its first word is `text`.
 fn reads(alloc: Global, what: What, text: &[u8]) -> Result<bool, AllocError> {
     let line = line_of(alloc, what)?;
     Ok(line.as_slice() == text)
 }
 
-/// What is put, and the line.
+/// What is appended, and the line that this gives.
 const LINES: [(What, &[u8]); 12] = [
     (What::Word(b"x"), b"data x\n"),
     (What::Word(b""), b"data \n"),
@@ -80,7 +80,7 @@ fn words_stand_behind_a_line(rt: HostRuntime) -> Result<(), Fail> {
     Ok(())
 }
 
-/// Whether so many octets `a5` are so many pairs of digits behind a text.
+/// Whether `push_digits` appends two digits for each of `count` octets `a5`.
 fn are_digits(alloc: Global, count: usize) -> Result<bool, AllocError> {
     let octets = vec![in alloc; 0xa5; count]?;
     let mut text = Vec::from_slice(alloc, b">")?;
@@ -101,13 +101,13 @@ fn octets_are_two_digits_each(rt: HostRuntime) -> Result<(), Fail> {
     Ok(())
 }
 
-/// Thirty-two octets that have each digit as their high and as their low half.
+/// Thirty-two octets in which each digit occurs as a high and as a low half.
 const EACH: [u8; 32] = [
     0x01, 0x23, 0x45, 0x67, 0x89, 0xab, 0xcd, 0xef, 0x10, 0x32, 0x54, 0x76, 0x98, 0xba, 0xdc, 0xfe,
     0x0f, 0x1e, 0x2d, 0x3c, 0x4b, 0x5a, 0x69, 0x78, 0x87, 0x96, 0xa5, 0xb4, 0xc3, 0xd2, 0xe1, 0xf0,
 ];
 
-/// The digits of these.
+/// Returns the digits of `EACH`.
 fn digits_of_each(alloc: Global) -> Result<Vec<u8>, AllocError> {
     let mut text = Vec::new(alloc);
     push_digits(&mut text, &EACH)?;

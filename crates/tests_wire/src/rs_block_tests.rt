@@ -1,4 +1,4 @@
-//! Rows from outside, parity by Newton's differences, and blocks solved from every choice of k symbols.
+//! Tests of `rs_block`: worked code words, parity against Newton's divided differences, and blocks that are solved from every choice of k symbols.
 
 ghost use Rattle.std.specs.Prelude.{ℕ, ◌≡◌, ◌<◌, IfOk, IsTrue, length};
 ghost use Rattle.gf_field.specs.Symbol.{AreSymbols};
@@ -11,7 +11,7 @@ use std::alloc::{AllocError, Global};
 use std::process::Abort;
 use std::test::Fail;
 
-/// Whether the ids differ and are below 255.
+/// Whether the ids differ from each other and are below 255.
 fn are_ids(ids: &[u8]) -> bool
     ensures { IsTrue result → AreIds (length ids.now) 255 ids.now }
 {
@@ -23,7 +23,7 @@ fn are_ids(ids: &[u8]) -> bool
     true
 }
 
-/// All n symbols of the block, in a row.
+/// Returns all n symbols of a block, one after the other.
 fn encoded(
     rt: &impl Abort,
     alloc: Global,
@@ -44,7 +44,7 @@ fn encoded(
     Ok(symbols)
 }
 
-/// The source symbols from the symbols with these ids, solved in the row in which they lie.
+/// Solves a block within one slice: `symbols` are those with these ids, one after the other. Returns the source symbols.
 fn solved_in(
     rt: &impl Abort,
     alloc: Global,
@@ -61,7 +61,7 @@ fn solved_in(
     Ok(row)
 }
 
-/// Each octet as a symbol in a row of its own.
+/// Returns each octet as a symbol in a [`Row`] of its own.
 fn rows_of(alloc: Global, symbols: &[u8]) -> Result<Vec<Row>, AllocError>
     ensures { IfOk result (λ rows. AreSymbols (length symbols.now) 1 rows.items) }
 {
@@ -72,7 +72,7 @@ fn rows_of(alloc: Global, symbols: &[u8]) -> Result<Vec<Row>, AllocError>
     Ok(rows)
 }
 
-/// The source octets from the octets with these ids, solved in the rows in which they lie.
+/// Solves a block of symbols of one octet, each in a [`Row`] of its own. Returns the source octets.
 fn solved_in_rows(
     rt: &impl Abort,
     alloc: Global,
@@ -92,7 +92,7 @@ fn solved_in_rows(
     Ok(sources)
 }
 
-/// The value at `x` of the polynomial through the values at the first powers of alpha, by divided differences.
+/// Returns the value at `x` of the polynomial that has these values at the first powers of alpha. It computes divided differences.
 fn newton(rt: &impl Abort, alloc: Global, values: &[u8], x: u8) -> Result<u8, AllocError> {
     let mut table = values.to_vec(alloc)?;
     let mut differences = Vec::new(alloc);
@@ -118,7 +118,7 @@ fn newton(rt: &impl Abort, alloc: Global, values: &[u8], x: u8) -> Result<u8, Al
     Ok(value)
 }
 
-/// Whether these are the encoded symbols of source symbols.
+/// Whether `symbols` are the encoded symbols of these source symbols. `sizes` are k, n and the octets of a symbol.
 fn are_encoded(
     rt: &impl Abort,
     alloc: Global,
@@ -168,7 +168,7 @@ fn a_short_block_is_solved(rt: HostRuntime) -> Result<(), Fail> {
     Ok(())
 }
 
-/// Parity symbol 3 or 4 of source symbols that are cut in two.
+/// Returns parity symbol `j` of three source symbols in two pieces. Returns 0 if `cut` is above 3, or if `j` is neither 3 nor 4.
 fn parity_cut_at(alloc: Global, cut: usize, j: u8) -> Result<u8, Memory> {
     if cut > 3 {
         return Ok(0);
@@ -198,7 +198,7 @@ fn parity_of_two_pieces_is_that_of_the_rows(rt: HostRuntime) -> Result<(), Fail>
     Ok(())
 }
 
-/// Source octets of no pattern.
+/// Returns `count` pseudo-random octets.
 fn octets(alloc: Global, count: u8) -> Result<Vec<u8>, AllocError> {
     let mut source = Vec::new(alloc);
     let mut seed = u32::from(count);
@@ -223,7 +223,8 @@ fn parity_is_the_value_by_divided_differences(rt: HostRuntime) -> Result<(), Fai
     Ok(())
 }
 
-/// The symbols as they come to lie in a row from the last one on: at the own place where that is free, and else at the first one that is.
+/// Lays symbols into a slice, from the last one on: each at the index that is its id if that is free, and otherwise at the first free index.
+/// Returns the ids and the symbols as they lie.
 fn as_they_lie(
     rt: &impl Abort,
     alloc: Global,
@@ -244,8 +245,8 @@ fn as_they_lie(
     Ok((places, row))
 }
 
-/// Whether the symbols whose bits are set in the mask give the source octets, solved in a row in the order of their ids, in one as they
-/// come to lie, and in rows of their own.
+/// Whether the symbols whose bits are set in `mask` give the source octets if they are solved in a slice in the order of their ids, in a slice as
+/// they lie (see [`as_they_lie`]), and each in a [`Row`] of its own.
 fn are_solved_from(
     rt: &impl Abort,
     alloc: Global,
