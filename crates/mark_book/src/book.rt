@@ -1,4 +1,4 @@
-//! The book of a sender's members and watermarks.
+//! The book of a sender's members and watermarks. The sender of `norm_sender` calls it.
 
 ghost use Rattle.std.specs.Prelude.{◌≡◌, ◌≢◌, ◌<◌, ◌≤◌, ◌+◌, ◌*◌, ◌^◌, ◌++◌, ◌==◌, true, length, map, find, slice_get, option_map, option_and_then, IfOk, IfErr, IfNone, Ok, Err, None, ℕ, []};
 ghost use Rattle.std.specs.List.{list_any};
@@ -34,7 +34,8 @@ use std::marker::Model;
 // Our own choice. A mark beyond it is refused with `TooMany`, and may be given again after one of the open ones ended.
 const MOST_OPEN: u32 = 16;
 
-/// The book. It begins over the receivers of a session; its calls may come in any order.
+/// What a sender knows of its members and watermarks. Create it over the receivers of a session. Then its calls may come in any order:
+/// [`request`](Book::request) makes a watermark, [`ack`](Book::ack) lists a member, and [`news`](Book::news) reports what changed.
 // `receivers` counts the struck ones too: a quorum is compared with those of the profile, and met by the lesser of it and the members that are
 // left.
 #[derive(Debug, Drop)]
@@ -59,7 +60,11 @@ impl Model for Book {
 }
 
 impl Book {
-    /// A book over these receivers, in this order. One that stands there twice counts once.
+    /// Creates a book over these receivers, which keep this order. One that is named twice counts once.
+    ///
+    /// # Errors
+    ///
+    /// `Memory` if memory runs out.
     pub fn new(alloc: Global, nodes: &[NodeId]) -> Result<Book, Memory>
         requires some { 0 < length nodes.now }
         requires few { length nodes.now ≤ 16 }
@@ -84,23 +89,23 @@ impl Book {
         self.listings.lists(node)
     }
 
-    /// What a node is listed past, and `None` where it is no member, or is listed past nothing.
+    /// Returns what a node is listed past. `None` if it is not a member, or is listed past nothing.
     pub fn past(&self, node: NodeId) -> Option<Position>
         ensures { (p : Settings) (s : SenderState) → Stands p self.now s → result ≡ listing_of s node }
     {
         self.listings.past(node)
     }
 
-    /// The least position that a member is listed past: each position that it reaches is one that all are listed past.
-    /// `None` exactly where one is listed past nothing.
+    /// Returns the least position that a member is listed past. All members are listed past a position if this one reaches it, and only then.
+    /// `None` if a member is listed past nothing.
     pub fn least(&self) -> Option<Position>
         ensures { (p : Settings) (s : SenderState) (at : Position) → Stands p self.now s → rules.all_past s at ≡ reached_by result at }
     {
         self.listings.least()
     }
 
-    /// An acknowledgement of a node: a member's listing becomes the greater one of what it was and this position, and
-    /// each open watermark that enough members are then past is satisfied.
+    /// Takes the acknowledgement of a node: lists it past `at`, and satisfies each open watermark that enough members are past then. Does nothing
+    /// if the node is not a member, or is listed past `at` already.
     pub fn ack(&mut self, node: NodeId, at: Position)
         ensures { (p : Settings) (s : SenderState) → Stands p self.old s → Stands p self.new (credited node at s) }
     {
@@ -114,14 +119,14 @@ impl Book {
         self.watermarks.settle(&self.listings);
     }
 
-    /// Gives up an open watermark. Any other is left as it is.
+    /// Gives up a watermark. Does nothing if it is not open.
     pub fn expire(&mut self, mark: u32)
         ensures { (p : Settings) (s : SenderState) → Stands p self.old s → Stands p self.new (expired mark s) }
     {
         self.watermarks.expire(&self.listings, mark);
     }
 
-    /// The position of a watermark, and `None` where its number was never given.
+    /// Returns the position of a watermark. `None` if none has this number.
     pub fn position(&self, mark: u32) -> Option<Position>
         ensures { (p : Settings) (s : SenderState) → Stands p self.now s → result ≡ option_map (λ (w : Mark). w.at) (rules.watermark_of s mark) }
     {
@@ -129,7 +134,7 @@ impl Book {
         Some(watermark.at)
     }
 
-    /// What became of a watermark, and `None` exactly where its number was never given.
+    /// Returns what became of a watermark. `None` if none has this number.
     pub fn outcome(&self, mark: u32) -> Option<Outcome>
         ensures { (p : Settings) (s : SenderState) → Stands p self.now s → result ≡ option_map (rules.outcome_of s) (rules.watermark_of s mark) }
     {
@@ -137,7 +142,8 @@ impl Book {
         Some(watermark.outcome(&self.listings))
     }
 
-    /// Member `i`, from 0, of those that are not listed past a watermark's position, in their order.
+    /// Returns member `i`, from 0, of those that are not listed past the position of a watermark. They keep the order of the receivers. `None` if
+    /// there are no more, or no watermark has this number.
     pub fn pending(&self, mark: u32, i: u32) -> Option<NodeId>
         ensures { (p : Settings) (s : SenderState) → Stands p self.now s
             → result ≡ option_and_then (λ (w : Mark). slice_get (rules.pending s w.at) i) (rules.watermark_of s mark) }
@@ -146,7 +152,8 @@ impl Book {
         self.listings.nth_left(watermark.at, i)
     }
 
-    /// Writes the nodes of all members that are not listed past a position, in their order, as a flush to them names them.
+    /// Appends the nodes of all members that are not listed past a position, 4 octets each, as a flush names them. They keep the order of the
+    /// receivers.
     pub fn write_pending(&self, at: Position, out: &mut Datagram)
         requires { length out.old + 64 ≤ 1500 }
         ensures { (p : Settings) (s : SenderState) → Stands p self.now s → out.new ≡ out.old ++ nodes_octets (rules.pending s at) }
@@ -154,7 +161,7 @@ impl Book {
         self.listings.write_left(at, out);
     }
 
-    /// The oldest open watermark, with its position.
+    /// Returns the oldest open watermark. `None` if none is open.
     pub fn oldest(&self) -> Option<OpenWatermark>
         ensures { (p : Settings) (s : SenderState) → Stands p self.now s → result ≡ option_map open_watermark (rules.oldest s) }
     {
@@ -165,22 +172,22 @@ impl Book {
         })
     }
 
-    /// How many watermarks are open.
+    /// Returns how many watermarks are open.
     pub fn open(&self) -> u32
         ensures { (p : Settings) (s : SenderState) → Stands p self.now s → result ≡ length (rules.open_watermarks s) }
     {
         self.watermarks.count_open()
     }
 
-    /// How many changes were not told yet.
+    /// Returns how many changes [`news`](Book::news) has still to report.
     pub fn untold(&self) -> usize
         ensures { (p : Settings) (s : SenderState) → Stands p self.now s → result ≡ length s.untold_nodes + length s.untold_marks }
     {
         self.untold.len() + self.watermarks.count_untold() as usize
     }
 
-    /// Begins anew for another instance: every open watermark is cut, and all listed positions and the listings not told
-    /// yet are forgotten. Who was struck stays so.
+    /// Begins another instance: cuts each open watermark, and forgets all listed positions, with the listings that were not reported. A struck
+    /// node stays struck.
     pub fn cut_all(&mut self)
         ensures { (p : Settings) (s : SenderState) (id : ℕ) → Stands p self.old s → Stands p self.new (begun_anew id s) }
     {
@@ -189,9 +196,12 @@ impl Book {
         self.watermarks.cut();
     }
 
-    /// Strikes a member for good: its listing is forgotten, with a rise of it that was not told, and each open watermark
-    /// that enough of those that are left are past is satisfied. `NotMember` exactly where the node is none, `LastMember`
-    /// exactly where it is the only one.
+    /// Strikes a member for good. Its listing is forgotten, also if it was not reported, and each open watermark is satisfied if enough of the
+    /// other members are past it.
+    ///
+    /// # Errors
+    ///
+    /// `NotMember` if the node is not a member, or `LastMember` if it is the only one. Nothing changes then.
     pub fn strike(&mut self, node: NodeId) -> Result<(), StrikeFault>
         ensures { (p : Settings) (s : SenderState) → Stands p self.old s
             → Stands p self.new (strikes s node).0 × (strike_receipt node result ≡ (strikes s node).1) }
@@ -217,8 +227,8 @@ impl Book {
         self.watermarks.settle(&self.listings);
     }
 
-    /// Why a watermark of this quorum would be refused, before anything else is looked at: the quorum is 0, or above the
-    /// number of receivers.
+    /// Returns why a watermark of this quorum is refused: the quorum is 0, or above the number of receivers, struck ones included. `None` if the
+    /// quorum is possible.
     pub fn quorum_fault(&self, quorum: Option<u32>) -> Option<MarkFault>
         ensures { (p : Settings) (s : SenderState) → Stands p self.now s → result ≡ quorum_refused p quorum }
     {
@@ -229,9 +239,13 @@ impl Book {
         None
     }
 
-    /// One more watermark, for everything up to a position, which so many members have to confirm, or all of them. Its
-    /// number is one above the last one's, or 1. `Quorum` exactly where the quorum is 0 or above the number of receivers,
-    /// else `NothingEnqueued` exactly where there is no position, and else `TooMany` exactly where 16 are open.
+    /// Makes a watermark for everything up to `at`, which `quorum` members have to confirm, or all if that is `None`. Returns its number: one
+    /// above the last one's, or 1. The watermark is satisfied at once if enough members are past `at`.
+    ///
+    /// # Errors
+    ///
+    /// `Quorum` if [`quorum_fault`](Book::quorum_fault) says so, else `NothingEnqueued` if there is no position, else `TooMany` if 16 are open,
+    /// else `Memory` if memory runs out. Nothing changes then.
     pub fn request(&mut self, at: Option<Position>, quorum: Option<u32>) -> Result<u32, MarkFault>
         ensures stands { (p : Settings) (s : SenderState) (by : Origin) → Stands p self.old s → result ≢ Err fault.Memory
             → Stands p self.new (asked_for p s by quorum at).0 × (result ≡ numbered (asked_for p s by quorum at).1) }
@@ -243,7 +257,7 @@ impl Book {
         self.place(at, quorum)
     }
 
-    /// One more watermark, where its quorum can be one.
+    /// Makes a watermark as [`request`](Book::request) does. Its quorum is possible.
     fn place(&mut self, at: Option<Position>, quorum: Option<u32>) -> Result<u32, MarkFault>
         ensures stands { (p : Settings) (s : SenderState) (by : Origin) → Stands p self.old s → result ≢ Err fault.Memory
             → Stands p self.new (watermark_at s by quorum at).0 × (result ≡ numbered (watermark_at s by quorum at).1) }
@@ -259,7 +273,7 @@ impl Book {
         self.join(at, quorum)
     }
 
-    /// One more watermark, where fewer than the most are open.
+    /// Makes a watermark as [`request`](Book::request) does. Fewer than 16 are open.
     fn join(&mut self, at: Position, quorum: Option<u32>) -> Result<u32, MarkFault>
         ensures stands { (p : Settings) (s : SenderState) (by : Origin) → Stands p self.old s → result ≢ Err fault.Memory
             → Stands p self.new (with_watermark s by quorum at) × (result ≡ Ok (length s.watermarks + 1)) }
@@ -273,9 +287,9 @@ impl Book {
         Ok(mark)
     }
 
-    /// The first change that was not told yet: a member that is newly listed past a position, in order of node, or else a
-    /// watermark that ended, in order of number. Each is told once, and a listing with its latest position. `None` exactly
-    /// where nothing is left to be told, and then nothing changes.
+    /// Takes out the first change that was not reported: a member that is newly listed past a position, in order of node, and after all of these
+    /// a watermark that ended, in order of number. Each change is reported once, and a listing with its latest position. `None` if there is no
+    /// change to report.
     pub fn news(&mut self) -> Option<News>
         ensures stands { (p : Settings) (s : SenderState) → Stands p self.old s → Stands p self.new (told s).0 × (result ≡ (told s).1) }
         ensures same { IfNone result (self.new ≡ self.old) }
@@ -290,7 +304,7 @@ impl Book {
         Some(News::Past { node, at })
     }
 
-    /// The first outcome that was not told yet, where all listings were told.
+    /// Takes out the first outcome that was not reported. All listings were reported before.
     fn tell_outcome(&mut self) -> Option<News>
         requires { self.old.untold_nodes ≡ [] }
         ensures stands { (p : Settings) (s : SenderState) → Stands p self.old s → Stands p self.new (told s).0 × (result ≡ (told s).1) }

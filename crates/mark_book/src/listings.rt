@@ -1,4 +1,4 @@
-//! The members of a book: the receivers that were not struck, in their order, each with the position that it is listed past.
+//! The members of a book: the receivers that were not struck, in their order. [`Book`](crate::Book) calls it.
 
 ghost use Rattle.std.specs.Prelude.{◌≡◌, ◌==◌, ◌&&◌, ◌+◌, ◌*◌, ◌<◌, ◌≤◌, ◌^◌, ◌++◌, [], true, not, nat_eq, map, filter, length, slice_get, IfOk};
 ghost use Rattle.std.specs.List.{list_any, list_all};
@@ -41,7 +41,11 @@ impl Model for Listings {
 }
 
 impl Listings {
-    /// These nodes, each once, where it first stands, and listed past nothing.
+    /// Lists each of these nodes once, past nothing. The order is that in which they first appear.
+    ///
+    /// # Errors
+    ///
+    /// `AllocError` if memory runs out.
     pub fn begun(alloc: Global, nodes: &[NodeId]) -> Result<Listings, AllocError>
         ensures { IfOk result (λ listings. listings ≡ unlisted (once_each nodes.now)) }
     {
@@ -49,7 +53,7 @@ impl Listings {
         Ok(Listings { past })
     }
 
-    /// How many members there are.
+    /// Returns how many members there are.
     pub fn len(&self) -> u32
         requires { length self.now < 2 ^ 32 }
         ensures { result ≡ length self.now }
@@ -64,7 +68,7 @@ impl Listings {
         self.past.contains_key(&node)
     }
 
-    /// What a node is listed past.
+    /// Returns what a node is listed past. `None` if it is not a member, or is listed past nothing.
     pub fn past(&self, node: NodeId) -> Option<Position>
         ensures { result ≡ past_in self.now node }
     {
@@ -72,7 +76,7 @@ impl Listings {
         *past
     }
 
-    /// Whether an acknowledgement of this node at this position is news of a member.
+    /// Whether a node is a member and not yet listed past `at`.
     pub fn rises(&self, node: NodeId, at: Position) -> bool
         ensures { result ≡ list_any (λ l. l.node == node && not (is_past at l)) self.now }
     {
@@ -82,7 +86,7 @@ impl Listings {
         }
     }
 
-    /// Lists a member past such a position.
+    /// Lists a member past `at`. Call it only if [`rises`](Listings::rises) is true of both.
     pub fn raise(&mut self, node: NodeId, at: Position)
         requires { list_any (λ l. l.node == node && not (is_past at l)) self.old ≡ true }
         ensures { self.new ≡ map (listed_past node at) self.old }
@@ -101,7 +105,7 @@ impl Listings {
         forget_all(&mut self.past);
     }
 
-    /// Takes a node from the members.
+    /// Removes a node from the members. The others keep their order.
     pub fn strike(&mut self, node: NodeId)
         ensures left { self.new ≡ filter (λ l. not (l.node == node)) self.old }
         ensures one { length self.old ≤ length self.new + 1 }
@@ -109,7 +113,7 @@ impl Listings {
         self.past.shift_remove(&node);
     }
 
-    /// How many members are listed past a position, or further.
+    /// Returns how many members are listed past a position, or further.
     pub fn count_past(&self, at: Position) -> u32
         requires { length self.now < 2 ^ 32 }
         ensures { result ≡ past_count self.now at }
@@ -117,7 +121,7 @@ impl Listings {
         count_reached(self.past.values().as_slice(), at) as u32
     }
 
-    /// How many members are not listed past a position.
+    /// Returns how many members are not listed past a position.
     pub fn count_left(&self, at: Position) -> u32
         requires { length self.now < 2 ^ 32 }
         ensures { result ≡ left_count self.now at }
@@ -125,7 +129,7 @@ impl Listings {
         count_short(self.past.values().as_slice(), at) as u32
     }
 
-    /// How many members have to be listed: so many as the quorum says, and all where it says nothing or more than there are.
+    /// Returns how many members have to be listed: the quorum, or all if there is none or it is above their number.
     fn needed(&self, quorum: Option<u32>) -> u32
         requires { length self.now < 2 ^ 32 }
         ensures { result ≡ needed_of self.now quorum }
@@ -144,7 +148,7 @@ impl Listings {
         self.needed(quorum) <= self.count_past(at)
     }
 
-    /// Member `i`, from 0, of those that are not listed past a position.
+    /// Returns member `i`, from 0, of those that are not listed past a position. `None` if there are no more.
     pub fn nth_left(&self, at: Position, i: u32) -> Option<NodeId>
         ensures { result ≡ slice_get (left_of self.now at) i }
     {
@@ -160,7 +164,7 @@ impl Listings {
         None
     }
 
-    /// Writes the nodes of those that are not listed past a position.
+    /// Appends the nodes of the members that are not listed past a position, 4 octets each.
     pub fn write_left(&self, at: Position, out: &mut Datagram)
         requires { length out.old + 4 * length self.now ≤ 1500 }
         ensures { out.new ≡ out.old ++ nodes_octets (left_of self.now at) }
@@ -172,7 +176,7 @@ impl Listings {
         }
     }
 
-    /// The least position that a member is listed past, or none where one is listed past nothing.
+    /// Returns the least position that a member is listed past. `None` if one is listed past nothing.
     pub fn least(&self) -> Option<Position>
         requires { 0 < length self.now }
         ensures { (at : Position) → list_all (is_past at) self.now ≡ reached_by result at }
@@ -181,7 +185,11 @@ impl Listings {
     }
 }
 
-/// These nodes, each once, where it first stands, and listed past nothing.
+/// Lists each of these nodes once, past nothing. The order is that in which they first appear.
+///
+/// # Errors
+///
+/// `AllocError` if memory runs out.
 fn unlisted_nodes(
     alloc: Global,
     nodes: &[NodeId],
@@ -191,7 +199,6 @@ fn unlisted_nodes(
     nodes.iter().map(|node| (*node, None)).collect(alloc)
 }
 
-/// Forgets what each is listed past.
 fn forget_all(past: &mut IndexMap<NodeId, Option<Position>>)
     ensures forgotten { past.new.entries ≡ map unsaid past.old.entries }
     ensures unique { IsUnique nat_eq past.new }
@@ -202,14 +209,14 @@ fn forget_all(past: &mut IndexMap<NodeId, Option<Position>>)
     }
 }
 
-/// How many of these reach a position.
+/// Returns how many of these reach a position.
 fn count_reached(listed: &[Option<Position>], at: Position) -> usize
     ensures { result ≡ length (filter (λ o. reached_by o at) listed.now) }
 {
     listed.iter().filter(|past| reached_by(**past, &at)).count()
 }
 
-/// How many of these do not reach a position.
+/// Returns how many of these do not reach a position.
 fn count_short(listed: &[Option<Position>], at: Position) -> usize
     ensures { result ≡ length (filter (λ o. not (reached_by o at)) listed.now) }
 {
@@ -219,7 +226,7 @@ fn count_short(listed: &[Option<Position>], at: Position) -> usize
         .count()
 }
 
-/// The least of these, or none where one of them is none.
+/// Returns the least of these. `None` if one of them is `None`.
 fn least_of(listed: &[Option<Position>]) -> Option<Position>
     requires { 0 < length listed.now }
     ensures { (at : Position) → list_all (λ o. reached_by o at) listed.now ≡ reached_by result at }

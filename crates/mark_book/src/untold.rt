@@ -1,11 +1,11 @@
-//! The members whose listing is to be told: a rising list of nodes.
+//! The members whose listing is still to be reported: a rising list of nodes. [`Book`](crate::Book) keeps it.
 
 ghost use Rattle.std.specs.Prelude.{◌≡◌, ◌≤◌, ◌==◌, not, filter, length, nat_lt, vec_capacity};
 ghost use Rattle.norm_order.specs.Sets.{with_member, Rises};
 
 use norm_base::NodeId;
 
-/// Puts a node into a rising list that has room for it.
+/// Puts a node into a rising list, if it is not there. The list has room for it.
 pub fn put_node(nodes: &mut Vec<NodeId>, node: NodeId)
     requires { length (with_member nat_lt node nodes.old.items) ≤ vec_capacity nodes.old }
     ensures nodes { nodes.new.items ≡ with_member nat_lt node nodes.old.items }
@@ -25,7 +25,7 @@ pub fn put_node(nodes: &mut Vec<NodeId>, node: NodeId)
     nodes.push(node).unwrap();
 }
 
-/// Takes a node out of a rising list, where it is there.
+/// Takes a node out of a rising list, if it is there.
 pub fn take_node(nodes: &mut Vec<NodeId>, node: NodeId)
     requires { Rises nodes.old.items }
     ensures nodes { nodes.new.items ≡ filter (λ other. not (other == node)) nodes.old.items }

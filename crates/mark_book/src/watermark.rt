@@ -1,4 +1,4 @@
-//! One watermark of a book.
+//! One watermark of a book. [`Watermarks`](crate::watermarks::Watermarks) calls it.
 
 ghost use Rattle.std.specs.Prelude.{◌≡◌, ◌<◌, ◌^◌, [], ◌∷◌, false, is_none, length, option_map};
 ghost use Rattle.norm_send_rules.specs.SenderState.{SenderState};
@@ -11,7 +11,7 @@ use fec_plan::Position;
 use norm_send_rules::Outcome;
 use std::marker::Model;
 
-/// An open watermark: its number and its position.
+/// The number and the position of an open watermark.
 // The number comes with its position. A position that is asked for by the number needs an answer for numbers that no watermark has.
 #[derive(Clone, Copy, Debug, PartialEq, Eq)]
 pub struct OpenWatermark {
@@ -19,7 +19,7 @@ pub struct OpenWatermark {
     pub at: Position,
 }
 
-/// Whether the oldest watermark is the one that it was, or there is none any more: the count of flushes then goes on.
+/// Whether the oldest open watermark is the same as before, or none is open any more. If so, the count of flushes goes on.
 pub fn keeps_oldest(before: Option<OpenWatermark>, after: Option<OpenWatermark>) -> bool
     ensures { (s t : SenderState) → before ≡ option_map open_watermark (rules.oldest s) → after ≡ option_map open_watermark (rules.oldest t)
         → result ≡ rules.keeps_oldest s t }
@@ -34,7 +34,10 @@ pub fn keeps_oldest(before: Option<OpenWatermark>, after: Option<OpenWatermark>)
     before.mark == after.mark
 }
 
-/// A watermark: its number, its position, its quorum, its outcome where it ended, and whether that is still to be told.
+/// A watermark of a book, open or ended.
+///
+/// `quorum` members have to confirm it, or all if that is `None`. `ended` is its outcome if it ended, and `untold` whether that is still to be
+/// reported.
 #[derive(Clone, Copy, Debug)]
 pub struct Watermark {
     pub mark: u32,
@@ -55,7 +58,7 @@ impl Model for Watermark {
 }
 
 impl Watermark {
-    /// An open watermark.
+    /// Creates an open watermark.
     pub fn new(mark: u32, at: Position, quorum: Option<u32>) -> Watermark
         ensures { result ≡ opened mark at quorum }
     {
@@ -68,7 +71,7 @@ impl Watermark {
         }
     }
 
-    /// The watermark, of which nothing is to be told.
+    /// Returns the watermark, with nothing to report.
     pub fn told(&self) -> Watermark
         ensures { result ≡ record self.now { untold = false } }
     {
@@ -78,28 +81,28 @@ impl Watermark {
         }
     }
 
-    /// Whether the watermark did not end.
+    /// Whether the watermark has not ended.
     pub fn is_open(&self) -> bool
         ensures { result ≡ is_none self.now.ended }
     {
         self.ended.is_none()
     }
 
-    /// 1 where the watermark is open, and else 0.
+    /// Returns 1 if the watermark is open, and otherwise 0.
     pub fn count_open(&self) -> usize
         ensures { result ≡ open_count (self.now ∷ []) }
     {
         if self.is_open() { 1 } else { 0 }
     }
 
-    /// Whether the watermark ended, and that was told.
+    /// Whether the watermark ended and that was reported.
     pub fn is_finished(&self) -> bool
         ensures { result ≡ is_finished self.now }
     {
         self.ended.is_some() && !self.untold
     }
 
-    /// What became of the watermark.
+    /// Returns what became of the watermark. If it is open, that is how many members have not confirmed it.
     pub fn outcome(&self, listings: &Listings) -> Outcome
         requires { length listings.now < 2 ^ 32 }
         ensures { result ≡ outcome_by listings.now self.now }
@@ -112,7 +115,7 @@ impl Watermark {
         }
     }
 
-    /// The watermark, satisfied where it is open and enough members are past it.
+    /// Returns the watermark, satisfied if it is open and enough members are past it.
     pub fn settled(&self, listings: &Listings) -> Watermark
         requires { length listings.now < 2 ^ 32 }
         ensures { result ≡ settled_by listings.now self.now }
@@ -127,7 +130,7 @@ impl Watermark {
         }
     }
 
-    /// The watermark, given up where it is open and has this number.
+    /// Returns the watermark, expired if it is open and has this number.
     pub fn expired(&self, listings: &Listings, mark: u32) -> Watermark
         requires { length listings.now < 2 ^ 32 }
         ensures { result ≡ expired_by listings.now mark self.now }
@@ -144,7 +147,7 @@ impl Watermark {
         }
     }
 
-    /// The watermark, cut where it is open.
+    /// Returns the watermark, cut if it is open.
     pub fn cut(&self) -> Watermark
         ensures { result ≡ cut_off self.now }
     {

@@ -1,4 +1,4 @@
-//! The watermarks of a book, in the order of their numbers.
+//! The watermarks of a book, in the order of their numbers. [`Book`](crate::Book) calls it.
 
 ghost use Rattle.std.specs.Prelude.{◌≡◌, ◌==◌, ◌<◌, ◌+◌, ◌^◌, ◌++◌, [], ◌∷◌, is_none, map, length, filter, find, MatchResult};
 ghost use Rattle.std.specs.List.{prefix_len};
@@ -12,12 +12,14 @@ use norm_base::Memory;
 use std::alloc::Global;
 use std::marker::Model;
 
-/// The most watermarks that 32 bits number.
+/// The most watermarks that 32 bits can number.
 // A number has 32 bits. One more is answered by want of memory: so many watermarks take more than 80 GB.
 const MOST_WATERMARKS: usize = 4_294_967_295;
 
-/// All watermarks that were ever made. Those of the front, which ended and were told, are kept and not looked at again. How
-/// many are open is kept beside them, since one that stays open keeps all behind it out of the front.
+/// All watermarks that were ever made.
+///
+/// The first `done` of them ended and were reported, and are not looked at again. `still_open` of all are open. It is kept because one that stays
+/// open keeps all later ones out of that prefix.
 // `done` only rises. What ended and was told is never changed again, so a sender that runs for long does not look at all its old watermarks in
 // each turn. `still_open` is exact: a greater number would refuse marks for good.
 #[derive(Debug, Drop)]
@@ -41,7 +43,7 @@ impl Model for Watermarks {
 }
 
 impl Watermarks {
-    /// None yet.
+    /// Creates an empty list. It takes no memory.
     pub fn new(alloc: Global) -> Watermarks
         ensures { result ≡ [] }
     {
@@ -52,7 +54,7 @@ impl Watermarks {
         }
     }
 
-    /// The watermark with this number.
+    /// Returns the watermark with this number. `None` if there is none.
     pub fn find(&self, mark: u32) -> Option<Watermark>
         ensures { result ≡ find (λ k. k.mark == mark) self.now }
     {
@@ -65,28 +67,32 @@ impl Watermarks {
         Some(self.all[mark as usize - 1])
     }
 
-    /// The oldest open watermark.
+    /// Returns the oldest open watermark. `None` if none is open.
     pub fn oldest(&self) -> Option<Watermark>
         ensures { result ≡ find (λ k. is_none k.ended) self.now }
     {
         first_open(&self.all[self.done..])
     }
 
-    /// How many watermarks are open.
+    /// Returns how many watermarks are open. The cost does not depend on how many there are.
     pub fn count_open(&self) -> u32
         ensures { result ≡ length (filter (λ k. is_none k.ended) self.now) }
     {
         self.still_open as u32
     }
 
-    /// How many outcomes are to be told.
+    /// Returns how many outcomes are to be reported.
     pub fn count_untold(&self) -> u32
         ensures { result ≡ length (filter (λ k. k.untold) self.now) }
     {
         count_untold(&self.all[self.done..]) as u32
     }
 
-    /// One more watermark, and its number, which is one above the last one's, or 1.
+    /// Appends an open watermark. Returns its number, which is one above the last one's, or 1.
+    ///
+    /// # Errors
+    ///
+    /// `Memory` if memory runs out, or all numbers are used. Nothing changes then.
     pub fn push(&mut self, at: Position, quorum: Option<u32>) -> Result<u32, Memory>
         ensures pushed { MatchResult result
             (λ mark. (mark ≡ length self.old + 1) × (self.new ≡ self.old ++ opened mark at quorum ∷ []))
@@ -116,7 +122,7 @@ impl Watermarks {
         self.still_open = still_open;
     }
 
-    /// Gives up the open watermark with this number.
+    /// Gives up the open watermark with this number. Does nothing if there is none.
     pub fn expire(&mut self, listings: &Listings, mark: u32)
         requires { length listings.now < 2 ^ 32 }
         ensures expired { self.new ≡ map (expired_by listings.now mark) self.old }
@@ -135,7 +141,7 @@ impl Watermarks {
         self.still_open = 0;
     }
 
-    /// Marks the first watermark whose outcome is to be told as told, and gives it.
+    /// Returns the first watermark whose outcome is to be reported, and marks it as reported. `None` if there is none.
     pub fn tell_first(&mut self) -> Option<Watermark>
         ensures first { result ≡ find (λ k. k.untold) self.old }
         ensures told { self.new ≡ told_first self.old }
@@ -147,7 +153,7 @@ impl Watermarks {
     }
 }
 
-/// Satisfies each open watermark that enough members are past, and gives how many are open then.
+/// Satisfies each open watermark that enough members are past. Returns how many are open then.
 fn settle(watermarks: &mut [Watermark], listings: &Listings) -> usize
     requires { length listings.now < 2 ^ 32 }
     ensures settled { watermarks.new ≡ map (settled_by listings.now) watermarks.old }
@@ -162,7 +168,7 @@ fn settle(watermarks: &mut [Watermark], listings: &Listings) -> usize
     still_open
 }
 
-/// Gives up the open watermark with this number, and gives how many are open then.
+/// Gives up the open watermark with this number, if there is one. Returns how many are open then.
 fn expire(watermarks: &mut [Watermark], listings: &Listings, mark: u32) -> usize
     requires { length listings.now < 2 ^ 32 }
     ensures expired { watermarks.new ≡ map (expired_by listings.now mark) watermarks.old }
@@ -186,7 +192,7 @@ fn cut(watermarks: &mut [Watermark])
     }
 }
 
-/// How many outcomes are to be told.
+/// Returns how many outcomes are to be reported.
 fn count_untold(watermarks: &[Watermark]) -> usize
     ensures { result ≡ length (filter (λ k. k.untold) watermarks.now) }
 {
@@ -196,7 +202,7 @@ fn count_untold(watermarks: &[Watermark]) -> usize
         .count()
 }
 
-/// The first open watermark.
+/// Returns the first open watermark. `None` if none is open.
 fn first_open(watermarks: &[Watermark]) -> Option<Watermark>
     ensures { result ≡ find (λ k. is_none k.ended) watermarks.now }
 {
@@ -204,7 +210,7 @@ fn first_open(watermarks: &[Watermark]) -> Option<Watermark>
     Some(*watermark)
 }
 
-/// Marks the first watermark whose outcome is to be told as told, and gives it.
+/// Returns the first watermark whose outcome is to be reported, and marks it as reported. `None` if there is none.
 fn tell_first(watermarks: &mut [Watermark]) -> Option<Watermark>
     ensures first { result ≡ find (λ k. k.untold) watermarks.old }
     ensures told { watermarks.new ≡ told_first watermarks.old }
@@ -219,7 +225,7 @@ fn tell_first(watermarks: &mut [Watermark]) -> Option<Watermark>
     None
 }
 
-/// How many watermarks at the front are finished.
+/// Returns how many watermarks are finished before the first that is not.
 fn count_finished(watermarks: &[Watermark]) -> usize
     ensures { result ≡ prefix_len is_finished watermarks.now }
 {

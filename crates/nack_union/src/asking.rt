@@ -1,4 +1,4 @@
-//! What the items of repair requests ask of the objects of a window.
+//! Asks for what a NACK names, object by object. [`Collection`](crate::collection::Collection) calls it.
 
 ghost use Rattle.std.specs.Prelude.{◌≡◌, ◌+◌, ◌^◌, ◌<◌, ◌≤◌, ◌⊎◌, ℕ, get_or, length};
 ghost use Rattle.norm_ext.specs.Asking.{span};
@@ -10,7 +10,7 @@ ghost use Rattle.std.specs.List.{AllByRecursion};
 use crate::marks::{Marks, Named};
 use fec_plan::Position;
 
-/// Asks for what is named of the objects at these places of a window that begins with this index.
+/// Asks for what is named of the objects at the list indexes `from..to`. The window begins with the object `first`.
 pub fn ask_range(objects: &mut [Marks], first: u32, from: usize, to: usize, named: Named)
     requires within { to ≤ length objects.old }
     requires few { first + length objects.old ≤ 2 ^ 32 }

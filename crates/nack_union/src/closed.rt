@@ -1,4 +1,4 @@
-//! How many symbols of a block are closed, and how many it has encoded.
+//! How many symbols a block has while not all source symbols of its object are closed, as in an open stream.
 
 ghost use Rattle.std.specs.Prelude.{◌≡◌, ◌<◌, ◌≤◌, ℕ, true};
 ghost use Rattle.fec_plan.specs.Partition.{all_symbols, blocks, encoding_symbols, most_blocks};
@@ -7,7 +7,7 @@ ghost use Rattle.nack_union.specs.Repairs.{shape_closed};
 
 use fec_plan::Plan;
 
-/// How many source symbols an object has.
+/// Returns how many source symbols an object has.
 pub fn all_symbols(plan: &Plan) -> u64
     ensures { result ≡ all_symbols plan.now }
 {
@@ -15,7 +15,7 @@ pub fn all_symbols(plan: &Plan) -> u64
     plan.symbol_number(last, 0) + u64::from(plan.source_len(last))
 }
 
-/// How many first blocks are whole, of an object of which so many source symbols are closed: each before this one is.
+/// Returns a number of first blocks of which all source symbols are closed, if `closed` of the object's are. There may be more such blocks.
 pub fn whole_blocks(plan: &Plan, closed: u64) -> u32
     ensures whole { (block : ℕ) → block < result → is_full (shape_closed plan.now closed) block ≡ true }
     ensures few { blocks plan.now ≤ most_blocks }
@@ -28,7 +28,7 @@ pub fn whole_blocks(plan: &Plan, closed: u64) -> u32
     (closed / largest).min(u64::from(blocks)) as u32
 }
 
-/// How many source symbols of a block are closed, of an object of which so many are.
+/// Returns how many source symbols of a block are closed, if `closed` of the object's are.
 pub fn closed_len(plan: &Plan, closed: u64, block: u32) -> u8
     ensures { result ≡ closed_in (shape_closed plan.now closed) block }
 {
@@ -37,7 +37,7 @@ pub fn closed_len(plan: &Plan, closed: u64, block: u32) -> u8
     sources.min(behind) as u8
 }
 
-/// How many encoded symbols a block has: parity only where all its source symbols are closed.
+/// Returns how many encoded symbols a block has. It has parity only if all its source symbols are closed.
 pub fn encoded_len(plan: &Plan, closed: u64, block: u32) -> u8
     ensures exact { result ≡ encoded_in (shape_closed plan.now closed) block }
     ensures named { encoding_symbols plan.now block ≤ 255 }

@@ -1,4 +1,4 @@
-//! What a union collects, whatever the profile.
+//! The window of a [`Union`](crate::Union). It keeps no profile: calls that need one take it. The union calls it.
 
 ghost use Rattle.std.specs.Prelude.{◌≡◌, ◌<◌, ◌≤◌, ◌+◌, ◌-◌, ◌^◌, ◌∷◌, ◌++◌, [], length, IfOk, IsErr, MatchOption, None, Some, false, ℕ, List, nat_lt, position, slice_get, drop, take, not, map, min, max};
 ghost use Rattle.norm_base.specs.Settings.{Settings};
@@ -44,10 +44,11 @@ use norm_send_rules::Want;
 use std::alloc::Global;
 use std::marker::Model;
 
-/// The wants and the sent symbols of the objects of a window, and what the open round asks for. Objects are admitted at its
-/// end and retired from its front. Outside of the places from `low` up to `high` the round asks for nothing. `earliest` is
-/// the first point from which its requests count. Of the objects before the place `quiet` nothing is wanted, and of so many
-/// as `wanting` says something is.
+/// What is wanted of the objects of a window, what of them was sent, and what the open round asks for.
+///
+/// `first` is the transport index of the first object. The other numbers are list indexes of `objects`. The round asks for nothing outside of
+/// `low..high`, and its requests count from the point `earliest`. Nothing is wanted of the objects before `quiet`. Something is wanted of
+/// `wanting` objects.
 #[derive(Debug, Drop)]
 pub struct Collection {
     alloc: Global,
@@ -62,12 +63,12 @@ pub struct Collection {
     wanting: usize,
 }
 
-/// What the closing of a round says.
+/// The result of closing a repair round.
 #[derive(Clone, Copy, Debug, PartialEq, Eq)]
 pub struct Closed {
-    /// How many wants are new, or the greatest number where there are more.
+    /// How many wants are new, or `u32::MAX` if there are more.
     pub queued: u32,
-    /// Whether the round asked for what lies before the window, so that a squelch is due.
+    /// Whether the round asked for something before the window. If so, the sender owes a squelch.
     pub early: bool,
 }
 
@@ -83,7 +84,7 @@ impl Model for Collection {
     ghost invariant = { CollectionSound };
 }
 
-/// The place of the first object of which something is wanted, which is none before this one.
+/// Returns the list index of the first object of which something is wanted. It begins with `from`: nothing is wanted before.
 fn first_wanted(objects: &[Marks], from: usize) -> Option<usize>
     requires { AreQuiet from objects.now }
     ensures { result ≡ position (λ m. nat_lt 0 (length m.wants)) objects.now }
@@ -97,14 +98,14 @@ fn first_wanted(objects: &[Marks], from: usize) -> Option<usize>
     None
 }
 
-/// Of how many objects something is wanted.
+/// Returns the number of objects of which something is wanted.
 fn count_wanted(objects: &[Marks]) -> usize
     ensures { result ≡ wanting objects.now }
 {
     objects.iter().filter(|object| object.is_wanted()).count()
 }
 
-/// Drops so many objects from the front.
+/// Drops the first `count` objects.
 fn drop_front(objects: &mut Vec<Marks>, count: usize)
     requires { count ≤ length objects.old.items }
     ensures { objects.new.items ≡ drop count objects.old.items }
@@ -112,7 +113,7 @@ fn drop_front(objects: &mut Vec<Marks>, count: usize)
     objects.drain(..count);
 }
 
-/// Closes the round of each object, and says how many wants are new, or the greatest number where there are more.
+/// Closes the round of each object. Returns how many wants are new, or `u32::MAX` if there are more.
 fn close_all(objects: &mut [Marks]) -> u32
     ensures closed { objects.new ≡ map closed_marks objects.old }
     ensures counted { AllByRecursion IsCounted objects.old }
@@ -127,7 +128,7 @@ fn close_all(objects: &mut [Marks]) -> u32
     queued.min(u32::MAX as u64) as u32
 }
 
-/// The first block that is kept of the first object.
+/// Returns the first block that is kept of the first object, or 0 if there is no object.
 fn first_block(objects: &[Marks]) -> u32
     ensures { result ≡ first_block objects.now }
 {
@@ -137,14 +138,14 @@ fn first_block(objects: &[Marks]) -> u32
     objects[0].first_block()
 }
 
-/// The place in a window that begins with this index at which what is named begins, or 0 where that is before it.
+/// Returns the list index at which a named span begins, in a window that begins with the object `first`. It is 0 if the span begins earlier.
 fn place_from(first: u32, named: &Named) -> usize
     ensures { result ≡ named.now.first.index - first }
 {
     named.first.index.saturating_sub(first) as usize
 }
 
-/// The place in a window that begins with this index behind what is named.
+/// Returns the list index just after a named span, in a window that begins with the object `first`. It is 0 if the span ends before the window.
 fn place_behind(first: u32, named: &Named) -> usize
     ensures { result ≡ named.now.last.index + 1 - first }
 {
@@ -152,7 +153,7 @@ fn place_behind(first: u32, named: &Named) -> usize
 }
 
 impl Collection {
-    /// A union as an instance begins: nothing is in the window.
+    /// Creates an empty window. It takes no memory.
     pub fn new(alloc: Global) -> Collection
         ensures begun { result ≡ begun_union }
         ensures stands { (p : Settings) (instance : ℕ) → Holds p result (sender_opening p instance) }
@@ -170,8 +171,11 @@ impl Collection {
         }
     }
 
-    /// Takes one more object into the window, of which nothing is wanted and nothing was sent, and makes all the room
-    /// that it needs. Its index is the one behind the last object's. Want of memory leaves the union as it was.
+    /// Appends an object of which nothing is wanted and nothing was sent. `index` is one above the last object's.
+    ///
+    /// # Errors
+    ///
+    /// `Memory` if memory runs out. The window stays as it was. No later call needs memory for this object.
     pub fn admit(&mut self, index: u32, plan: &Plan, info: bool) -> Result<(), Memory>
         requires { index ≡ self.old.first + length self.old.objects }
         ensures exact { IfOk result (λ _. self.new ≡ with_object (admitted plan.now info) self.old) }
@@ -185,8 +189,11 @@ impl Collection {
         self.join(marks)
     }
 
-    /// Takes a stream into the window, of which nothing is closed yet, and makes room for as many of its blocks as the profile says.
-    /// Its index is the one behind the last object's. Want of memory leaves the union as it was.
+    /// Appends a stream without closed segments, with room for `profile.blocks` blocks. `index` is one above the last object's.
+    ///
+    /// # Errors
+    ///
+    /// `Memory` if memory runs out. The window stays as it was. No later call needs memory for this stream.
     pub fn admit_stream(&mut self, profile: &Profile, index: u32, plan: &Plan) -> Result<(), Memory>
         requires index { index ≡ self.old.first + length self.old.objects }
         requires stream { plan.now.l ≡ None }
@@ -201,7 +208,11 @@ impl Collection {
         self.join(marks)
     }
 
-    /// An object of which nothing is wanted, sent or asked for joins the window.
+    /// Appends an object of which nothing is wanted, sent or asked for.
+    ///
+    /// # Errors
+    ///
+    /// `Memory` if memory runs out. The window stays as it was.
     fn join(&mut self, marks: Marks) -> Result<(), Memory>
         requires few { self.old.first + length self.old.objects < 2 ^ 32 }
         requires fresh { IsFresh marks }
@@ -217,7 +228,7 @@ impl Collection {
         Ok(())
     }
 
-    /// The stream that is the last object has so many closed source symbols, no fewer than it had, and as many as have room.
+    /// Sets how many source symbols of the last object, a stream, are closed.
     pub fn grow(&mut self, index: u32, closed: u64)
         requires index { index + 1 ≡ self.old.first + length self.old.objects }
         requires last { OfLast (CanGrow closed) self.old }
@@ -228,7 +239,7 @@ impl Collection {
         object.hold();
     }
 
-    /// Takes back the last `admit`, where nothing was called since.
+    /// Removes the last object. Call it right after the `admit` or `admit_stream` that it takes back.
     pub fn withdraw(&mut self)
         requires { 0 < length self.old.objects }
         ensures { (m : Marked) (u : Kept) → self.old ≡ with_object m u → self.new ≡ u }
@@ -238,7 +249,7 @@ impl Collection {
         self.objects.pop();
     }
 
-    /// Begins anew for another instance: nothing is in the window.
+    /// Empties the window and the open round for another instance.
     pub fn clear(&mut self)
         ensures begun { self.new ≡ begun_union }
         ensures stands { (p : Settings) (s : SenderState) (id : ℕ) → Holds p self.new (begun_anew id s) }
@@ -253,7 +264,7 @@ impl Collection {
         self.wanting = 0;
     }
 
-    /// Drops all objects before an index, and says whether one of them was wanted.
+    /// Drops all objects before an index. Returns whether something of them was wanted.
     fn drop_objects(&mut self, index: u32) -> bool
         requires not_back { self.old.first ≤ index }
         requires within { index ≤ self.old.first + length self.old.objects }
@@ -272,7 +283,7 @@ impl Collection {
         gone > 0
     }
 
-    /// Keeps the first object, a stream, from a block on, and says whether something was wanted before.
+    /// Keeps the first object, a stream, from `block` on. Returns whether something before was wanted.
     fn move_first(&mut self, block: u32) -> bool
         requires some { 0 < length self.old.objects }
         requires later { 0 < block }
@@ -289,7 +300,7 @@ impl Collection {
         gone
     }
 
-    /// Keeps the first object from a block on, and says whether something was wanted before.
+    /// Keeps the first object from `block` on, which changes nothing if that is 0. Returns whether something before was wanted.
     fn move_to(&mut self, block: u32) -> bool
         requires some { 0 < block → 0 < length self.old.objects }
         requires first { 0 < block → (m : Marked) → slice_get self.old.objects 0 ≡ Some m → (m.first ≤ block) × MayMoveOn block m }
@@ -302,7 +313,7 @@ impl Collection {
         self.move_first(block)
     }
 
-    /// Drops all before a point, and says whether that took away a want.
+    /// Drops everything before a block of an object. Returns whether something of it was wanted.
     pub fn retire(&mut self, index: u32, block: u32) -> bool
         requires { MayRetire index block self.old }
         ensures exact { self.new ≡ retired index block self.old }
@@ -317,7 +328,7 @@ impl Collection {
         dropped || gone
     }
 
-    /// Notes that an encoded symbol of an object of the window was sent.
+    /// Notes that an encoded symbol was sent. The window has it.
     pub fn note_sent(&mut self, at: Position)
         requires { IsEncodedIn self.old at }
         ensures exact { (m : Marked) → slice_get self.old.objects (at.index - self.old.first) ≡ Some m
@@ -330,7 +341,7 @@ impl Collection {
         object.note_sent(slot_of(at.block, at.symbol));
     }
 
-    /// The open round asks for what is named, as far as the window has it.
+    /// Asks for what is named, as far as the window has it.
     fn ask_named(&mut self, named: Named)
         ensures { HasPart (named_part named.flags (span named.first named.last)) self.old self.new }
     {
@@ -341,7 +352,7 @@ impl Collection {
         ask_range(&mut self.objects, self.first, from, to, named);
     }
 
-    /// The open round asks for an encoded symbol, where the window has it.
+    /// Asks for an encoded symbol if the window has it.
     fn ask_symbol(&mut self, at: Position)
         ensures { HasPart (symbol_part at) self.old self.new }
     {
@@ -355,7 +366,7 @@ impl Collection {
         }
     }
 
-    /// The open round counts a block for as many symbols as a position says, where the window has it.
+    /// Counts a block for as many symbols as the symbol id of a position says, if the window has the block.
     fn count_block(&mut self, at: Position)
         ensures { HasPart (count_part at) self.old self.new }
     {
@@ -370,7 +381,7 @@ impl Collection {
         object.hold();
     }
 
-    /// Asks for an encoded symbol, where that is wanted.
+    /// Asks for an encoded symbol if `wanted`.
     fn ask_symbol_where(&mut self, wanted: bool, at: Position)
         ensures { HasPart (part_where wanted (symbol_part at)) self.old self.new }
     {
@@ -379,7 +390,7 @@ impl Collection {
         }
     }
 
-    /// The open round asks for what an item names.
+    /// Asks for what an item names. With SEGMENT this may be a parity symbol.
     fn ask_item(&mut self, flags: u8, at: Position)
         ensures { HasPart (item_part flags (span at at)) self.old self.new }
     {
@@ -388,7 +399,7 @@ impl Collection {
         self.ask_symbol_where(has_flag(flags, WANT_SEGMENT), at);
     }
 
-    /// The open round asks for what a range names, where it is not empty.
+    /// Asks for what a range names. An empty range names nothing.
     fn ask_pair(&mut self, flags: u8, first: Position, last: Position)
         ensures { HasPart (part_where (is_proper (span first last)) (named_part flags (span first last))) self.old self.new }
     {
@@ -397,7 +408,7 @@ impl Collection {
         }
     }
 
-    /// The open round asks for what items name.
+    /// Asks for what items name. Ignores an item whose object id stands for no index.
     fn ask_items(&mut self, profile: &Profile, known: u32, flags: u8, items: &[u8])
         ensures { HasPart (items_part flags (items_spans profile.now known (items_named items.now))) self.old self.new }
     {
@@ -413,7 +424,7 @@ impl Collection {
         }
     }
 
-    /// The open round asks for what pairs of items name.
+    /// Asks for what pairs of items name. Ignores a pair if one of its object ids stands for no index.
     fn ask_ranges(&mut self, profile: &Profile, known: u32, flags: u8, items: &[u8])
         ensures { HasPart (ranges_part flags (pairs_spans profile.now known (items_named items.now))) self.old self.new }
     {
@@ -429,7 +440,7 @@ impl Collection {
         }
     }
 
-    /// The open round counts blocks for as many symbols as items say.
+    /// Counts blocks for as many symbols as items say. Ignores an item whose object id stands for no index.
     fn ask_counts(&mut self, profile: &Profile, known: u32, items: &[u8])
         ensures { HasPart (counts_part (items_spans profile.now known (items_named items.now))) self.old self.new }
     {
@@ -445,7 +456,7 @@ impl Collection {
         }
     }
 
-    /// The open round asks for what a request asks for.
+    /// Asks for what a request asks for.
     fn ask_request(&mut self, profile: &Profile, known: u32, request: &Request<'_>)
         ensures { HasPart (request_part (named profile.now known (request_of request.now))) self.old self.new }
     {
@@ -461,7 +472,7 @@ impl Collection {
         }
     }
 
-    /// The open round asks for what requests ask for.
+    /// Asks for what requests ask for, and notes the first point from which they count.
     fn ask_requests(&mut self, profile: &Profile, known: u32, requests: Requests<'_>)
         ensures asked { HasPart (requests_part (map (named profile.now known) requests.entry)) self.old self.new }
         ensures earliest { self.new.earliest ≡ earliest_with self.old.earliest (map (named profile.now known) requests.entry) }
@@ -475,14 +486,14 @@ impl Collection {
         self.count_from(earliest);
     }
 
-    /// The requests of the open round count from this point.
+    /// Sets the first point from which the requests of the open round count.
     fn count_from(&mut self, earliest: Option<Point>)
         ensures { self.new ≡ record self.old { earliest = earliest } }
     {
         self.earliest = earliest;
     }
 
-    /// Whether the window has the object with an index.
+    /// Whether the window has the object with this index.
     fn has(&self, index: u32) -> bool
         ensures { MatchBool result ((self.now.first ≤ index) × (index < self.now.first + length self.now.objects))
             ((self.now.first ≤ index → self.now.first + length self.now.objects ≤ index)) }
@@ -490,7 +501,7 @@ impl Collection {
         self.first <= index && ((index - self.first) as usize) < self.objects.len()
     }
 
-    /// The greatest index that the window's sender knows: that of the window's last object.
+    /// Returns the index of the last object that joined the window, even if it was dropped since. It is 0 if none joined.
     // Computed from the union's own objects, so that nobody has to tell it how far the order goes.
     pub fn known(&self) -> u32
         ensures { result ≡ known_of self.now }
@@ -498,8 +509,8 @@ impl Collection {
         (u64::from(self.first) + self.objects.len() as u64).saturating_sub(1) as u32
     }
 
-    /// Takes the requests of a NACK, as far as the window has what they ask for, into what the open round asks for. What
-    /// names no index to the window's sender asks for nothing.
+    /// Adds the requests of a NACK to the open round, as far as the window has what they ask for. Ignores an item whose object id stands for no
+    /// index.
     // Proof: for a request that comes now, the order as it came (as_it_came) is the order as it stands. Marks then decide every test of the
     // rules.
     pub fn add(&mut self, profile: &Profile, requests: Requests<'_>)
@@ -516,14 +527,14 @@ impl Collection {
         let _ = &self.objects;
     }
 
-    /// Whether anything is wanted.
+    /// Whether anything is wanted. The cost is one comparison.
     pub fn is_wanted(&self) -> bool
         ensures { (p : Settings) (s : SenderState) → Holds p self.now s → result ≡ nat_lt 0 (length s.wants) }
     {
         self.wanting > 0
     }
 
-    /// Takes out the lowest want. `None` exactly where there is none.
+    /// Takes out the first want in transport order. `None` if nothing is wanted.
     pub fn next(&mut self) -> Option<Want>
         ensures collects { (p : Settings) (s : SenderState) (asked : List Asked) (rest : List Wanted) → Collects p self.old s asked
             → Collects p self.new (record s { wants = rest }) asked }
@@ -542,9 +553,8 @@ impl Collection {
         Some(want_of(self.first + place as u32, slot))
     }
 
-    /// Closes the open round: what it asked for is wanted, of a counted block the lowest parity symbols that were never
-    /// sent, or all its source symbols where fewer are left. Says how many wants are new, and whether the round asked for what
-    /// lies before the window (RFC 5740 section 5.4). The next round begins empty.
+    /// Closes the open round: what it asked for is wanted, and the next round begins empty (RFC 5740 section 5.4). A block that was counted gives
+    /// its lowest parity symbols that were never sent, or all its closed source symbols if fewer than the count are left.
     // Proof: each object's slots come first. all_closed lifts that to the listed wants, and closed_range leads from low .. high to all.
     pub fn close_round(&mut self) -> Closed
         ensures exact { self.new ≡ closed_union self.old }

@@ -1,4 +1,4 @@
-//! What the open round asks for of an object.
+//! What the open round asks for of an object. [`Marks`](crate::marks::Marks) calls it.
 
 ghost use Rattle.std.specs.Prelude.{◌≡◌, ◌+◌, ◌*◌, ◌<◌, ◌≤◌, [], nat_lt, true, IfOk, None, ℕ, ◌-◌, length, slice_index, ◌&&◌, ◌||◌};
 ghost use Rattle.fec_plan.specs.Partition.{blocks, most_blocks, symbol_number};
@@ -20,11 +20,13 @@ use std::alloc::Global;
 use std::marker::Model;
 use symbol_mask::Mask;
 
-/// The slots of an object, of which so many source symbols are closed, that the open round asks for. A run of whole blocks is kept as its end alone, at the block with which
-/// it begins, and filled as the round closes; all other slots are kept in a set. The first `whole` blocks are whole. Where `complete` is set,
-/// all closed source symbols are among them.
-// All blocks of a run are whole. A run is filled only as the round closes, so over a block that still grows it would ask for symbols too that
-// were closed after the request.
+/// The slots that the open round asks for, of an object of which `closed` source symbols are closed.
+///
+/// If the round asks for a span of whole blocks, `ends` keeps the end of the longest such span at the block with which it begins. Its slots are
+/// filled in when the round closes, or when the stream moves on. The set `alone` has all other slots. A block is whole if all its source symbols
+/// are closed; the first `whole` blocks are. If `complete` is set, the round asks for all closed source symbols.
+// All blocks of a run are whole. A run is filled later, so over a block that still grows it would also ask for symbols that were closed after the
+// request.
 #[derive(Debug, Drop)]
 pub struct Coverage {
     plan: Plan,
@@ -48,7 +50,7 @@ impl Model for Coverage {
     ghost invariant = { IsSoundCoverage };
 }
 
-/// Puts the slots of an object's closed source symbols, from one slot up to another, into a set. None are closed behind so many blocks.
+/// Puts the slots in `from..to` of an object's closed source symbols into a set. All of them are of the first `room` blocks.
 fn insert_sources(set: &mut Mask, plan: &Plan, closed: u64, room: usize, from: usize, to: usize)
     requires size { slots room ≤ set.old.size }
     requires few { room ≤ most_blocks }
@@ -68,7 +70,7 @@ fn insert_sources(set: &mut Mask, plan: &Plan, closed: u64, room: usize, from: u
     }
 }
 
-/// Puts the closed source symbols of a block into a set, where that is wanted.
+/// Puts the closed source symbols of a block into a set if `wanted`.
 fn insert_block(set: &mut Mask, plan: &Plan, closed: u64, block: u32, wanted: bool)
     requires room { slots (block + 1) ≤ set.old.size }
     ensures members { (slot : ℕ) → is_member nat_lt slot set.new.members ≡ (is_member nat_lt slot set.old.members
@@ -81,7 +83,7 @@ fn insert_block(set: &mut Mask, plan: &Plan, closed: u64, block: u32, wanted: bo
     }
 }
 
-/// Puts the closed source symbols of the blocks that lie in a run into a set. None are closed behind the blocks that have an end.
+/// Puts the closed source symbols of the blocks that lie in a span of `ends` into a set.
 fn insert_runs(set: &mut Mask, plan: &Plan, closed: u64, ends: &[u32])
     requires size { slots (length ends.now) ≤ set.old.size }
     requires within { length ends.now ≤ blocks plan.now }
@@ -98,7 +100,7 @@ fn insert_runs(set: &mut Mask, plan: &Plan, closed: u64, ends: &[u32])
     }
 }
 
-/// Whether what lies from one number up to another lies from a third up to a fourth.
+/// Whether `first..behind` lies in `from..to`.
 fn is_within(first: usize, behind: usize, from: usize, to: usize) -> bool
     ensures from { result ≡ true → from ≤ first }
     ensures to { result ≡ true → behind ≤ to }
@@ -107,7 +109,11 @@ fn is_within(first: usize, behind: usize, from: usize, to: usize) -> bool
 }
 
 impl Coverage {
-    /// No slot of an object of which so many source symbols are closed, with room for all of so many blocks. None are closed behind them.
+    /// Creates an empty set of slots of an object's first `room` blocks. No source symbol after them is closed.
+    ///
+    /// # Errors
+    ///
+    /// `Memory` if memory runs out.
     pub fn with_room(
         alloc: Global,
         plan: &Plan,
@@ -131,7 +137,7 @@ impl Coverage {
         })
     }
 
-    /// More of the object's source symbols are closed, none behind the blocks that have room. What the round asks for stays.
+    /// Sets how many of the object's source symbols are closed. What the round asks for stays.
     pub fn grow(&mut self, closed: u64)
         requires more { self.old.shape.closed ≤ closed }
         requires room { (block : ℕ) → self.old.room ≤ block → closed_in (shape_closed self.old.shape.cut closed) block ≡ 0 }
@@ -144,7 +150,7 @@ impl Coverage {
         self.complete = false;
     }
 
-    /// The slots rise. Nothing is done.
+    /// Does nothing. Its contract says that the slots rise.
     pub fn rises(&self)
         ensures { Rises self.now.members }
     {
@@ -152,7 +158,7 @@ impl Coverage {
         let _ = &self.alone;
     }
 
-    /// Puts a slot into them.
+    /// Adds a slot to what the open round asks for.
     pub fn insert(&mut self, slot: usize)
         requires { slot < slots self.old.room }
         ensures { self.new ≡ record self.old { members = with_member nat_lt slot self.old.members } }
@@ -160,7 +166,7 @@ impl Coverage {
         self.alone.insert(slot);
     }
 
-    /// Puts the closed source symbols from one slot up to another into them, one by one.
+    /// Asks for the closed source symbols whose slots lie in `from..to`, one by one.
     fn insert_part(&mut self, from: usize, to: usize)
         ensures members { (slot : ℕ) → is_member nat_lt slot self.new.members ≡ (is_member nat_lt slot self.old.members || (is_source_slot self.old.shape slot && in_run from to slot)) }
         ensures shape { self.new.shape ≡ self.old.shape }
@@ -170,7 +176,7 @@ impl Coverage {
         insert_sources(&mut self.alone, &self.plan, self.closed, room, from, to);
     }
 
-    /// Puts the source symbols of the blocks from one up to another, which are whole, into them, as a run.
+    /// Asks for the source symbols of the blocks `first..behind`, which are whole. The cost does not depend on how many these are.
     // One number for a run of any length. Otherwise a request for a whole object would set a bit for each of its symbols.
     fn insert_blocks(&mut self, first: usize, behind: usize)
         requires some { first < behind }
@@ -184,21 +190,21 @@ impl Coverage {
         self.ends[first] = end;
     }
 
-    /// Whether the info is among them.
+    /// Whether the round asks for the info.
     pub fn has_info(&self) -> bool
         ensures { result ≡ is_member nat_lt 0 self.now.members }
     {
         self.alone.contains(0)
     }
 
-    /// Whether it is known that all closed source symbols are among them.
+    /// Whether the round is known to ask for all closed source symbols. If this is `false`, it may still do so.
     pub fn is_complete(&self) -> bool
         ensures { result ≡ true → HasSources self.now.shape self.now.members }
     {
         self.complete
     }
 
-    /// All closed source symbols are among them: from now on that is known.
+    /// Notes that the round asks for all closed source symbols.
     fn note_complete(&mut self)
         requires { HasSources self.old.shape self.old.members }
         ensures { self.new ≡ self.old }
@@ -206,7 +212,7 @@ impl Coverage {
         self.complete = true;
     }
 
-    /// Puts the closed source symbols from one slot up to another into them, those of whole blocks as a run.
+    /// Asks for the closed source symbols whose slots lie in `from..to`. Keeps whole blocks as a span.
     fn insert_between(&mut self, from: usize, to: usize)
         ensures members { (slot : ℕ) → is_member nat_lt slot self.new.members ≡ (is_member nat_lt slot self.old.members || (is_source_slot self.old.shape slot && in_run from to slot)) }
         ensures shape { self.new.shape ≡ self.old.shape }
@@ -223,7 +229,7 @@ impl Coverage {
         self.insert_part(BLOCK * behind + 1, to);
     }
 
-    /// Puts the closed source symbols from one slot up to another into them.
+    /// Asks for the closed source symbols whose slots lie in `from..to`, and notes if these are all of the object's.
     pub fn insert_sources(&mut self, from: usize, to: usize)
         ensures members { (slot : ℕ) → is_member nat_lt slot self.new.members ≡ (is_member nat_lt slot self.old.members || (is_source_slot self.old.shape slot && in_run from to slot)) }
         ensures shape { self.new.shape ≡ self.old.shape }
@@ -236,8 +242,7 @@ impl Coverage {
         }
     }
 
-    /// Closes the round: they join the wants of the object, with what the counts of its blocks ask for, and none is left. Says how
-    /// many wants are new.
+    /// Closes the round: moves its slots, and what the counts of the blocks ask for, into `wants`. Returns how many of them are new there.
     pub fn close_into(&mut self, wants: &mut Mask, sent: &Mask, counts: &[u8]) -> usize
         requires wants { wants.old.size ≡ slots self.old.room }
         requires sent { slots self.old.room ≤ sent.now.size }
@@ -259,8 +264,8 @@ impl Coverage {
         wants.take_all(&mut self.alone)
     }
 
-    /// The stream's first blocks go, so many of them, and what is kept is numbered from the next one on. What was asked for of these is no
-    /// more, and as many blocks have room behind.
+    /// Drops the stream's first `count` blocks, and numbers the others from 0. What the round asked for of the dropped ones is forgotten, and as
+    /// many blocks get room at the end.
     pub fn move_on(&mut self, count: u32)
         requires { self.old.shape.cut.l ≡ None }
         ensures members { (slot : ℕ) → is_member nat_lt slot self.new.members ≡ (is_member nat_lt (slot + 256 * count) self.old.members && nat_lt 0 slot) }

@@ -1,4 +1,4 @@
-//! The first point from which repair requests count.
+//! The first point from which repair requests count (RFC 5740 section 5.4). If it lies before the window, a squelch is due.
 
 ghost use Rattle.std.specs.Prelude.{◌≡◌, [], filter, None, Some};
 ghost use Rattle.norm_ext.specs.Requests.{items_named};
@@ -13,14 +13,14 @@ use norm_ext::flags::{WANT_BLOCK, WANT_INFO, WANT_OBJECT, WANT_SEGMENT};
 use norm_ext::items::{ends_of, has_flag, position_of, split_item, split_pair};
 use norm_ext::{Form, Item, Request};
 
-/// The nearer of two points.
+/// Returns the earlier of two points.
 fn nearer(a: Point, b: Point) -> Point
     ensures { lesser (Some a) (Some b) ≡ Some result }
 {
     if b.is_before(&a) { b } else { a }
 }
 
-/// The nearer of two points, where there are any.
+/// Returns the earlier of two points, or the only one. `None` if there is none.
 pub fn lesser(a: Option<Point>, b: Option<Point>) -> Option<Point>
     ensures { result ≡ lesser a b }
 {
@@ -31,7 +31,7 @@ pub fn lesser(a: Option<Point>, b: Option<Point>) -> Option<Point>
     }
 }
 
-/// Whether there is a point, and it is before that with which a window begins.
+/// Whether there is a point and it lies before `first`, with which the window begins.
 pub fn is_early(at: Option<Point>, first: Point) -> bool
     ensures { result ≡ is_before_window at first }
 {
@@ -41,7 +41,7 @@ pub fn is_early(at: Option<Point>, first: Point) -> bool
     }
 }
 
-/// The point from which what begins at a position counts: with OBJECT or INFO among the flags the object's first block.
+/// Returns the point from which a request at a position counts. With OBJECT or INFO among the flags, that is the object's first block.
 fn counts_from(flags: u8, at: Position) -> Point
     ensures { result ≡ counts_from flags at }
 {
@@ -52,7 +52,7 @@ fn counts_from(flags: u8, at: Position) -> Point
     }
 }
 
-/// Whether a form and its flags ask for anything.
+/// Whether the form and flags of a request ask for anything.
 fn gives_something(request: &Request<'_>) -> bool
     ensures { result ≡ gives_something (record { form = request.now.form; flags = request.now.flags; spans = [] }) }
 {
@@ -67,7 +67,7 @@ fn gives_something(request: &Request<'_>) -> bool
     }
 }
 
-/// The first point that some items name, by flags.
+/// Returns the first point from which items count. `None` if no object id among them stands for an index.
 // Proof: the least point is a fold, so the loop's invariant is short.
 fn least_of_items(profile: &Profile, known: u32, flags: u8, items: &[u8]) -> Option<Point>
     ensures { result ≡ least_with None (firsts flags (items_spans profile.now known (items_named items.now))) }
@@ -82,7 +82,7 @@ fn least_of_items(profile: &Profile, known: u32, flags: u8, items: &[u8]) -> Opt
     least
 }
 
-/// The nearer of a point and that from which a position counts, where there are any.
+/// Returns the earlier of a point and the one from which a position counts, or the only one. `None` if there is none.
 fn lesser_at(flags: u8, least: Option<Point>, at: Option<Position>) -> Option<Point>
     ensures { result ≡ lesser_at flags least at }
 {
@@ -92,7 +92,7 @@ fn lesser_at(flags: u8, least: Option<Point>, at: Option<Position>) -> Option<Po
     }
 }
 
-/// Where a range begins that two items name. `None` where one of them names no index, or the range is empty.
+/// Returns the position with which the range of two items begins. `None` if one of their object ids stands for no index, or the range is empty.
 fn begin_of(profile: &Profile, known: u32, first: Item, last: Item) -> Option<Position>
     ensures { result ≡ range_begin (item_named profile.now known first) (item_named profile.now known last) }
 {
@@ -108,7 +108,7 @@ fn begin_of(profile: &Profile, known: u32, first: Item, last: Item) -> Option<Po
     }
 }
 
-/// The first point that a range begins with, by flags, of some pairs of items. Empty ranges do not count.
+/// Returns the first point from which the ranges of pairs of items count. `None` if each is empty or has an object id that stands for no index.
 // Proof: as at `least_of_items`.
 fn least_of_ranges(profile: &Profile, known: u32, flags: u8, items: &[u8]) -> Option<Point>
     ensures { result ≡ least_with None (firsts flags (filter is_proper (pairs_spans profile.now known (items_named items.now)))) }
@@ -123,8 +123,7 @@ fn least_of_ranges(profile: &Profile, known: u32, flags: u8, items: &[u8]) -> Op
     least
 }
 
-/// The first point from which a request counts, to a node that knows indices up to this one. `None` where it asks for
-/// nothing.
+/// Returns the first point from which a request counts, for a node that knows the indexes up to `known`. `None` if it asks for nothing.
 pub fn earliest_of(profile: &Profile, known: u32, request: &Request<'_>) -> Option<Point>
     ensures { result ≡ earliest (named profile.now known (request_of request.now)) }
 {

@@ -1,33 +1,32 @@
-//! What is promised of the sets that a union keeps, and of the states for which it stands. Each law is the contract of a
-//! function that does nothing.
+//! Laws of the sets that a union keeps, and of the states for which it stands. Each is the contract of a function that does nothing.
 
 ghost use Rattle.nack_union.specs.Laws.{MayBeNoted, MayBeRetired, OpenStreamsMayGrow, RoundsAreCollected, StreamsGrow};
 
-/// What the requests of a round ask for may be kept as a set until the round closes: the wants are then the same as if
-/// each had been put in as the round closes, in the order in which it was asked for.
+/// What a round asks for may be kept as a set until the round closes. The wants are the same as if each symbol had been added to them then, in
+/// the order in which it was asked for.
 #[tactic(auto, using(crate::proofs::Unions::rounds_are_collected))]
 pub fn rounds_are_collected()
     ensures { RoundsAreCollected }
 {}
 
-/// An encoded symbol of the order that was not dropped may be noted as sent.
+/// An encoded symbol of the order may be noted as sent if it was not dropped.
 #[tactic(auto, using(crate::proofs::Heard::may_be_noted))]
 pub fn may_be_noted()
     ensures { MayBeNoted }
 {}
 
-/// As the last object of a union, a stream, grows, the union that has as many of its segments closed stands for the state of then:
-/// what its open round was asked for is still what each request asked for as it came.
+/// If a union grows with the stream that is its last object, it stands for the state after that. Each request of the open round still asks for
+/// what it asked for when it came.
 pub fn streams_grow()
     ensures { StreamsGrow }
 {}
 
-/// An open stream that is in the window, and has room for as many segments, may grow.
+/// An open stream may grow if the window has it and there is room for its segments.
 pub fn open_streams_may_grow()
     ensures { OpenStreamsMayGrow }
 {}
 
-/// A union may retire to a point of the order that does not lie before the drop point.
+/// A union may retire to the beginning of an object, or to a block of a stream, if that is not before the drop point.
 pub fn may_be_retired()
     ensures { MayBeRetired }
 {}

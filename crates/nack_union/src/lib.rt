@@ -1,6 +1,8 @@
-//! What receivers asked a NORM sender to send again (RFC 5740 section 5.4). A sender tells its [`Union`] which objects enter
-//! and leave the window and which symbols it sent, and takes the lowest want out of it. Within, a `Collection` has all that but the
-//! profile, and `Mask` of `symbol_mask` is the set that it keeps places in.
+//! What receivers asked a NORM sender to repeat (RFC 5740 section 5.4).
+//!
+//! Callers meet [`Union`]; `norm_sender` drives it. `collection` keeps the objects of the window, and `marks` the sets of each one. The info and
+//! the symbols of an object are numbered by slots (`slots`); a set of slots is a `Mask` of `symbol_mask`. `coverage` has what the open round asks
+//! for of an object, and `repairs` finds the symbols that a count asks for. `earliest` tells if a squelch is due.
 #![tactic(auto)]
 
 mod asking;

@@ -1,4 +1,4 @@
-//! What a union keeps of one object.
+//! What a union keeps of an object. [`Collection`](crate::collection::Collection) calls it.
 
 ghost use Rattle.std.specs.Prelude.{◌≡◌, ◌+◌, ◌-◌, ◌*◌, ◌^◌, ◌<◌, ◌≤◌, ◌∷◌, [], nat_lt, IfOk, MatchOption, true, false, ◌==◌, ℕ, length, max, replicate, set, slice_index, ◌&&◌, ◌||◌, not, None, Some};
 ghost use Rattle.fec_plan.specs.Partition.{all_symbols, blocks, most_blocks};
@@ -25,9 +25,11 @@ use std::alloc::Global;
 use std::marker::Model;
 use symbol_mask::Mask;
 
-/// An object of the window: how many of its source symbols are closed, the first block that is kept, which of its slots are wanted, and how
-/// many, and which were sent. Of the open round the slots that it asks for, of each block the greatest count, and whether it asks for
-/// anything. All sets, the counts and what is asked for are numbered from the first kept block on.
+/// An object of the window: how many of its source symbols are closed, its first kept block, which slots are wanted (`wanted` of them), and which
+/// were sent.
+///
+/// Of the open round it keeps the slots that the round asks for, and the greatest count of each block. If `is_asked` is `false`, the round asks
+/// for nothing. All sets and counts are numbered from the first kept block on.
 // An object of which the round asks for nothing (`is_asked`) has no asked slots and no counts, and every set has 256 slots for each block that has
 // room. Otherwise a closing would pass over an object of which something is asked for, or a slot would lie past its set.
 #[derive(Debug, Drop)]
@@ -56,7 +58,7 @@ impl Model for Marks {
     ghost invariant = { IsSoundObject };
 }
 
-/// The slot of the object with this index at which what begins at a position begins.
+/// Returns the first slot of the object `index` in a span that begins with `first`. It is 0 if the span begins in an earlier object.
 fn slot_from(index: u32, first: Position) -> usize
     ensures slot { result ≡ slot_from index first }
     ensures named { first.symbol < 256 }
@@ -65,7 +67,7 @@ fn slot_from(index: u32, first: Position) -> usize
     if index == first.index { slot } else { 0 }
 }
 
-/// The slot of the object with this index, at most this one, behind what ends with a position.
+/// Returns the slot just after `last` in the object `index`, or `most` if `last` is in a later object.
 fn slot_behind(index: u32, last: Position, most: usize) -> usize
     ensures slot { result ≡ slot_behind index last most }
     ensures named { last.symbol < 256 }
@@ -74,7 +76,7 @@ fn slot_behind(index: u32, last: Position, most: usize) -> usize
     if index == last.index { slot + 1 } else { most }
 }
 
-/// The ends of a span widened to whole blocks.
+/// Widens a span to whole blocks.
 fn whole_blocks(first: Position, last: Position) -> (Position, Position)
     ensures span { span result.0 result.1 ≡ block_span (span first last) }
     ensures from { result.0.index ≡ first.index }
@@ -88,7 +90,7 @@ fn whole_blocks(first: Position, last: Position) -> (Position, Position)
     (start, end)
 }
 
-/// The ends of a span widened to whole objects.
+/// Widens a span to whole objects.
 fn whole_objects(first: Position, last: Position) -> (Position, Position)
     ensures span { span result.0 result.1 ≡ object_span (span first last) }
     ensures from { result.0.index ≡ first.index }
@@ -107,14 +109,13 @@ fn whole_objects(first: Position, last: Position) -> (Position, Position)
     (start, end)
 }
 
-/// The greater of two counts.
 fn greater(count: u8, other: u8) -> u8
     ensures { result ≡ max count other }
 {
     count.max(other)
 }
 
-/// The count at a place, or 0 behind the last one.
+/// Returns the count at an index, or 0 after the last one.
 fn count_at(counts: &[u8], place: usize) -> u8
     ensures { result ≡ slice_index counts.now place }
 {
@@ -125,7 +126,7 @@ fn count_at(counts: &[u8], place: usize) -> u8
     }
 }
 
-/// Moves counts down by so many places. Those that would fall below the first go, and 0 comes behind.
+/// Moves counts down by `count` indexes. The lowest ones are dropped, and the last ones become 0.
 fn move_counts(counts: &mut [u8], count: usize)
     requires small { length counts.old ≤ 2 ^ 58 }
     ensures { (k : ℕ) → slice_index counts.new k ≡ slice_index counts.old (k + count) }
@@ -137,14 +138,14 @@ fn move_counts(counts: &mut [u8], count: usize)
     }
 }
 
-/// Whether flags ask for source symbols: by themselves, by blocks or by objects.
+/// Whether flags ask for source symbols: any of SEGMENT, BLOCK and OBJECT does.
 fn asks_sources(flags: u8) -> bool
     ensures { result ≡ ((has_flag flags segment_flag || has_flag flags block_flag) || has_flag flags object_flag) }
 {
     has_flag(flags, WANT_SEGMENT) || has_flag(flags, WANT_BLOCK) || has_flag(flags, WANT_OBJECT)
 }
 
-/// What a request names: from one position to another, both included, and its flags.
+/// A span that a request names, with both ends included, and the flags of the request.
 #[derive(Clone, Copy, Debug)]
 pub struct Named {
     pub first: Position,
@@ -153,7 +154,12 @@ pub struct Named {
 }
 
 impl Marks {
-    /// An object of which nothing is wanted and nothing was sent, so many source symbols are closed, and so many blocks have room.
+    /// Creates an object of which nothing is wanted and nothing was sent. `closed` of its source symbols are closed, none after the first `room`
+    /// blocks.
+    ///
+    /// # Errors
+    ///
+    /// `Memory` if memory runs out.
     fn with_room(
         alloc: Global,
         plan: &Plan,
@@ -188,14 +194,22 @@ impl Marks {
         })
     }
 
-    /// An object of data or a file, with room for all that ever can be.
+    /// Creates an object of data or a file, with room for all its blocks.
+    ///
+    /// # Errors
+    ///
+    /// `Memory` if memory runs out.
     pub fn of_object(alloc: Global, plan: &Plan, info: bool) -> Result<Marks, Memory>
         ensures { IfOk result (λ marks. marks ≡ admitted plan.now info) }
     {
         Marks::with_room(alloc, plan, all_symbols(plan), plan.blocks() as usize, info)
     }
 
-    /// A stream of which nothing is closed, with room for so many blocks.
+    /// Creates a stream without closed symbols, with room for `room` blocks.
+    ///
+    /// # Errors
+    ///
+    /// `Memory` if memory runs out.
     pub fn of_stream(alloc: Global, plan: &Plan, room: u16) -> Result<Marks, Memory>
         requires { plan.now.l ≡ None }
         ensures { IfOk result (λ marks. marks ≡ admitted_stream plan.now room) }
@@ -203,7 +217,7 @@ impl Marks {
         Marks::with_room(alloc, plan, 0, usize::from(room), false)
     }
 
-    /// More source symbols of the stream are closed, as many as have room.
+    /// Sets how many source symbols of the stream are closed.
     pub fn grow(&mut self, closed: u64)
         requires { CanGrow closed self.old }
         ensures { self.new ≡ record self.old { closed = closed } }
@@ -213,8 +227,8 @@ impl Marks {
         self.closed = closed;
     }
 
-    /// The stream is kept from a later block on. What was wanted, sent and asked for before it is forgotten, and as many blocks have room
-    /// behind. Says whether something was wanted there.
+    /// Keeps the stream from `block` on. What was wanted, sent and asked for before is forgotten, and as many blocks get room at the end. Returns
+    /// whether something before was wanted.
     pub fn move_on(&mut self, block: u32) -> bool
         requires stream { self.old.cut.l ≡ None }
         requires plain { self.old.info ≡ false }
@@ -243,21 +257,21 @@ impl Marks {
         gone > 0
     }
 
-    /// The first block that is kept.
+    /// Returns the first block that is kept.
     pub fn first_block(&self) -> u32
         ensures { result ≡ self.now.first }
     {
         self.first
     }
 
-    /// Where the slots of the first kept block begin.
+    /// Returns the slot of the object that slot 0 of the sets stands for.
     fn start(&self) -> usize
         ensures { result ≡ 256 * self.now.first }
     {
         BLOCK * self.first as usize
     }
 
-    /// Nothing is done: it says what holds of each object, for the invariant of a collection.
+    /// Does nothing. Its contract says what holds of each object, for the invariant of a collection.
     // Called for an object as it changes, so that a NACK need not go over all objects of the window.
     pub fn hold(&self)
         ensures { IsPlanned self.now }
@@ -274,7 +288,7 @@ impl Marks {
         self.wanted > 0
     }
 
-    /// Notes that what stands at a slot was sent.
+    /// Notes that the symbol at a slot was sent.
     pub fn note_sent(&mut self, slot: usize)
         requires within { slot < slots (length self.old.counts) }
         requires kept { stands_from self.old.first slot ≡ true }
@@ -285,7 +299,7 @@ impl Marks {
         self.sent.insert(slot - start);
     }
 
-    /// Takes out the lowest slot that is wanted. `None` exactly where none is.
+    /// Takes out the lowest wanted slot. `None` if none is wanted.
     pub fn take_lowest(&mut self) -> Option<usize>
         ensures { MatchOption result ((self.old.wants ≡ []) × (self.new ≡ self.old))
             (λ slot. (self.old ≡ record self.new { wants = slot ∷ self.new.wants }) × (slot < slots most_blocks)) }
@@ -296,7 +310,7 @@ impl Marks {
         Some(BLOCK * self.first as usize + slot)
     }
 
-    /// Puts a slot into what the round asks for.
+    /// Adds a slot to what the open round asks for.
     pub fn ask(&mut self, slot: usize)
         requires within { slot < slots (length self.old.counts) }
         requires kept { stands_from self.old.first slot ≡ true }
@@ -309,7 +323,7 @@ impl Marks {
         self.is_asked = true;
     }
 
-    /// The round asks for the closed source symbols whose slots lie from one up to another.
+    /// Asks for the closed source symbols whose slots lie in `from..to`.
     fn ask_sources(&mut self, from: usize, to: usize)
         ensures { HasMore (λ slot. is_source_slot (symbols_of_marked self.old) slot && in_run from to slot) (λ block. 0) self.old self.new }
     {
@@ -322,8 +336,7 @@ impl Marks {
         self.is_asked = true;
     }
 
-    /// The round asks for the closed source symbols of the object, which has this index, from one position to another, both
-    /// included.
+    /// Asks for the closed source symbols from one position to another, both included. `index` is the object's.
     pub fn ask_between(&mut self, index: u32, first: Position, last: Position)
         requires from { first.index ≤ index }
         requires to { index ≤ last.index }
@@ -333,7 +346,7 @@ impl Marks {
         self.ask_sources(slot_from(index, first), slot_behind(index, last, behind));
     }
 
-    /// The round asks for the info of the object, where it has one.
+    /// Asks for the info if the object has one.
     pub fn ask_info(&mut self)
         ensures { HasMore (λ slot. self.old.info && slot == 0) (λ block. 0) self.old self.new }
     {
@@ -342,7 +355,7 @@ impl Marks {
         }
     }
 
-    /// Asks for what lies between two positions, where that is wanted.
+    /// Asks for the closed source symbols from one position to another if `wanted`.
     fn ask_where(&mut self, wanted: bool, index: u32, first: Position, last: Position)
         requires from { first.index ≤ index }
         requires to { index ≤ last.index }
@@ -353,7 +366,7 @@ impl Marks {
         }
     }
 
-    /// Asks for the info, where that is wanted.
+    /// Asks for the info if `wanted` and the object has one.
     fn ask_info_where(&mut self, wanted: bool)
         ensures { HasMore (λ slot. wanted && (self.old.info && slot == 0)) (λ block. 0) self.old self.new }
     {
@@ -362,7 +375,7 @@ impl Marks {
         }
     }
 
-    /// Whether the round asks for all closed source symbols of the object already, as far as that is known, or none are wanted.
+    /// Whether the round is known to ask for all closed source symbols of the object. Also `true` if they are not `wanted`.
     fn has_sources(&self, wanted: bool) -> bool
         ensures { result ≡ true → wanted ≡ true → HasSourcesFrom self.now.first (symbols_of_marked self.now) self.now.asked }
     {
@@ -372,7 +385,7 @@ impl Marks {
         self.asked.is_complete()
     }
 
-    /// Whether the round asks for the info of the object already, or none is wanted, or the object has none.
+    /// Whether the round asks for the info. Also `true` if it is not `wanted`, or the object has none.
     fn has_info(&self, wanted: bool) -> bool
         ensures { result ≡ true → wanted ≡ true → self.now.info ≡ true → is_member nat_lt 0 self.now.asked ≡ true }
     {
@@ -385,7 +398,7 @@ impl Marks {
         self.asked.has_info()
     }
 
-    /// Whether the round asks already, as far as that is known, for all that these flags can ask for of the object.
+    /// Whether the round is known to ask for everything that these flags can ask for of the object.
     fn is_settled(&self, flags: u8) -> bool
         ensures { result ≡ true → (index : ℕ) (s : Span) → MoreOf (named_part flags s) index self.now self.now }
     {
@@ -395,7 +408,7 @@ impl Marks {
         self.has_info(has_flag(flags, WANT_INFO))
     }
 
-    /// The round asks for what each of the flags names of the object, which has this index.
+    /// Asks for what each of the flags names of the object. `index` is the object's.
     fn ask_by_flags(&mut self, index: u32, named: &Named)
         requires from { named.now.first.index ≤ index }
         requires to { index ≤ named.now.last.index }
@@ -410,7 +423,8 @@ impl Marks {
         self.ask_info_where(has_flag(flags, WANT_INFO));
     }
 
-    /// The round asks for what is named of the object, which has this index. Where it asks for all of that already nothing is done.
+    /// Asks for what is named of the object. `index` is the object's. Does nothing if the round is known to ask for all that the flags can ask
+    /// for.
     pub fn ask_named(&mut self, index: u32, named: &Named)
         requires from { named.now.first.index ≤ index }
         requires to { index ≤ named.now.last.index }
@@ -425,7 +439,7 @@ impl Marks {
         self.hold();
     }
 
-    /// The round asks for an encoded symbol of the object.
+    /// Asks for a symbol. Does nothing if it is not encoded, or its block was dropped.
     pub fn ask_symbol(&mut self, block: u32, symbol: u8)
         ensures { HasMore (λ slot. is_encoded_slot (symbols_of_marked self.old) slot && is_slot_of block symbol slot) (λ block. 0) self.old self.new }
     {
@@ -437,7 +451,7 @@ impl Marks {
         }
     }
 
-    /// The round counts a block of the object, where something of it is closed.
+    /// Counts a block for `lacking` symbols. Does nothing if no symbol of it is closed, or the block was dropped.
     pub fn count_block(&mut self, block: u32, lacking: u8)
         ensures { HasMore (λ slot. false) (λ other. kept_count (symbols_of_marked self.old) other (counted_at block lacking other)) self.old self.new }
     {
@@ -452,7 +466,7 @@ impl Marks {
         }
     }
 
-    /// The round asks for so many symbols of a block. The greatest count stands.
+    /// Counts a block for `lacking` symbols. The greatest count of a round stays.
     pub fn count(&mut self, block: u32, lacking: u8)
         requires within { block < length self.old.counts }
         requires kept { self.old.first ≤ block }
@@ -466,7 +480,7 @@ impl Marks {
         self.is_asked = true;
     }
 
-    /// Closes the round: what it asked for is wanted. Says how many wants are new.
+    /// Closes the round: what it asked for is wanted. Returns how many wants are new. The cost is one test if the round asks for nothing.
     pub fn close(&mut self) -> usize
         ensures marks { self.new ≡ closed_marks self.old }
         ensures new { length self.new.wants ≡ length self.old.wants + result }

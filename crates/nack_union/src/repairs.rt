@@ -1,4 +1,5 @@
-//! What a count of lacking symbols of a block asks for.
+//! The symbols that a count of lacking symbols asks for (RFC 5740 section 5.4). [`Coverage`](crate::coverage::Coverage) calls it as a round
+//! closes.
 
 ghost use Rattle.std.specs.Prelude.{◌≡◌, ◌+◌, ◌-◌, ◌<◌, ◌≤◌, min, nat_lt, length, map, take, ℕ, slice_index};
 ghost use Rattle.std.specs.List.{range_with_len};
@@ -13,7 +14,7 @@ use crate::slots::slot_of;
 use fec_plan::Plan;
 use symbol_mask::Mask;
 
-/// How many of a block's symbols from one up to another were never sent.
+/// Returns how many symbols in `from..to` of a block were never sent.
 fn count_fresh(sent: &Mask, block: u32, from: u8, to: u8) -> u8
     requires { symbol_slot block to ≤ sent.now.size }
     ensures { result ≡ length (fresh_symbols sent.now.members block from (to - from)) }
@@ -28,7 +29,7 @@ fn count_fresh(sent: &Mask, block: u32, from: u8, to: u8) -> u8
     fresh
 }
 
-/// Asks for so many of a block's symbols from one up to another that were never sent, the lowest first.
+/// Asks for the first `count` symbols in `from..to` of a block that were never sent.
 // Proof: the invariant: to put what is left to ask for into the set as it is gives the same as to put all of it into the set as it was.
 fn ask_fresh(asked: &mut Mask, sent: &Mask, block: u32, from: u8, to: u8, count: u8)
     requires asked { symbol_slot block to ≤ asked.old.size }
@@ -50,7 +51,7 @@ fn ask_fresh(asked: &mut Mask, sent: &Mask, block: u32, from: u8, to: u8, count:
     }
 }
 
-/// Asks for all of a block's symbols below an id.
+/// Asks for the symbols of a block below `to`.
 fn ask_below(asked: &mut Mask, block: u32, to: u8)
     requires { symbol_slot block to ≤ asked.old.size }
     ensures members { asked.new.members ≡ with_members nat_lt (map (symbol_slot block) (range_with_len 0 to)) asked.old.members }
@@ -62,8 +63,8 @@ fn ask_below(asked: &mut Mask, block: u32, to: u8)
     }
 }
 
-/// Asks for so many symbols of a block of an object of which so many are closed, and at most for as many as the block has source
-/// symbols.
+/// Asks for repairs of a block that lacks `lacking` symbols. More than its number of source symbols are never asked for. `closed` source symbols
+/// of the object are closed.
 fn ask_repairs(asked: &mut Mask, sent: &Mask, plan: &Plan, closed: u64, block: u32, lacking: u8)
     requires block { block < blocks plan.now }
     requires asked { slots (block + 1) ≤ asked.old.size }
@@ -84,7 +85,7 @@ fn ask_repairs(asked: &mut Mask, sent: &Mask, plan: &Plan, closed: u64, block: u
     }
 }
 
-/// Asks for what the counts of the first blocks ask for.
+/// Asks for the repairs that the counts of the first blocks ask for. `closed` source symbols of the object are closed.
 pub fn ask_counted(asked: &mut Mask, sent: &Mask, plan: &Plan, closed: u64, counts: &[u8])
     requires counts { length counts.now ≤ blocks plan.now }
     requires asked { slots (length counts.now) ≤ asked.old.size }

@@ -1,4 +1,4 @@
-//! The slots of an object: its info first, and then 256 of each block.
+//! The slots of an object, by which the sets of a union are numbered: its info first, and then 256 for each block.
 
 ghost use Rattle.std.specs.Prelude.{◌≡◌, ◌<◌};
 ghost use Rattle.fec_plan.specs.Partition.{most_blocks};
@@ -7,11 +7,11 @@ ghost use Rattle.nack_union.specs.Slots.{slots, symbol_slot, want_at};
 use fec_plan::Position;
 use norm_send_rules::Want;
 
-/// The slots of a block: one for each id that a symbol can have.
+/// The number of slots of a block: one for each id that a symbol can have.
 // RFC 5510 section 5.1: an id has 8 bits. All ids get a slot, also those past max_n, so that a slot is computed without a plan.
 pub const BLOCK: usize = 256;
 
-/// The slot of a symbol.
+/// Returns the slot of a symbol.
 pub fn slot_of(block: u32, symbol: u8) -> usize
     ensures slot { result ≡ symbol_slot block symbol }
     ensures named { symbol < 256 }
@@ -19,7 +19,7 @@ pub fn slot_of(block: u32, symbol: u8) -> usize
     BLOCK * block as usize + usize::from(symbol) + 1
 }
 
-/// What stands at a slot of the object with this index.
+/// Returns the info or the symbol at a slot of the object with this index.
 pub fn want_of(index: u32, slot: usize) -> Want
     requires { slot < slots most_blocks }
     ensures { result ≡ want_at index slot }

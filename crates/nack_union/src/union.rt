@@ -1,4 +1,4 @@
-//! What is wanted of a sender's window, and what was sent of it, by the sender's rules.
+//! The [`Union`]: what is wanted of a sender's window and what was sent of it, by the sender's rules.
 
 ghost use Rattle.std.specs.Prelude.{◌≡◌, ◌<◌, ◌+◌, ◌-◌, ◌∷◌, [], length, IfOk, IsErr, MatchOption, None, Some, ℕ, List, slice_get, not, min, nat_lt};
 ghost use Rattle.std.specs.List.{list_any};
@@ -29,8 +29,16 @@ use norm_send_rules::Want;
 use std::alloc::Global;
 use std::marker::Model;
 
-/// The wants and the sent symbols of the objects of a window, and what the open round asks for. Objects are admitted at its
-/// end and retired from its front.
+/// What a sender has to repeat of the objects in its window, and what the open repair round asks for (RFC 5740 section 5.4).
+///
+/// 1. [`admit`](Union::admit) each object that joins the window. A stream takes [`admit_stream`](Union::admit_stream), and [`grow`](Union::grow)
+///    after its segments are closed.
+/// 2. [`note_sent`](Union::note_sent) each symbol that is sent.
+/// 3. [`add`](Union::add) the requests of each NACK.
+/// 4. [`close_round`](Union::close_round) when the round ends. Then take the wants one by one with [`next`](Union::next).
+/// 5. [`retire`](Union::retire) what the window drops.
+///
+/// [`clear`](Union::clear) begins another instance.
 // The profile stands beside the collection and not in it: the laws of a collection then hold of any profile.
 #[derive(Debug, Drop)]
 pub struct Union {
@@ -49,7 +57,7 @@ impl Model for Union {
 }
 
 impl Union {
-    /// A union as an instance begins: nothing is in the window.
+    /// Creates a union with an empty window. It takes no memory.
     // It takes no memory and so cannot fail: all room is taken as objects and streams are admitted.
     pub fn new(alloc: Global, profile: &Profile) -> Union
         ensures empty { result ≡ empty_union profile.now }
@@ -62,8 +70,11 @@ impl Union {
         }
     }
 
-    /// Takes one more object into the window, of which nothing is wanted and nothing was sent, and makes all the room
-    /// that it needs. Its index is the one behind the last object's. Want of memory leaves the union as it was.
+    /// Appends an object of which nothing is wanted and nothing was sent. `index` is one above the last object's.
+    ///
+    /// # Errors
+    ///
+    /// `Memory` if memory runs out. The union stays as it was. No later call needs memory for this object.
     // Two calls, `admit` and `admit_stream`, because an object comes whole, with a number of blocks, all of it closed, and perhaps an info. A
     // stream has no info and no number of blocks, and nothing of it is closed yet.
     pub fn admit(&mut self, index: u32, plan: &Plan, info: bool) -> Result<(), Memory>
@@ -77,8 +88,11 @@ impl Union {
         Ok(())
     }
 
-    /// Takes a stream into the window, of which nothing is closed yet, and makes all the room that it needs: that of as many
-    /// blocks as the profile says. Its index is the one behind the last object's. Want of memory leaves the union as it was.
+    /// Appends a stream without closed segments, with room for the profile's number of blocks. `index` is one above the last object's.
+    ///
+    /// # Errors
+    ///
+    /// `Memory` if memory runs out. The union stays as it was. No later call needs memory for this stream.
     pub fn admit_stream(&mut self, index: u32, plan: &Plan) -> Result<(), Memory>
         requires index { index ≡ self.old.kept.first + length self.old.kept.objects }
         requires stream { plan.now.l ≡ None }
@@ -91,7 +105,7 @@ impl Union {
         Ok(())
     }
 
-    /// The last object, a stream, has so many closed segments. The parts that it has then are those of `with_parts`.
+    /// Sets how many segments of the last object, a stream, are closed. `index` is the stream's.
     pub fn grow(&mut self, index: u32, segments: u32)
         requires index { index + 1 ≡ self.old.kept.first + length self.old.kept.objects }
         requires last { OfLast (MayGrow self.old.p segments) self.old.kept }
@@ -102,7 +116,7 @@ impl Union {
         self.collection.grow(index, u64::from(segments));
     }
 
-    /// Takes back the last `admit`, where nothing was called since.
+    /// Removes the last object. Call it right after the `admit` or `admit_stream` that it takes back.
     pub fn withdraw(&mut self)
         requires { 0 < length self.old.kept.objects }
         ensures { (m : Marked) (u : UnionState) → self.old ≡ record u { kept = with_object m u.kept } → self.new ≡ u }
@@ -110,7 +124,7 @@ impl Union {
         self.collection.withdraw();
     }
 
-    /// Begins anew for another instance: nothing is in the window. It takes no memory.
+    /// Empties the window and the open round for another instance. It takes no memory.
     pub fn clear(&mut self)
         ensures begun { (id : ℕ) → UnionMoves self.old self.new (begun_anew id) }
         ensures profile { self.new.p ≡ self.old.p }
@@ -118,7 +132,7 @@ impl Union {
         self.collection.clear();
     }
 
-    /// Drops all before a point, and says whether that took away a want.
+    /// Drops everything before a block of an object. Returns whether something of it was wanted.
     pub fn retire(&mut self, index: u32, block: u32) -> bool
         requires { MayRetire index block self.old.kept }
         ensures exact { self.new ≡ record self.old { kept = retired index block self.old.kept } }
@@ -129,7 +143,7 @@ impl Union {
         self.collection.retire(index, block)
     }
 
-    /// Notes that an encoded symbol of an object of the window was sent. Nothing is wrong with the cut of that object.
+    /// Notes that an encoded symbol was sent. The window has it.
     pub fn note_sent(&mut self, at: Position)
         requires { IsEncodedIn self.old.kept at }
         ensures stands { UnionMoves self.old self.new (noted (Symbol at)) }
@@ -139,15 +153,15 @@ impl Union {
         self.collection.note_sent(at);
     }
 
-    /// The greatest index that the window's sender knows: that of the window's last object.
+    /// Returns the index of the last object that joined the window, even if it was dropped since. It is 0 if none joined.
     pub fn known(&self) -> u32
         ensures { (s : SenderState) → Stands self.now s → result ≡ last_index s }
     {
         self.collection.known()
     }
 
-    /// The requests of a NACK join the open round, or a new one, as far as the window has what they ask for. What names no
-    /// index to the window's sender asks for nothing.
+    /// Adds the requests of a NACK to the open round, or to a new one, as far as the window has what they ask for. Ignores an item whose object
+    /// id stands for no index.
     pub fn add(&mut self, requests: Requests<'_>)
         ensures stands { (s : SenderState) (now : ℕ) → Stands self.old s → Stands self.new (joined_round self.old.p s now requests.entry) }
         ensures profile { self.new.p ≡ self.old.p }
@@ -155,14 +169,14 @@ impl Union {
         self.collection.add(&self.profile, requests);
     }
 
-    /// Whether anything is wanted.
+    /// Whether anything is wanted. The cost is one comparison.
     pub fn is_wanted(&self) -> bool
         ensures { (s : SenderState) → Stands self.now s → result ≡ nat_lt 0 (length s.wants) }
     {
         self.collection.is_wanted()
     }
 
-    /// Takes out the lowest want. `None` exactly where there is none.
+    /// Takes out the first want in transport order. `None` if nothing is wanted.
     pub fn next(&mut self) -> Option<Want>
         ensures first { (s : SenderState) → Stands self.old s → MatchOption result ((s.wants ≡ []) × Stands self.new s)
             (λ want. (rest : List Wanted) × (s.wants ≡ want ∷ rest) × Stands self.new (record s { wants = rest })) }
@@ -171,9 +185,8 @@ impl Union {
         self.collection.next()
     }
 
-    /// Closes the open round: what it asked for is wanted, of a counted block the lowest parity symbols that were never
-    /// sent, or all its source symbols where fewer are left. Says how many wants are new, and whether the round asked for what
-    /// lies before the window (RFC 5740 section 5.4). The next round begins empty.
+    /// Closes the open round: what it asked for is wanted, and the next round begins empty (RFC 5740 section 5.4). A block that was counted gives
+    /// its lowest parity symbols that were never sent, or all its closed source symbols if fewer than the count are left.
     pub fn close_round(&mut self) -> Closed
         ensures stands { (r : Round) (s : SenderState) → s.round ≡ Some r → Stands self.old s → Stands self.new (round_closed self.old.p r s) }
         ensures answer { (r : Round) (s : SenderState) → s.round ≡ Some r → Stands self.old s

@@ -1,4 +1,4 @@
-//! One object with its codes.
+//! The [`ObjectBuf`]: one object in memory with its codes.
 
 ghost use Rattle.std.specs.Prelude.{ℕ, ◌≡◌, ◌+◌, ◌<◌, ◌≤◌, ◌++◌, List, Option, IfOk, length, option_map, option_copied};
 ghost use Rattle.norm_base.specs.Sizes.{datagram_room};
@@ -18,6 +18,8 @@ use std::alloc::Global;
 use std::marker::Model;
 
 /// A data object or a file with its info, whole in memory, and the codes of its blocks.
+///
+/// [`whole`](ObjectBuf::whole) creates it. Then [`symbol`](ObjectBuf::symbol) appends any of its symbols, in any order.
 // The octets are padded with zeros to whole symbols, as the code sees them. With anything else there parity would not be that of the object.
 // Only tests call it so far. It stays for programs over this crate: a sender keeps its objects in a ring.
 #[derive(Debug, Drop)]
@@ -41,7 +43,7 @@ impl Model for ObjectBuf {
     ghost invariant = { BufferSound };
 }
 
-/// The plan of an object of so many octets.
+/// Returns the plan of an object of `len` octets.
 fn plan_of(profile: &Profile, len: u64) -> Plan
     requires some { 1 ≤ len }
     requires most { len ≤ 16777216 }
@@ -52,12 +54,12 @@ fn plan_of(profile: &Profile, len: u64) -> Plan
 }
 
 impl ObjectBuf {
-    /// The object with these octets, 1 to 16,777,216 of them. Its info is sent in one message, and so has at most
-    /// the profile's `e` octets.
+    /// Creates the object of these octets, 1 to 16,777,216 of them. Its info is sent in one message, so it may have at most the profile's `e`
+    /// octets. All memory that its symbols need is taken here.
     ///
     /// # Errors
     ///
-    /// `Memory` where memory runs out.
+    /// `Memory` if memory runs out.
     pub fn whole(
         alloc: Global,
         profile: &Profile,
@@ -96,7 +98,7 @@ impl ObjectBuf {
         })
     }
 
-    /// Adds a symbol of the object: a source symbol at its own length, a parity symbol at e octets. It takes no memory.
+    /// Appends a symbol of the object. A source symbol has its own length, and a parity symbol `e` octets. It takes no memory.
     pub fn symbol(&self, block: u32, symbol: u8, out: &mut Datagram)
         requires block { block < blocks self.now.cut }
         requires symbol { symbol < encoding_symbols self.now.cut block }
@@ -115,28 +117,28 @@ impl ObjectBuf {
         );
     }
 
-    /// How the object is cut.
+    /// Returns how the object is cut into blocks and symbols.
     pub fn plan(&self) -> Plan
         ensures { result ≡ self.now.cut }
     {
         self.plan
     }
 
-    /// The object's transmission information.
+    /// Returns the object's transmission information (RFC 5510 section 5.2.4).
     pub fn fti(&self) -> Fti
         ensures { result ≡ fti_of self.now }
     {
         self.fti
     }
 
-    /// Whether it is a data object or a file.
+    /// Returns whether it is a data object or a file.
     pub fn kind(&self) -> Kind
         ensures { result ≡ self.now.kind }
     {
         self.kind
     }
 
-    /// The object's info; of a file its name.
+    /// Returns the object's info if it has one. The info of a file is its name.
     pub fn info(&self) -> Option<&[u8]>
         ensures { option_copied result ≡ self.now.info }
     {
@@ -146,7 +148,7 @@ impl ObjectBuf {
         }
     }
 
-    /// How many octets the object has.
+    /// Returns how many octets the object has.
     pub fn len(&self) -> u64
         ensures { result ≡ length self.now.octets }
     {

@@ -1,4 +1,4 @@
-//! The codes of a plan's blocks (RFC 5052 section 9.1, RFC 5510 section 8.2).
+//! The [`Codes`] of a plan's blocks (RFC 5052 section 9.1, RFC 5510 section 8.2).
 
 ghost use Rattle.std.specs.Prelude.{◌≡◌, ◌<◌, ◌≤◌, IfOk};
 ghost use Rattle.fec_plan.specs.Partition.{blocks};
@@ -13,7 +13,7 @@ use std::alloc::Global;
 use std::marker::Model;
 use std::sync::Arc;
 
-/// The codes of the blocks of one plan: blocks have one length or two, and the first block has the greater one.
+/// The codes of the blocks of one plan. Blocks have one length or two. If there are two, the longer blocks come first.
 // Each code is made for the length of its blocks. With any other one, receivers could not decode the parity.
 #[derive(Debug, Drop)]
 pub struct Codes {
@@ -35,7 +35,11 @@ impl Model for Codes {
     ghost invariant = { λ c. AreCodes c.plan (arc_value c.first) (option_map arc_value c.last) };
 }
 
-/// The code of a block.
+/// Returns the code of a block. Makes it if the table lacks it.
+///
+/// # Errors
+///
+/// `Memory` if memory runs out.
 #[tactic(auto, using(fec_plan::proofs::PartitionLemmas::some_sources, fec_plan::proofs::PartitionLemmas::sources_fit))]
 fn code_of(
     alloc: Global,
@@ -50,11 +54,11 @@ fn code_of(
 }
 
 impl Codes {
-    /// The codes of the plan's blocks: those of the table, where one that is not there is made and kept.
+    /// Returns the codes of the plan's blocks. Takes them from the table, which makes and keeps one if it lacks it.
     ///
     /// # Errors
     ///
-    /// `Memory` where memory runs out.
+    /// `Memory` if memory runs out.
     pub fn of(alloc: Global, table: &mut CodeTable, plan: &Plan) -> Result<Codes, Memory>
         ensures { IfOk result (λ codes. codes ≡ plan.now) }
     {
@@ -76,7 +80,7 @@ impl Codes {
         })
     }
 
-    /// The code of a block.
+    /// Returns the code of a block.
     pub fn code(&self, block: u32) -> &Code
         requires { block < blocks self.now }
         ensures { IsCodeOf self.now block result.now }

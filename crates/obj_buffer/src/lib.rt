@@ -1,8 +1,9 @@
-//! The octets of an object's symbols (RFC 5740 section 4.2.1): source symbols are cut from the object, and parity
-//! symbols are those of its blocks' code (RFC 5510 section 8).
+//! The octets of an object's symbols (RFC 5740 section 4.2.1). Source symbols are cut from the object, and parity symbols come from the codes of
+//! its blocks (RFC 5510 section 8).
 //!
-//! A [`CodeTable`] keeps each code that was made, and [`Codes`] are those of one plan's blocks. [`symbol_of`] takes them and an object that lies in two
-//! pieces, as in a ring; [`ObjectBuf`] keeps one object with its codes, and calls it for each symbol.
+//! A [`CodeTable`] keeps each code that was made. [`Codes`] are those of one plan's blocks. [`symbol_of`] appends a symbol of an object that lies
+//! in two pieces, as in a ring. `tx_window` keeps the table, and `tx_object` calls the others. An [`ObjectBuf`] keeps one object with its codes,
+//! and calls [`symbol_of`] for each symbol; only tests use it.
 #![tactic(auto)]
 
 mod buffer;

@@ -1,4 +1,4 @@
-//! One symbol of an object whose octets lie in two pieces.
+//! One symbol of an object whose octets lie in two pieces: [`symbol_of`].
 
 ghost use Rattle.std.specs.Prelude.{ℕ, ◌≡◌, ◌+◌, ◌-◌, ◌*◌, ◌%◌, ◌<◌, ◌≤◌, ◌++◌, List, Option, IsSome, length, take, drop, min};
 ghost use Rattle.norm_base.specs.Sizes.{datagram_room};
@@ -15,7 +15,7 @@ use fec_plan::Plan;
 use norm_base::{Datagram, SYMBOL_ROOM};
 use rs_block::Code;
 
-/// `len` octets from octet `start` on of two pieces in a row: those of the front, and those of the back.
+/// Returns `len` octets from octet `start` on of `front` followed by `back`, as the part in `front` and the part in `back`.
 fn range_of<'a>(front: &'a [u8], back: &'a [u8], start: usize, len: usize) -> (&'a [u8], &'a [u8])
     requires { start + len ≤ length front.now + length back.now }
     ensures octets { result.0.now ++ result.1.now ≡ take len (drop start (front.now ++ back.now)) }
@@ -31,7 +31,7 @@ fn range_of<'a>(front: &'a [u8], back: &'a [u8], start: usize, len: usize) -> (&
     )
 }
 
-/// Adds a source symbol at its own length.
+/// Appends a source symbol at its own length. Only the last one of an object may have less than `e` octets.
 fn push_source(plan: &Plan, front: &[u8], back: &[u8], block: u32, symbol: u8, out: &mut Datagram)
     requires object { IsSome plan.now.l }
     requires block { block < blocks plan.now }
@@ -48,7 +48,7 @@ fn push_source(plan: &Plan, front: &[u8], back: &[u8], block: u32, symbol: u8, o
     out.push(rest);
 }
 
-/// Adds a parity symbol, of e octets.
+/// Appends a parity symbol, of `e` octets.
 fn push_parity(
     plan: &Plan,
     code: &Code,
@@ -81,8 +81,9 @@ fn push_parity(
     out.push(parity);
 }
 
-/// Adds a symbol of an object: a source symbol at its own length, a parity symbol at e octets. `front` and `back` are
-/// together the object's octets, padded with zeros to whole symbols, and `front` is whole symbols. It takes no memory.
+/// Appends a symbol of an object. A source symbol has its own length, and a parity symbol `e` octets. It takes no memory.
+///
+/// `front` followed by `back` is the object's octets, padded with zeros to whole symbols. `front` is whole symbols.
 // Proof: it holds for every object whose octets the two pieces are. Callers bring that fact, and no ghost value is needed.
 pub fn symbol_of(
     plan: &Plan,

@@ -1,4 +1,4 @@
-//! Codes that were made, shared by all plans with blocks of their lengths.
+//! The [`CodeTable`]: codes that were made, shared by all plans with blocks of their lengths.
 
 ghost use Rattle.std.specs.Prelude.{◌≡◌, ◌≤◌, ⊤, IfOk, MatchOption};
 ghost use Rattle.std.specs.Arc.{arc_value};
@@ -9,7 +9,7 @@ use std::alloc::Global;
 use std::marker::Model;
 use std::sync::Arc;
 
-/// A code that was made, of how many source and encoded symbols.
+/// A code that was made, with its number of source symbols `k` and of encoded symbols `n`.
 // `k` and `n` are those of the code. They stand beside it because a search reads them, and not the code.
 #[derive(Debug, Drop)]
 struct Kept {
@@ -30,8 +30,8 @@ impl Model for Kept {
     ghost invariant = { λ c. arc_value c.code ≡ record { k = c.k; n = c.n } };
 }
 
-/// The codes that were made so far, so that a code is made once, whatever number of objects has blocks of its length. Under
-/// one profile there is at most one for each length of a block.
+/// The codes that were made so far. A code is made once, whatever number of objects has blocks of its length. Under one profile there is at most
+/// one for each length of a block.
 // To make a code of many source symbols takes much longer than to make a symbol, and one profile has at most 200 lengths of blocks. Objects share
 // a code by `Arc`, so each object stays whole in itself, and nothing needs to be known of the table where a symbol is made.
 #[derive(Debug, Drop)]
@@ -40,14 +40,14 @@ pub struct CodeTable {
 }
 
 impl CodeTable {
-    /// A table without a code. It takes no memory.
+    /// Creates a table without codes. It takes no memory.
     pub fn new(alloc: Global) -> CodeTable {
         CodeTable {
             kept: Vec::new(alloc),
         }
     }
 
-    /// The code of so many source and encoded symbols, where it was made.
+    /// Returns the code of `k` source symbols and `n` encoded symbols if it was made. The cost is linear in the number of codes.
     fn find(&self, k: u8, n: u8) -> Option<&Arc<Code, Global>>
         ensures { MatchOption result ⊤ (λ code. arc_value code.now ≡ record { k = k; n = n }) }
     {
@@ -60,11 +60,11 @@ impl CodeTable {
         None
     }
 
-    /// The code of `k` source symbols and `n` encoded symbols. It is made where it was not, and kept.
+    /// Returns the code of `k` source symbols and `n` encoded symbols. If the table lacks it, makes and keeps it.
     ///
     /// # Errors
     ///
-    /// `Memory` where memory runs out.
+    /// `Memory` if memory runs out.
     pub(crate) fn code(&mut self, alloc: Global, k: u8, n: u8) -> Result<Arc<Code, Global>, Memory>
         requires some { 1 ≤ k }
         requires fits { k ≤ n }

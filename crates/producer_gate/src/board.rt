@@ -1,4 +1,4 @@
-//! The board of outcomes, and who reads it.
+//! The [`Board`], on which one thread publishes what became of watermarks, and its readers.
 ghost use Rattle.std.specs.Prelude.{◌≡◌, ◌≤◌, [], All, IfOk, length, replicate, vec_len};
 ghost use mathlib.Core.List.{IsPrefix};
 ghost use Rattle.producer_gate.specs.Boards.{PublishEnds, front_of, new_reader};
@@ -14,7 +14,10 @@ use std::alloc::Global;
 use std::marker::Model;
 use std::sync::Arc;
 
-/// The board. One thread owns it and publishes.
+/// The board of outcomes. One thread owns it.
+///
+/// [`publish`](Board::publish) each outcome. Each call returns a [`Front`]; send it to a reader's thread, and [`learn`](BoardReader::learn) it
+/// there before that thread asks for an [`outcome`](BoardReader::outcome) that it has to see.
 // `count` is the number of entries that were published, and the next one is written there. A smaller one would write over an entry that readers
 // saw.
 #[derive(Drop)]
@@ -36,7 +39,7 @@ impl Model for Board {
     ghost invariant = { IsBoard };
 }
 
-/// What one thread reads a board with. It never waits, and what it saw or was told of it sees again.
+/// A reader of a board. One thread owns it. It never waits. Once it saw an entry or learned of it, it sees that entry in each later call.
 // Only tests ask one: the program makes one with its board, and drops it. It stays for programs whose producers ask what became of their marks.
 #[derive(Drop)]
 pub struct BoardReader {
@@ -56,7 +59,7 @@ impl Model for BoardReader {
     ghost invariant = { IsBoardReader };
 }
 
-/// How far a board was published. It may go to a reader's thread, to be told there.
+/// How many entries a board had published at some moment. A reader's thread may [`learn`](BoardReader::learn) it.
 #[derive(Drop)]
 pub struct Front {
     place: Place,
@@ -76,7 +79,7 @@ impl Model for Front {
 }
 
 impl Front {
-    /// How many entries were published.
+    /// Returns how many entries were published.
     pub fn count(&self) -> u64
         ensures { result ≡ length self.now.entries }
     {
@@ -85,7 +88,11 @@ impl Front {
 }
 
 impl Board {
-    /// A board with no entry, and 1 to 16 readers of it.
+    /// Creates a board without entries, and 1 to 16 readers of it. All memory that a board needs is taken here.
+    ///
+    /// # Errors
+    ///
+    /// `Memory` if memory runs out.
     pub fn new(alloc: Global, readers: u32) -> Result<(Board, Vec<BoardReader>), Memory>
         requires { (1 ≤ readers) × (readers ≤ 16) }
         ensures board { IfOk result (λ made. made.0.entries ≡ []) }
@@ -104,8 +111,11 @@ impl Board {
         Ok((board, readers))
     }
 
-    /// Publishes an entry behind the others, and answers the front that has it. It takes no memory: the want of it is told where
-    /// the board is full, with 4,096 entries.
+    /// Publishes an entry after the others. Returns a front that includes it. It takes no memory.
+    ///
+    /// # Errors
+    ///
+    /// `Memory` if the board is full, with 4,096 entries. Nothing changes then.
     pub fn publish(&mut self, mark: u32, outcome: Outcome) -> Result<Front, Memory>
         ensures same { self.new.id ≡ self.old.id }
         ensures ends { PublishEnds self.old mark outcome result self.new }
@@ -120,7 +130,7 @@ impl Board {
         Ok(self.front())
     }
 
-    /// The front of all that is published.
+    /// Returns the front of all entries that were published.
     pub fn front(&mut self) -> Front
         ensures same { self.new ≡ self.old }
         ensures front { result ≡ front_of self.old }
@@ -132,7 +142,7 @@ impl Board {
         }
     }
 
-    /// Changes nothing, and shows that a reader saw and was told of nothing but what this board published.
+    /// Changes nothing. Its contract says that a reader saw and learned of nothing except what this board published.
     pub fn hear(&mut self, reader: &mut BoardReader)
         requires { reader.old.board ≡ self.old.id }
         ensures published { IsPrefix reader.old.known self.old.entries }
@@ -145,7 +155,7 @@ impl Board {
 }
 
 impl BoardReader {
-    /// Is told of a front of this board. What is read from now on begins with what was published by then.
+    /// Learns of a front of the reader's board. From now on the reader sees at least the entries of this front.
     pub fn learn(&mut self, front: Front)
         requires { front.board ≡ self.old.board }
         ensures same { self.new.board ≡ self.old.board }
@@ -161,8 +171,8 @@ impl BoardReader {
         let _count = look(&self.words, &mut self.place);
     }
 
-    /// What the last entry of a mark says, in the list of entries that is read now. That list begins with all that this reader
-    /// saw before or was told of.
+    /// Returns what the last entry of a watermark says, among all that are published now. They include each entry that this reader saw before or
+    /// learned of.
     pub fn outcome(&mut self, mark: u32) -> Seen
         ensures same { self.new.board ≡ self.old.board }
         ensures before { IsPrefix self.old.known self.new.known }

@@ -1,26 +1,26 @@
-//! What goes through a gate.
+//! What goes through a gate. [`Gate`](crate::Gate) returns these types.
 
 /// A command as it comes out of the ring.
 #[derive(Clone, Copy, Debug, PartialEq, Eq)]
 pub struct Submitted {
-    /// Whose it is, counted from 1.
+    /// The number of its producer, from 1.
     pub producer: u32,
-    /// Which of this producer's it is, counted from 1.
+    /// Its number among the commands of this producer, from 1.
     pub number: u64,
-    /// What was submitted.
+    /// The item that was submitted.
     pub item: u32,
 }
 
 /// Why a command was not submitted.
 #[derive(Clone, Copy, Debug, PartialEq, Eq)]
 pub enum GateFault {
-    /// The ring was full. It may be tried again.
+    /// The ring was full. The producer may try again.
     Full,
-    /// The seat has submitted all that a producer may.
+    /// The seat has submitted 4,096 commands, the most for one producer.
     TooMany,
 }
 
-/// What came of a gate.
+/// What was pulled from a gate, and how much was not. [`Gate::close`](crate::Gate::close) returns it.
 #[derive(Debug, Drop)]
 pub struct Order {
     /// The producer and the number of each command that was pulled, in the order of the pulls.

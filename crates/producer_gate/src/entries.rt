@@ -1,27 +1,27 @@
-//! Entries of the board, as the two words that each is kept in.
+//! Entries of the board, and the two 64-bit words that keep each of them.
 ghost use Rattle.std.specs.Prelude.{◌≡◌};
 ghost use Rattle.producer_gate.specs.Entries.{code_of, outcome_in};
 
 use mark_book::Outcome;
 
-/// What a reader finds of a mark.
+/// What a reader finds of a watermark.
 #[derive(Clone, Copy, Debug, PartialEq, Eq)]
 pub enum Seen {
-    /// The list that was read has no entry of it.
+    /// None of the entries that were read is of it.
     Unknown,
-    /// The last entry of it says so.
+    /// The outcome in the last entry of it.
     Known(Outcome),
 }
 
-/// How many kinds of outcomes there are.
+/// The number of kinds of outcomes.
 // The variants of `Outcome`.
 const KINDS: u64 = 4;
 
-/// How many values a count of 32 bits has.
+/// The number of values that a count of 32 bits has.
 // `left` has 32 bits. Above the two bits of the kind it fits a 64-bit word.
 const COUNTS: u64 = 1 << 32;
 
-/// An outcome as one word: its kind, and above that its count.
+/// Returns an outcome as a 64-bit word: its kind in the lowest two bits, and its count above them.
 pub(crate) fn word_of(outcome: Outcome) -> u64
     ensures { result ≡ code_of outcome }
 {
@@ -33,7 +33,7 @@ pub(crate) fn word_of(outcome: Outcome) -> u64
     }
 }
 
-/// The outcome that a word stands for.
+/// Returns the outcome that a 64-bit word stands for.
 pub(crate) fn outcome_of(word: u64) -> Outcome
     ensures { result ≡ outcome_in word }
 {

@@ -1,4 +1,4 @@
-//! The ring between producers and the one who pulls.
+//! The [`Gate`]: a ring between the threads of producers and the one that pulls.
 ghost use Rattle.std.specs.Prelude.{◌≡◌, ◌≤◌, All, IfOk, map, sum_by, vec_len};
 ghost use Rattle.producer_gate.specs.Commands.{named};
 ghost use Rattle.producer_gate.specs.Seats.{SubmitEnds, PullEnds, HasNumbers, IsFront, left_of, new_seats, new_pull};
@@ -15,7 +15,11 @@ use std::sync::Wait;
 // As many commands as a script has (`MOST_COMMANDS` of norm_script). One more is refused with `TooMany`.
 const MOST: u64 = 4096;
 
-/// The ring. Threads share it by reference.
+/// A ring of commands. Threads share it by reference.
+///
+/// 1. [`new`](Gate::new) creates it with a [`Seat`] for each producer and one [`PullSeat`].
+/// 2. Each thread takes its own seat and calls [`submit`](Gate::submit) or [`pull`](Gate::pull) with it.
+/// 3. [`close`](Gate::close) takes all seats back when the threads have ended.
 #[derive(Drop)]
 pub struct Gate {
     ring: Ring,
@@ -34,7 +38,7 @@ impl Model for Gate {
     ghost invariant = { IsGate };
 }
 
-/// What one producer submits with. A thread owns it, and it knows what it submitted.
+/// The seat with which one producer submits. One thread owns it.
 // A number and no list: what was submitted stands in the seat's view, which exists in proofs alone. So a seat takes no memory.
 #[derive(Drop)]
 pub struct Seat {
@@ -55,7 +59,7 @@ impl Model for Seat {
     ghost invariant = { IsSeat };
 }
 
-/// What commands are pulled with. One thread owns it, and it knows what it pulled.
+/// The seat with which commands are pulled. One thread owns it.
 // The names are those of what was pulled, in that order: the pass knows it in proofs alone, and `close` has to answer it.
 #[derive(Drop)]
 pub struct PullSeat {
@@ -76,7 +80,12 @@ impl Model for PullSeat {
 }
 
 impl Gate {
-    /// A gate for 1 to 4 producers, over a ring of 1 to 16,384 commands, with the seat of each producer in their order.
+    /// Creates a gate for 1 to 4 producers, over a ring of 1 to 16,384 commands. Returns it with the seats of the producers 1, 2, .. in order,
+    /// and the pull seat. All memory that a gate needs is taken here.
+    ///
+    /// # Errors
+    ///
+    /// `Memory` if memory runs out.
     pub fn new(
         alloc: Global,
         producers: u32,
@@ -96,8 +105,12 @@ impl Gate {
         Ok((Gate { ring, producers }, seats, PullSeat { pass, names }))
     }
 
-    /// Submits an item, and answers its number among those of this seat. What is refused comes back: where the ring was full,
-    /// it may be tried again.
+    /// Submits an item. Returns its number among those of this seat, from 1. It may spin while another thread is stalled in a call.
+    ///
+    /// # Errors
+    ///
+    /// The item comes back and the seat stays as it was. `TooMany` if the seat has submitted 4,096 items. `Full` if the ring was full at some
+    /// moment of this call; the item may be tried again.
     pub fn submit<R: Wait>(
         &self,
         rt: &R,
@@ -125,7 +138,7 @@ impl Gate {
         Ok(number)
     }
 
-    /// Pulls the oldest command. There was none where the ring was empty at some moment of this call.
+    /// Pulls the oldest command. `None` if the ring was empty at some moment of this call. It may spin while another thread is stalled in a call.
     pub fn pull<R: Wait>(&self, rt: &R, seat: &mut PullSeat) -> Option<Submitted>
         requires { seat.old.gate ≡ self.now.id }
         ensures same { (seat.new.gate ≡ seat.old.gate) × (seat.new.producers ≡ seat.old.producers) }
@@ -140,7 +153,7 @@ impl Gate {
         }
     }
 
-    /// Ends a gate whose seats have all come back: what was pulled, in order, and how much was not.
+    /// Ends a gate. Call it after all threads have given their seats back. Returns what was pulled, in order, and how many commands were not.
     pub fn close(self, seats: Vec<Seat>, pull: PullSeat) -> Order
         requires seats { All (λ s. s.gate ≡ self.id) seats.items }
         requires every { vec_len seats ≡ self.producers }

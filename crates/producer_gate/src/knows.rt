@@ -1,4 +1,4 @@
-//! What a pass of the ring knows, and the rule of the ring. No value of these types is made: they are what proofs speak of.
+//! What a pass of the ring knows, and the rule of the ring. No value of these types is made: they are for proofs alone.
 ghost use Rattle.std.specs.Prelude.{◌≡◌, ◌+◌, ◌*◌, ◌<◌, ◌≤◌, [], ◌∷◌, ◌++◌, length};
 
 use crate::command::Submitted;
@@ -8,11 +8,11 @@ use std::collections::LinkedList;
 
 /// What a pass knows.
 pub enum Knows {
-    /// How many seats were made, what was pulled, and which seat was taken in last with what it submitted.
+    /// How many seats were made, what was pulled, and which seat was taken in last, with what it submitted.
     Pulls(u32, LinkedList<Submitted>, u32, LinkedList<u32>),
-    /// Whose seat it is, and what it submitted.
+    /// The producer of the seat, and what it submitted.
     Submits(u32, LinkedList<u32>),
-    /// Nothing: another pass took it in.
+    /// Nothing, because another pass took it in.
     Spent,
 }
 
@@ -85,7 +85,7 @@ impl Lesson<Submitted, Knows> for Takes {
     ghost fact = { WasSo };
 }
 
-/// A look at what was pulled of the seat that was taken in last.
+/// A comparison of what was pulled with what the seat that was taken in last submitted.
 pub struct Compares;
 
 impl Lesson<Submitted, Knows> for Compares {

@@ -1,8 +1,9 @@
-//! Producers on threads of their own, and the board of outcomes: all that the threads of a session share.
+//! What the threads of a session share: a ring for the commands of producers, and the board of outcomes. `norm_session` calls both, and
+//! `norm_program` creates the board.
 //!
-//! [`Gate`] is a ring between producers and one who pulls: [`Gate::new`] makes it with a [`Seat`] for each producer and one
-//! [`PullSeat`], each thread takes its own seat and calls [`Gate::submit`] or [`Gate::pull`], and [`Gate::close`], when they
-//! have come back, says what was pulled and how much was left. A producer passes a [`Turnstile`] before each submit.
+//! [`Gate`] is the ring between producers and the thread that pulls. A producer passes a [`Turnstile`] before each submit. On a [`Board`] one
+//! thread publishes what became of watermarks; others read it with a [`BoardReader`], which never waits. `gate` builds on `settle`, and `board`
+//! on `lookup` and `steps`. `knows` and `words` have the rules for their proofs.
 #![tactic(auto)]
 
 mod board;

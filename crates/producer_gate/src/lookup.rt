@@ -1,4 +1,5 @@
-//! Runs of steps on the board's words: an entry that is published, the last entry of a mark, and the seats of readers.
+//! Operations of several steps on the board's 64-bit words: publishing an entry, finding the last one of a watermark, and creating readers.
+//! [`Board`](crate::Board) and its readers call these.
 ghost use Rattle.std.specs.Prelude.{◌≡◌, ◌<◌, ◌≤◌, [], ◌∷◌, ◌++◌, All, IfOk, length, map, replicate, vec_len};
 ghost use Rattle.std.specs.Arc.{arc_value};
 ghost use Rattle.producer_gate.specs.Boards.{new_reader};
@@ -13,7 +14,7 @@ use crate::words::{Place, Words};
 use std::alloc::{AllocError, Global};
 use std::sync::Arc;
 
-/// Publishes two words as one entry more, behind so many.
+/// Publishes two 64-bit words as one more entry, after the first `count`.
 pub(crate) fn post(words: &Words, place: &mut Place, count: u64, first: u64, second: u64)
     requires place { IsAt words.now.shared.table_id place.old × IsWriter place.old.me.0 }
     requires room { (count ≡ length (own_in place.old.me.0)) × (count < 4096) }
@@ -27,7 +28,7 @@ pub(crate) fn post(words: &Words, place: &mut Place, count: u64, first: u64, sec
     show(words, place, count);
 }
 
-/// What the last entry of a mark says, among so many that are known.
+/// Returns what the last entry of a watermark says, of the `count` entries that the reader knows.
 pub(crate) fn find_last(words: &Words, place: &mut Place, count: usize, mark: u64) -> Seen
     requires place { IsAt words.now.shared.table_id place.old × IsReader place.old.me.0 }
     requires count { (count ≡ length (known_in place.old.me.0)) × (count ≤ 4096) }
@@ -55,7 +56,11 @@ fn reader_at(words: Arc<Words, Global>, place: Place) -> BoardReader
     BoardReader { words, place }
 }
 
-/// So many readers of a board that has published nothing.
+/// Creates this many readers of a board that has published nothing.
+///
+/// # Errors
+///
+/// `AllocError` if memory runs out.
 pub(crate) fn readers_of(
     alloc: Global,
     words: &Arc<Words, Global>,

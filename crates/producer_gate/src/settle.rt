@@ -1,4 +1,4 @@
-//! How the seats of a gate are made, how one submits, and what is left of them at the end.
+//! How the seats of a gate are created, how one submits, and how many of their commands are left at the end. [`Gate`](crate::Gate) calls these.
 ghost use Rattle.std.specs.Prelude.{◌≡◌, ◌==◌, ◌+◌, ◌<◌, ◌≤◌, All, IfOk, MatchBool, [], ◌∷◌, ◌++◌, count_by, length, map, sum_by, vec_len};
 ghost use Rattle.crossbeam_queue.specs.Fifo.{Held};
 ghost use Rattle.crossbeam_queue.specs.Passes.{view, IsPassOf, ruled_capacity};
@@ -15,7 +15,7 @@ use crate::knows::{Adds, Compares, Gives, Own, Ring, TakesIn};
 use std::alloc::{AllocError, Global};
 use std::sync::Wait;
 
-/// Pushes the next command of a producer, and says whether the ring had room for it.
+/// Pushes the next command of a producer. Returns whether the ring had room for it.
 pub(crate) fn push<R: Wait>(ring: &Ring, rt: &R, pass: &mut Own, command: Submitted) -> bool
     requires pass { IsPassOf ring.now pass.old × (view pass.old ≡ Submits command.producer (items_in (view pass.old))) }
     requires next { (length (items_in (view pass.old)) < 4096) × (command.number ≡ length (items_in (view pass.old)) + 1) }
@@ -42,7 +42,11 @@ fn seated(pass: Own, producer: u32) -> Seat
     }
 }
 
-/// The seats of so many producers, whose passes the pull seat's pass gives out.
+/// Creates the seats of this many producers, numbered from 1. The pull seat's pass gives out their passes.
+///
+/// # Errors
+///
+/// `AllocError` if memory runs out.
 pub(crate) fn seats_of(
     alloc: Global,
     ring: &Ring,
@@ -88,7 +92,7 @@ fn left_behind(ring: &Ring, pull: &mut Own, names: &[(u32, u64)], seat: Seat) ->
     (count - pulled) as u32
 }
 
-/// Takes all seats in, and answers how many of their commands were not pulled.
+/// Takes all seats in. Returns how many of their commands were not pulled.
 pub(crate) fn rest_of(
     ring: &Ring,
     pull: &mut Own,

@@ -1,4 +1,4 @@
-//! Single steps on the board's words, each for a seat of them.
+//! Single steps on the board's 64-bit words. Each is an atomic load or store, or passes on what a seat knows.
 ghost use Rattle.std.specs.Prelude.{◌≡◌, ◌+◌, ◌*◌, ◌<◌, ◌≤◌, [], ◌∷◌, ◌++◌, length};
 ghost use mathlib.Core.List.{IsPrefix};
 ghost use Rattle.producer_gate.specs.Places.{IsAt};
@@ -9,7 +9,7 @@ use crate::words::{
     Compares, Hears, Looks, Notes, Place, PutsFirst, PutsSecond, Reads, Shows, Words,
 };
 
-/// Writes the first word behind so many entries.
+/// Writes the first word of entry `at`, which is the next one and not yet published.
 pub(crate) fn put_first(words: &Words, place: &mut Place, at: usize, word: u64)
     requires place { IsAt words.now.shared.table_id place.old × IsWriter place.old.me.0 }
     requires room { (at ≡ length (own_in place.old.me.0)) × (at < 4096) }
@@ -19,7 +19,7 @@ pub(crate) fn put_first(words: &Words, place: &mut Place, at: usize, word: u64)
     words.shared.store::<PutsFirst>(place, 2 * at + 1, word);
 }
 
-/// Writes the second one.
+/// Writes the second word of entry `at`, which is the next one and not yet published.
 pub(crate) fn put_second(words: &Words, place: &mut Place, at: usize, word: u64)
     requires place { IsAt words.now.shared.table_id place.old × IsWriter place.old.me.0 }
     requires room { (at ≡ length (own_in place.old.me.0)) × (at < 4096) }
@@ -29,7 +29,7 @@ pub(crate) fn put_second(words: &Words, place: &mut Place, at: usize, word: u64)
     words.shared.store::<PutsSecond>(place, 2 * at + 2, word);
 }
 
-/// Publishes the two words behind so many entries as one more.
+/// Publishes entry `at`. Call it after both of its words are written.
 pub(crate) fn show(words: &Words, place: &mut Place, at: u64)
     requires place { IsAt words.now.shared.table_id place.old × IsWriter place.old.me.0 }
     requires room { (at ≡ length (own_in place.old.me.0)) × (at < 4096) }
@@ -39,7 +39,7 @@ pub(crate) fn show(words: &Words, place: &mut Place, at: u64)
     words.shared.store::<Shows>(place, 0, at + 1);
 }
 
-/// Looks at what is published, and answers how many entries there are.
+/// Reads how many entries are published.
 pub(crate) fn look(words: &Words, place: &mut Place) -> usize
     requires place { IsAt words.now.shared.table_id place.old × IsReader place.old.me.0 }
     ensures place { IsAt words.now.shared.table_id place.new × IsReader place.new.me.0 }
@@ -49,7 +49,7 @@ pub(crate) fn look(words: &Words, place: &mut Place) -> usize
     words.shared.load::<Looks>(place, 0) as usize
 }
 
-/// The first word of an entry.
+/// Reads the first word of an entry that the reader knows.
 pub(crate) fn first_at(words: &Words, place: &mut Place, at: usize) -> u64
     requires place { IsAt words.now.shared.table_id place.old × IsReader place.old.me.0 }
     requires room { (at < length (known_in place.old.me.0)) × (at < 4096) }
@@ -59,7 +59,7 @@ pub(crate) fn first_at(words: &Words, place: &mut Place, at: usize) -> u64
     words.shared.load::<Reads>(place, 2 * at + 1)
 }
 
-/// The second one.
+/// Reads the second word of an entry that the reader knows.
 pub(crate) fn second_at(words: &Words, place: &mut Place, at: usize) -> u64
     requires place { IsAt words.now.shared.table_id place.old × IsReader place.old.me.0 }
     requires room { (at < length (known_in place.old.me.0)) × (at < 4096) }
@@ -69,7 +69,7 @@ pub(crate) fn second_at(words: &Words, place: &mut Place, at: usize) -> u64
     words.shared.load::<Reads>(place, 2 * at + 2)
 }
 
-/// A note of what a seat knows.
+/// Returns a note: a new seat, for reading, that knows the entries that this one knows.
 pub(crate) fn note(words: &Words, place: &mut Place) -> Place
     requires { IsAt words.now.shared.table_id place.old }
     ensures place { IsAt words.now.shared.table_id place.new × (place.new.me ≡ place.old.me) }
@@ -78,7 +78,7 @@ pub(crate) fn note(words: &Words, place: &mut Place) -> Place
     words.shared.split_seat::<Notes>(place)
 }
 
-/// Takes a note in.
+/// Takes a note in. A reader's next [`look`] finds its entries, and a writer's [`compare`] is about them.
 pub(crate) fn hear(words: &Words, place: &mut Place, note: Place)
     requires { IsAt words.now.shared.table_id place.old × IsAt words.now.shared.table_id note }
     ensures place { IsAt words.now.shared.table_id place.new }
@@ -87,7 +87,7 @@ pub(crate) fn hear(words: &Words, place: &mut Place, note: Place)
     words.shared.join_seat::<Hears>(place, note);
 }
 
-/// Compares what a reader knows, which was taken in, with what is published.
+/// Changes nothing. Its contract says that this writer published the entries of the note that it took in last.
 pub(crate) fn compare(words: &Words, place: &mut Place)
     requires { IsAt words.now.shared.table_id place.old × IsWriter place.old.me.0 }
     ensures place { IsAt words.now.shared.table_id place.new × (place.new.me ≡ place.old.me) }

@@ -1,9 +1,8 @@
-//! What a producer passes before each submit.
+//! What a producer passes before each submit: [`Through`] in the program, and in tests a [`Turnstile`] of their own.
 
-/// Where a producer may be held up: a test decides there which producer goes on first. It is called before each submit, with
-/// the producer and the number that its command would have.
+/// Holds producers up before they submit. A test decides with it which producer goes on first.
 pub trait Turnstile {
-    /// Returns when the producer may go on.
+    /// Returns when the producer may go on. It is called before each submit, with the number that its command would have.
     fn pass(&self, producer: u32, number: u64);
 }
 

@@ -1,5 +1,5 @@
-//! The words of the board, which its writer and its readers share, and the rule of them. Word 0 is how many entries are
-//! published, and each entry has two words behind it. No value of [`Role`] is made: it is what proofs speak of.
+//! The 64-bit words of the board, which its writer and its readers share, and the rule of them. Word 0 is the number of published entries. Each
+//! entry has two words after it. No value of [`Role`] is made: it is for proofs alone.
 ghost use Rattle.std.specs.Prelude.{◌≡◌};
 
 use atomic_table::{Join, Play, Seat, Split, Table, TableRule};
@@ -10,17 +10,17 @@ use std::collections::LinkedList;
 // Our own choice: as many entries as a script may have commands. Beyond it `publish` answers `Memory`.
 pub(crate) const MOST: u64 = 4096;
 
-/// How many words these take, with the count of them.
+/// The number of 64-bit words of a board, with the one that counts entries.
 // Two words for each of 4,096 entries, and the count in front.
 pub(crate) const WORDS: usize = 8193;
 
 /// What a seat at the words knows.
 pub enum Role {
-    /// The entries that it published, the two words behind them, and what a reader knows that it was asked of.
+    /// The entries that it published, the two words after them, and the entries of the note that it took in last.
     Writes(LinkedList<(u64, u64)>, u64, u64, LinkedList<(u64, u64)>),
-    /// The entries that it knows to be published, and those that it was told of just now.
+    /// The entries that it knows to be published, and those of a note that it took in.
     Reads(LinkedList<(u64, u64)>, LinkedList<(u64, u64)>),
-    /// Nothing: another seat took it in.
+    /// Nothing, because another seat took it in.
     Gone,
 }
 
@@ -40,7 +40,7 @@ pub type Words = Table<u8, Role, (), Posted, Global>;
 
 pub type Place = Seat<u8, Role>;
 
-/// The first word behind the entries is written.
+/// Writes the first word after the entries.
 pub struct PutsFirst;
 
 impl Play<u8, Role> for PutsFirst {
@@ -49,7 +49,7 @@ impl Play<u8, Role> for PutsFirst {
     ghost then = { PutFirst };
 }
 
-/// The second one is.
+/// Writes the second word after the entries.
 pub struct PutsSecond;
 
 impl Play<u8, Role> for PutsSecond {
@@ -58,7 +58,7 @@ impl Play<u8, Role> for PutsSecond {
     ghost then = { PutSecond };
 }
 
-/// The count goes up, and the two words are an entry.
+/// Raises the count, which makes the two words an entry.
 pub struct Shows;
 
 impl Play<u8, Role> for Shows {
@@ -67,7 +67,7 @@ impl Play<u8, Role> for Shows {
     ghost then = { Shown };
 }
 
-/// The count is read.
+/// Reads the count.
 pub struct Looks;
 
 impl Play<u8, Role> for Looks {
@@ -76,7 +76,7 @@ impl Play<u8, Role> for Looks {
     ghost then = { Looked };
 }
 
-/// A word of an entry is read.
+/// Reads a word of an entry.
 pub struct Reads;
 
 impl Play<u8, Role> for Reads {
@@ -85,7 +85,7 @@ impl Play<u8, Role> for Reads {
     ghost then = { Read };
 }
 
-/// What a reader knows is compared with what is published.
+/// Compares what a reader knows with what is published.
 pub struct Compares;
 
 impl Play<u8, Role> for Compares {
@@ -94,7 +94,7 @@ impl Play<u8, Role> for Compares {
     ghost then = { Compared };
 }
 
-/// What a seat knows is noted in a seat of its own.
+/// Makes a seat that knows what this one knows.
 pub struct Notes;
 
 impl Split<Role> for Notes {
@@ -105,7 +105,7 @@ impl Split<Role> for Notes {
     ghost right = { noted };
 }
 
-/// A note is taken in.
+/// Takes in a note.
 pub struct Hears;
 
 impl Join<Role> for Hears {
