@@ -1,4 +1,4 @@
-//! The forms of the words behind a first word, as commands of `clap`.
+//! The forms of the words after each first word, as commands of `clap`. [`found_in`] compares words with a form.
 
 ghost use Rattle.std.specs.Prelude.{◌≡◌, true, map, string_bytes, IfOk};
 ghost use Rattle.std.specs.Bool.{Decides};
@@ -67,7 +67,7 @@ pub(crate) fn hub_form<'a>(alloc: Global) -> Result<Command<'a>, AllocError>
     Ok(command)
 }
 
-/// Whether memory was wanted.
+/// Whether memory ran out.
 // `clap` takes memory to refuse, so want of memory may come in place of a refusal.
 fn is_memory(error: &Error) -> bool
     ensures { Decides result (kind_of error.now ≡ ErrorKind.OutOfMemory) }
@@ -75,7 +75,11 @@ fn is_memory(error: &Error) -> bool
     error.kind() == ErrorKind::OutOfMemory
 }
 
-/// What is found in words of a form, of which the first names it. `None` where they are of another form.
+/// Returns what the words give to a form. The first word names the form. `None` if the words do not fit it.
+///
+/// # Errors
+///
+/// `Memory` if memory runs out.
 pub(crate) fn found_in<'a>(
     form: Command<'a>,
     words: &'a [String],

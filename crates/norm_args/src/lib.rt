@@ -1,5 +1,6 @@
-//! The words of the command line: what they ask the program to do. [`task_of`] reads them, with a simple command of `clap` for each first
-//! word; the program (`norm_program`) does what the [`Task`] says. [`node_task_of`] reads those that ask for one node of a session over a network.
+//! What the words of the command line ask the program to do. [`task_of`] reads those of `session`, `show` and `generate`, and [`node_task_of`]
+//! those of `send`, `recv` and `hub`, which run one node of a session over a network. Each first word has a simple command of `clap`. The program
+//! (`norm_program`) calls both and does what the [`Task`] or [`NodeTask`] says.
 #![tactic(auto)]
 
 mod forms;

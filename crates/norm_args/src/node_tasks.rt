@@ -1,4 +1,4 @@
-//! What the words ask for of one node of a session over a network.
+//! What the words ask for of one node of a session over a network: `send`, `recv` or `hub`. The program calls [`node_task_of`].
 
 ghost use Rattle.std.specs.Prelude.{◌≡◌, map, string_bytes, IfOk, IfSome};
 ghost use Rattle.std.specs.Option.{option_map};
@@ -20,19 +20,18 @@ const NODES: (u32, u32) = (1, u32::MAX - 1);
 /// What the program is asked to do as one node of a session over a network. A profile is named by its path, as the shell gives it.
 #[derive(Debug, Drop)]
 pub enum NodeTask {
-    /// To run the sender, and the producers of the script that the input is. An instance that is given, 0 to 65535, stands in place of
-    /// the profile's.
+    /// Runs the sender, and the producers of the script that the input is. If an instance is given, 0 to 65535, it overrides the profile's.
     Send {
         profile: Text,
         instance: Option<u32>,
     },
-    /// To run the receiver of this id.
+    /// Runs the receiver of this id.
     Receive(Text, NodeId),
-    /// To hand on what members send.
+    /// Hands on what members send.
     Hub(Text),
 }
 
-/// The path of the profile, kept.
+/// A copy of the profile's path, if the words have it.
 fn profile_in(alloc: Global, matches: &ArgMatches<'_>) -> Result<Option<Text>, AllocError>
     ensures { IfOk result (λ profile. profile ≡ profile_in (rows_of (found_of matches.now))) }
 {
@@ -42,7 +41,7 @@ fn profile_in(alloc: Global, matches: &ArgMatches<'_>) -> Result<Option<Text>, A
     }
 }
 
-/// The instance that an option gives. `None` if its word is no number of an instance.
+/// The instance of the option, if it is given. `None` if its word is not an instance.
 fn instance_in(matches: &ArgMatches<'_>) -> Option<Option<u32>>
     ensures value { result ≡ instance_in (rows_of (found_of matches.now)) }
     ensures fits { IfSome result FitsInstance }
@@ -50,7 +49,7 @@ fn instance_in(matches: &ArgMatches<'_>) -> Option<Option<u32>>
     value_given(Key::Instance, word_in(matches, "instance"))
 }
 
-/// The number of the node.
+/// The node. `None` if its word is not the number of one.
 fn node_in(matches: &ArgMatches<'_>) -> Option<NodeId>
     ensures { result ≡ node_in (rows_of (found_of matches.now)) }
 {
@@ -59,7 +58,7 @@ fn node_in(matches: &ArgMatches<'_>) -> Option<NodeId>
     NodeId::of(number)
 }
 
-/// The path, and the instance if one is given. `None` if another word stands in its place.
+/// The task of a sender. `None` if there is no path, or if the option's word is not an instance.
 fn send_of(profile: Option<Text>, given: Option<Option<u32>>) -> Option<NodeTask>
     requires { IfSome given FitsInstance }
     ensures task { result ≡ send_of profile given }
@@ -74,7 +73,7 @@ fn send_of(profile: Option<Text>, given: Option<Option<u32>>) -> Option<NodeTask
     }
 }
 
-/// Both words, where the second is the number of a node.
+/// The task of a receiver. `None` if there is no path, or if the second word is not a node.
 fn receive_of(profile: Option<Text>, node: Option<NodeId>) -> Option<NodeTask>
     ensures task { result ≡ receive_of profile node }
     ensures fits { IfSome result FitsNode }
@@ -88,7 +87,7 @@ fn receive_of(profile: Option<Text>, node: Option<NodeId>) -> Option<NodeTask>
     }
 }
 
-/// What words ask for whose first is `send`.
+/// What words that begin with `send` ask for.
 fn send_in(alloc: Global, words: &[String]) -> Result<Option<NodeTask>, Memory>
     ensures task { IfOk result (λ task. task ≡ send_in (map string_bytes words.now)) }
     ensures fits { IfOk result (λ task. IfSome task FitsNode) }
@@ -103,7 +102,7 @@ fn send_in(alloc: Global, words: &[String]) -> Result<Option<NodeTask>, Memory>
     }
 }
 
-/// What words ask for whose first is `recv`.
+/// What words that begin with `recv` ask for.
 fn receive_in(alloc: Global, words: &[String]) -> Result<Option<NodeTask>, Memory>
     ensures task { IfOk result (λ task. task ≡ receive_in (map string_bytes words.now)) }
     ensures fits { IfOk result (λ task. IfSome task FitsNode) }
@@ -118,7 +117,7 @@ fn receive_in(alloc: Global, words: &[String]) -> Result<Option<NodeTask>, Memor
     }
 }
 
-/// What words ask for whose first is `hub`.
+/// What words that begin with `hub` ask for.
 fn hub_in(alloc: Global, words: &[String]) -> Result<Option<NodeTask>, Memory>
     ensures task { IfOk result (λ task. task ≡ hub_in (map string_bytes words.now)) }
     ensures fits { IfOk result (λ task. IfSome task FitsNode) }
@@ -133,12 +132,12 @@ fn hub_in(alloc: Global, words: &[String]) -> Result<Option<NodeTask>, Memory>
     }
 }
 
-/// What the words behind the program's name ask for of one node: `send PROFILE [--instance I]` with an instance of 0 to 65535, `recv PROFILE
-/// NODE` with a node of 1 to 4294967294, or `hub PROFILE`. `None` where they are of none of these forms, a request for help included.
+/// Returns what the words after the program's name ask for of one node: `send PROFILE [--instance I]` with an instance of 0 to 65535, `recv
+/// PROFILE NODE` with a node of 1 to 4294967294, or `hub PROFILE`. `None` if they have none of these forms. A request for help has none.
 ///
 /// # Errors
 ///
-/// `Memory` where memory runs out.
+/// `Memory` if memory runs out.
 #[tactic(auto, unfolding(crate::specs::NodeTasks::node_task_of))]
 pub fn node_task_of(alloc: Global, words: &[String]) -> Result<Option<NodeTask>, Memory>
     ensures task { IfOk result (λ task. task ≡ node_task_of (map string_bytes words.now)) }

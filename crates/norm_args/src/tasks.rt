@@ -1,4 +1,4 @@
-//! What the words ask for.
+//! What the words ask for if it is not a node's run: `session`, `show` or `generate`. The program calls [`task_of`].
 
 ghost use Rattle.std.specs.Prelude.{◌≡◌, map, string_bytes, IfOk, IfSome};
 ghost use Rattle.std.specs.Option.{option_map};
@@ -13,7 +13,7 @@ use norm_base::{Key, Memory};
 use norm_script::number_within;
 use std::alloc::Global;
 
-/// What the options of a session put in place of its script's keys.
+/// The options of a session. Each one that is given overrides a key of the script.
 #[derive(Clone, Copy, Debug)]
 pub struct Options {
     /// The seed of the network's and the session's draws.
@@ -22,18 +22,18 @@ pub struct Options {
     pub turns: Option<u32>,
 }
 
-/// What the program is asked to do.
+/// What the program is asked to do, if not to run a node.
 #[derive(Clone, Copy, Debug)]
 pub enum Task {
-    /// To run the session of the script that the input is.
+    /// Runs the session of the script that the input is.
     Session(Options),
-    /// To show the datagrams of the input.
+    /// Shows the datagrams of the input.
     Show,
-    /// To write the script that is made of this number.
+    /// Writes the script that is made of this number.
     Generate(u32),
 }
 
-/// The value of a key that an option may give. `None` where the option's word is no number that the key may have.
+/// The value that an option gives to a key, if the option is given. `None` if its word is not a number that the key may have.
 pub(crate) fn value_given(key: Key, word: Option<&str>) -> Option<Option<u32>>
     ensures value { result ≡ value_given key (option_map (λ w. w.now) word.entry) }
     ensures fits { IfSome result (λ given. IfSome given (IsValue key)) }
@@ -46,14 +46,14 @@ pub(crate) fn value_given(key: Key, word: Option<&str>) -> Option<Option<u32>>
     Some(Some(value))
 }
 
-/// The value of an option, or the word that stands in a place.
+/// The word after an option, or the word that a form names so.
 pub(crate) fn word_in<'a>(matches: &ArgMatches<'a>, name: &str) -> Option<&'a str>
     ensures { option_map (λ w. w.now) result ≡ first_of name.now (rows_of (found_of matches.now)) }
 {
     matches.get_str(name)
 }
 
-/// Both options, where each is none or a number that its key may have.
+/// Both options. `None` if the word of one is not a number that its key may have.
 fn options_with(chance: Option<Option<u32>>, turns: Option<Option<u32>>) -> Option<Options>
     requires chance { IfSome chance (λ given. IfSome given (IsValue Key.Chance)) }
     requires turns { IfSome turns (λ given. IfSome given (IsValue Key.Turns)) }
@@ -69,7 +69,7 @@ fn options_with(chance: Option<Option<u32>>, turns: Option<Option<u32>>) -> Opti
     }
 }
 
-/// The options of a session.
+/// The options of a session. `None` if the word of one is not a number that its key may have.
 fn options_in(matches: &ArgMatches<'_>) -> Option<Options>
     ensures value { result ≡ options_in (rows_of (found_of matches.now)) }
     ensures fits { IfSome result FitsOptions }
@@ -79,7 +79,7 @@ fn options_in(matches: &ArgMatches<'_>) -> Option<Options>
     options_with(chance, turns)
 }
 
-/// The number that a script is made of.
+/// The number that a script is made of. `None` if its word is not a number of 32 bits.
 fn number_in(matches: &ArgMatches<'_>) -> Option<u32>
     ensures { result ≡ number_in (rows_of (found_of matches.now)) }
 {
@@ -89,7 +89,7 @@ fn number_in(matches: &ArgMatches<'_>) -> Option<u32>
     }
 }
 
-/// What words ask for whose first is `session`.
+/// What words that begin with `session` ask for.
 fn session_in(alloc: Global, words: &[String]) -> Result<Option<Task>, Memory>
     ensures task { IfOk result (λ task. task ≡ session_in (map string_bytes words.now)) }
     ensures fits { IfOk result (λ task. IfSome task FitsTask) }
@@ -104,7 +104,7 @@ fn session_in(alloc: Global, words: &[String]) -> Result<Option<Task>, Memory>
     }
 }
 
-/// What words ask for whose first is `show`.
+/// What words that begin with `show` ask for.
 fn show_in(alloc: Global, words: &[String]) -> Result<Option<Task>, Memory>
     ensures task { IfOk result (λ task. task ≡ show_in (map string_bytes words.now)) }
     ensures fits { IfOk result (λ task. IfSome task FitsTask) }
@@ -115,7 +115,7 @@ fn show_in(alloc: Global, words: &[String]) -> Result<Option<Task>, Memory>
     }
 }
 
-/// What words ask for whose first is `generate`.
+/// What words that begin with `generate` ask for.
 fn generate_in(alloc: Global, words: &[String]) -> Result<Option<Task>, Memory>
     ensures task { IfOk result (λ task. task ≡ generate_in (map string_bytes words.now)) }
     ensures fits { IfOk result (λ task. IfSome task FitsTask) }
@@ -130,11 +130,11 @@ fn generate_in(alloc: Global, words: &[String]) -> Result<Option<Task>, Memory>
     }
 }
 
-/// What the words behind the program's name ask for. `None` where they are of no form of the program.
+/// Returns what the words after the program's name ask for. `None` if they have none of the forms of `session`, `show` and `generate`.
 ///
 /// # Errors
 ///
-/// `Memory` where memory runs out.
+/// `Memory` if memory runs out.
 #[tactic(auto, unfolding(crate::specs::Tasks::task_of))]
 pub fn task_of(alloc: Global, words: &[String]) -> Result<Option<Task>, Memory>
     ensures task { IfOk result (λ task. task ≡ task_of (map string_bytes words.now)) }

@@ -1,5 +1,6 @@
-//! Profiles of the nodes of a session, as TOML documents with the keys of the one table: [`load_profile`] reads one from a file, [`load_document`] with
-//! what the document says of the first instance, [`read_document`] from its octets, and a [`ProfileRefusal`] says which key is refused, and why.
+//! Profiles of the nodes of a session, as TOML documents with the keys that scripts have too. [`load_profile`] reads one from a file, and
+//! [`load_document`] also returns the first instance that it gives. [`read_document`] and [`read_text`] read one from memory. A
+//! [`ProfileRefusal`] says which key is refused, and why.
 #![tactic(auto)]
 
 mod document;

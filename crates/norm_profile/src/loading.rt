@@ -1,4 +1,4 @@
-//! A profile in a file, which is read in pieces.
+//! Loads profiles from files, in pieces: [`load_profile`], and [`load_document`] with the first instance.
 
 ghost use Rattle.std.specs.Prelude.{◌≡◌, ◌<◌, ◌≤◌, length, IfOk, IfErr, OnOk, Ok};
 ghost use Rattle.norm_profile.specs.Loading.{IsContent, IsLength, IsReading, IsOfFile, IsDocumentOf, IsUnloaded, IsUnread, FileCause, load_fault};
@@ -10,20 +10,20 @@ use crate::refusal::ProfileRefusal;
 use norm_base::{FileFault, Files, Memory, Profile};
 use std::alloc::{AllocError, Global};
 
-/// The octets of a piece.
+/// The most octets that one read asks for.
 // Our own choice: a profile has a few hundred octets, so one read mostly gives all of it.
 const PIECE: usize = 4_096;
 
 /// Why a file gives no profile.
 #[derive(Debug, Drop)]
 pub enum LoadFault {
-    /// Its document is refused.
+    /// The document is refused.
     Refused { why: ProfileRefusal },
-    /// No file has that name.
+    /// There is no file of this name.
     Absent,
     /// A call of the files failed.
     Failed,
-    /// There was no memory.
+    /// Memory ran out.
     Memory,
 }
 
@@ -54,7 +54,7 @@ impl From<FileFault> for LoadFault {
     }
 }
 
-/// How many octets the file of a name has.
+/// Returns how many octets the file of this name has.
 fn length_of<D: Files>(files: &mut D, name: &str) -> Result<u64, LoadFault>
     ensures same { D.contents files.new ≡ D.contents files.old }
     ensures value { IfOk result (λ len. IsLength (D.contents files.old) name.now len) }
@@ -67,7 +67,7 @@ fn length_of<D: Files>(files: &mut D, name: &str) -> Result<u64, LoadFault>
     }
 }
 
-/// Reads the next octets of a file of this length, at most so many as the buffer has.
+/// Appends the next octets of a file of this length, at most as many as the buffer has.
 fn read_piece<D: Files>(
     files: &mut D,
     name: &str,
@@ -118,12 +118,12 @@ fn read_all<D: Files>(
     Ok(octets)
 }
 
-/// Loads the profile that a file holds, as TOML, and what the document says of the first instance. The file is read once.
+/// Loads the profile that a file holds as TOML, and the first instance that it gives. Reads the file once.
 ///
 /// # Errors
 ///
-/// `Refused` where the document is none of a profile, or has more than 65,536 octets, and then it is not read; `Absent` where the
-/// file is not there; `Failed` where a call of the files failed; or `Memory`.
+/// `Refused` if the document is not that of a profile, or if it has more than 65,536 octets and is not read. `Absent` if there is no such file.
+/// `Failed` if a call of the files failed. `Memory` if memory runs out.
 pub fn load_document<D: Files>(
     alloc: Global,
     files: &mut D,
@@ -148,7 +148,7 @@ pub fn load_document<D: Files>(
     }
 }
 
-/// Loads the profile that a file holds, as TOML.
+/// Loads the profile that a file holds as TOML.
 ///
 /// # Errors
 ///

@@ -1,4 +1,4 @@
-//! Reads profiles.
+//! Reads profiles that are in memory: [`read_document`] from the octets of a file, and [`read_text`] from a text.
 
 ghost use Rattle.std.specs.Prelude.{◌≡◌, IsUtf8, IfOk, Err, nat_lt, length, if◌then◌else◌};
 ghost use Rattle.norm_base.specs.Given.{nothing_given, given_at, value_in};
@@ -17,7 +17,7 @@ use toml::{Table, Value};
 // Our own choice, far more than 26 keys need. A longer file is refused with `TooLong`, unread.
 pub(crate) const MOST_OCTETS: usize = 65_536;
 
-/// A whole number as a key's value.
+/// The value of a key that a whole number gives, if it is in the key's range.
 fn number_for(key: Key, number: i64) -> Result<u32, ProfileRefusal>
     ensures { result ≡ number_for key number }
 {
@@ -28,7 +28,7 @@ fn number_for(key: Key, number: i64) -> Result<u32, ProfileRefusal>
     }
 }
 
-/// A value where the key's values are numbers.
+/// The value of a key that takes numbers, or why it is refused.
 fn number_given(key: Key, value: &Value) -> Result<u32, ProfileRefusal>
     ensures { result ≡ number_given key (view value.now) }
 {
@@ -38,7 +38,7 @@ fn number_given(key: Key, value: &Value) -> Result<u32, ProfileRefusal>
     }
 }
 
-/// A value where the key's values are words.
+/// The value of a key that takes words, or why it is refused.
 fn word_given(key: Key, value: &Value) -> Result<u32, ProfileRefusal>
     ensures { result ≡ word_given key (view value.now) }
 {
@@ -51,7 +51,7 @@ fn word_given(key: Key, value: &Value) -> Result<u32, ProfileRefusal>
     }
 }
 
-/// What a value gives a key.
+/// The value of a key, or why it is refused.
 fn value_given(key: Key, value: &Value) -> Result<u32, ProfileRefusal>
     ensures { result ≡ value_given key (view value.now) }
 {
@@ -62,7 +62,7 @@ fn value_given(key: Key, value: &Value) -> Result<u32, ProfileRefusal>
     }
 }
 
-/// A name that no key has.
+/// The refusal of a name that no key has.
 fn no_key(alloc: Global, name: &str) -> Result<ProfileRefusal, AllocError>
     ensures { IfOk result (λ why. why ≡ refusal.NoKey name.now) }
 {
@@ -70,7 +70,7 @@ fn no_key(alloc: Global, name: &str) -> Result<ProfileRefusal, AllocError>
     Ok(ProfileRefusal::NoKey { name })
 }
 
-/// What the members of a document give to the keys.
+/// The values that a document gives to keys, or why one of its members is refused.
 fn given_in(alloc: Global, table: &Table) -> Result<Result<Given, ProfileRefusal>, Memory>
     ensures { IfOk result (λ given. given ≡ given_in (table_view table.now) nothing_given) }
 {
@@ -88,7 +88,7 @@ fn given_in(alloc: Global, table: &Table) -> Result<Result<Given, ProfileRefusal
     Ok(Ok(given))
 }
 
-/// Which of the two rules across keys is broken.
+/// Which of the two rules across keys is broken. Call it only if one is.
 fn broken_rule(given: &Given) -> ProfileRefusal
     ensures { result ≡ broken_rule (value_in given.now) }
 {
@@ -104,7 +104,7 @@ fn broken_rule(given: &Given) -> ProfileRefusal
     }
 }
 
-/// The first instance, if it is given.
+/// The first instance, if the document gives it.
 fn instance_given(given: &Given) -> Option<u32>
     ensures { result ≡ given_at given.now Key.Instance }
 {
@@ -115,7 +115,7 @@ fn instance_given(given: &Given) -> Option<u32>
     }
 }
 
-/// What a document with the given values is.
+/// The document with these values, or the rule across keys that they break.
 fn document_with(given: &Given) -> Result<Document, ProfileRefusal>
     ensures { result ≡ document_with given.now }
 {
@@ -128,7 +128,7 @@ fn document_with(given: &Given) -> Result<Document, ProfileRefusal>
     }
 }
 
-/// What a table is.
+/// The document in a table, or why it is refused.
 fn document_of(alloc: Global, table: &Table) -> Result<Result<Document, ProfileRefusal>, Memory>
     ensures { IfOk result (λ document. document ≡ document_of (table_view table.now)) }
 {
@@ -138,11 +138,11 @@ fn document_of(alloc: Global, table: &Table) -> Result<Result<Document, ProfileR
     }
 }
 
-/// Reads the profile that a text is, and the first instance that it gives.
+/// Reads the profile in a text, and the first instance that it gives.
 ///
 /// # Errors
 ///
-/// `Memory` where memory runs out. The refusal within names the first key, in the order of names, that is refused.
+/// `Memory` if memory runs out. The refusal within names the first key, in the order of names, that is refused.
 pub fn read_text(alloc: Global, text: &str) -> Result<Result<Document, ProfileRefusal>, Memory>
     ensures { IfOk result (λ document. document ≡ document_in text.now) }
 {
@@ -157,7 +157,7 @@ pub fn read_text(alloc: Global, text: &str) -> Result<Result<Document, ProfileRe
     }
 }
 
-/// Reads the profile that the octets of a file are, and the first instance that they give. Octets that are not UTF-8 are no document.
+/// Reads the profile in the octets of a file, and the first instance that it gives. Octets that are not UTF-8 are refused as no document.
 ///
 /// # Errors
 ///

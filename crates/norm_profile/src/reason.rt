@@ -1,10 +1,10 @@
-//! The reasons of refusals, for people.
+//! Prints a [`ProfileRefusal`] for people. The program writes it to standard error.
 
 use crate::refusal::ProfileRefusal;
 use norm_base::Key;
 use std::{fmt, str};
 
-/// What the values of a key are.
+/// Prints which values a key takes.
 fn say_values<W: fmt::Write>(key: Key, f: &mut fmt::Formatter<W>) -> fmt::Result {
     let row = key.row();
     match row.words {

@@ -2,23 +2,23 @@
 
 use norm_base::{Key, Text};
 
-/// Why a document is no profile.
+/// Why a document is not that of a profile.
 #[derive(Debug, Drop)]
 pub enum ProfileRefusal {
     /// It has more than 65,536 octets.
     TooLong,
-    /// It is no TOML document.
+    /// It is not a TOML document, or not UTF-8.
     NoDocument,
-    /// No key has this name.
+    /// There is no key of this name.
     NoKey { name: Text },
-    /// The key's value is a whole number, and something else is there.
+    /// The key takes a whole number, and the value is something else.
     NoNumber { key: Key },
-    /// The key's value is a text, and something else is there.
+    /// The key takes a text, and the value is something else.
     NoText { key: Key },
-    /// The number, or the word, is none of the key's values.
+    /// The number or the word is not among the key's values.
     NoValue { key: Key },
-    /// The values make max_n less than b.
+    /// The values make `max_n` less than `b`.
     MaxBelowB { max_n: u32, b: u32 },
-    /// The values make a stream's buffer too long.
+    /// The values make a stream's buffer, of `blocks` * `b` * `e` octets, too long.
     Buffer { blocks: u32, b: u32, e: u32 },
 }

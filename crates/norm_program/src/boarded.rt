@@ -1,4 +1,5 @@
-//! Scripts as the program runs them: over a board of its own with one reader, and with producers that nobody holds up.
+//! Runs a script as the program does: with a board of its own that has one reader, and with producers that nothing holds up (`Through`).
+//! `session` calls [`run_session`], and `send` calls [`run_send`].
 
 ghost use Rattle.std.specs.Prelude.{◌≡◌, List, IfOk, IfErr, true, false};
 ghost use Rattle.norm_journal.specs.declared.event.Event.{Event};
@@ -15,13 +16,13 @@ use std::alloc::Global;
 use std::sync::Wait;
 use std::thread::Threads;
 
-/// A board with one reader.
+/// A board with one reader. `Memory` if memory runs out.
 fn board_of(alloc: Global) -> Result<Board, Memory> {
     let (board, _readers) = Board::new(alloc, 1)?;
     Ok(board)
 }
 
-/// Runs a script's session.
+/// Runs a script's session and returns how it ended, with its journal.
 pub(crate) fn run_session<R: Threads + Wait + Sync, K: Sink, F: Fabric, D: Files, C: Clock>(
     rt: &R,
     alloc: Global,
@@ -49,7 +50,7 @@ pub(crate) fn run_session<R: Threads + Wait + Sync, K: Sink, F: Fabric, D: Files
     )
 }
 
-/// Runs the sender of a script's session alone. Answers whether all was done.
+/// Runs only the sender of a script's session. Returns whether everything was done.
 pub(crate) fn run_send<R: Threads + Wait + Sync, K: Sink, F: Fabric, D: Files, C: Clock>(
     rt: &R,
     alloc: Global,

@@ -1,4 +1,4 @@
-//! The script of a sender, whose profile is given.
+//! Reads the script of a sender whose profile is given. `send` calls [`prepare_commands`].
 
 ghost use Rattle.std.specs.Prelude.{◌≡◌, string_bytes, Ok, IfOk, IfErr, OnOk};
 ghost use Rattle.norm_base.specs.Settings.{InRange};
@@ -14,7 +14,7 @@ use norm_base::{Memory, Profile, Sink, Source};
 use norm_script::{MOST_LINES, Refusal, Script, ScriptFault, Why, read, read_commands};
 use std::alloc::{AllocError, Global};
 
-/// The line of the one key that commands go by.
+/// The line that sets `producers`, the only key that decides which commands are read.
 #[tactic(auto, unfolding(crate::specs::Asked::producers_line))]
 fn producers_line(alloc: Global, profile: &Profile) -> Result<String, AllocError>
     ensures { IfOk result (λ line. string_bytes line ≡ producers_line profile.now) }
@@ -23,7 +23,7 @@ fn producers_line(alloc: Global, profile: &Profile) -> Result<String, AllocError
     format!(in alloc; "set producers {producers}\n")
 }
 
-/// A text behind that line.
+/// The line that sets `producers`, and the text after it.
 fn under(alloc: Global, profile: &Profile, text: &[u8]) -> Result<Vec<u8>, AllocError>
     ensures { IfOk result (λ all. all.items ≡ under profile.now text.now) }
 {
@@ -33,7 +33,8 @@ fn under(alloc: Global, profile: &Profile, text: &[u8]) -> Result<Vec<u8>, Alloc
     Ok(all)
 }
 
-/// Why line `n` has no meaning: as a script of its own says it, where it is not that it sets a key, or is a line too many.
+/// Why line `n` has no meaning. Reads the text again, as a script that begins by setting `producers`. If that script is refused at this line too,
+/// its reason is the answer. Otherwise the line sets a key. A line beyond the most lines is one too many.
 fn why_of(alloc: Global, profile: &Profile, text: &[u8], n: u32) -> Result<Why, Memory> {
     if n > MOST_LINES {
         return Ok(Why::ManyLines);
@@ -52,7 +53,11 @@ fn is_in_range(profile: &Profile)
     let _producers = profile.producers;
 }
 
-/// The commands that a text is for a sender of this profile, or the line that is refused.
+/// Reads the text as a script for a sender of this profile. Returns the refused line and its reason if there is one.
+///
+/// # Errors
+///
+/// `Memory` if memory runs out.
 fn commands_in(
     alloc: Global,
     profile: &Profile,
@@ -74,7 +79,7 @@ fn commands_in(
     }
 }
 
-/// Reads the script that the text is for a sender of this profile.
+/// Reads the text as a script for a sender of this profile. If a line is refused, writes the last line and returns the ending.
 fn read_commands_in<K: Sink>(
     alloc: Global,
     profile: &Profile,
@@ -98,7 +103,8 @@ fn read_commands_in<K: Sink>(
     }
 }
 
-/// What there is to run for a sender of this profile: the script that the input is.
+/// Reads the input whole, as a script for a sender of this profile. If that fails, writes the last line, if the ending has one, and returns the
+/// ending.
 pub(crate) fn prepare_commands<S: Source, K: Sink>(
     alloc: Global,
     profile: &Profile,

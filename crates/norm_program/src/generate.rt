@@ -1,4 +1,4 @@
-//! `generate`: a script to try a session with.
+//! `generate`: writes a script to try a session with. The program calls [`write_script`].
 
 ghost use Rattle.std.specs.Prelude.{List, Option, ℕ};
 ghost use Rattle.norm_program.specs.Ends.{Called, outside};
@@ -8,7 +8,7 @@ use crate::status::Ending;
 use norm_base::{Failed, Sink};
 use norm_script::{generate, reads_generated};
 
-/// Writes the script of this number, and answers how that ends. It reads nothing, and calls no network, no files and no clock.
+/// Writes the script of this number and returns the ending: `Write` if a write fails. Reads nothing, and calls no network, files or clock.
 pub(crate) fn write_script<K: Sink>(number: u32, output: &mut K) -> Ending
     ensures { (input : Option (List ℕ)) (read_faults : ℕ) (called : Called) → GenerateEnds number result
         (outside input (K.pieces output.old) read_faults (K.fault_count output.old) called)

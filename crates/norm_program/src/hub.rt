@@ -1,4 +1,4 @@
-//! `hub`: the hub between the nodes of a profile.
+//! `hub`: runs the hub between the nodes of a profile. The program calls [`end_hub`].
 
 ghost use Rattle.std.specs.Prelude.{◌≡◌};
 ghost use Rattle.norm_program.specs.Lending.{GivesBack};
@@ -12,7 +12,7 @@ use norm_base::{Clock, Fabric, Files, Profile, Sink, Source, Text};
 use norm_node::run_hub;
 use std::alloc::Global;
 
-/// How the hub ends the program; what each ending says is in `EndsHub`. It calls no files.
+/// Runs the hub and returns the ending; what each ending says is in `EndsHub`. Calls no files.
 fn pass_on<S: Source, K: Sink, F: Fabric, D: Files, C: Clock>(
     alloc: Global,
     profile: &Profile,
@@ -27,7 +27,7 @@ fn pass_on<S: Source, K: Sink, F: Fabric, D: Files, C: Clock>(
     }
 }
 
-/// How the hub ends the program, under the profile at a path.
+/// Loads the profile at a path, runs its hub, and returns the ending.
 pub(crate) fn end_hub<S: Source, K: Sink, F: Fabric, D: Files, C: Clock>(
     alloc: Global,
     path: Text,

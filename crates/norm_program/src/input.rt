@@ -1,4 +1,4 @@
-//! The input, read whole.
+//! Reads the input whole. `session` and `send` call [`read_input`] before they run anything.
 
 ghost use Rattle.std.specs.Prelude.{◌≡◌, IfOk, IfErr, OnOk};
 ghost use Rattle.norm_program.specs.declared.input.InputFault.TheVariants as fault;
@@ -15,7 +15,7 @@ use std::alloc::{AllocError, Global};
 enum InputFault {
     /// A read failed.
     Read,
-    /// There was no memory.
+    /// Memory ran out.
     Memory,
 }
 
@@ -35,7 +35,7 @@ impl From<Failed> for InputFault {
     }
 }
 
-/// All of the input's octets.
+/// Reads up to the end of the input, 4,096 octets at a time.
 fn read_all<S: Source>(alloc: Global, input: &mut S) -> Result<Vec<u8>, InputFault>
     ensures octets { IfOk result (λ text. IsInput text.items (S.left input.old) (S.left input.new)) }
     ensures cause { ReadCause result (S.fault_count input.old) (S.fault_count input.new) }
@@ -51,7 +51,7 @@ fn read_all<S: Source>(alloc: Global, input: &mut S) -> Result<Vec<u8>, InputFau
     }
 }
 
-/// Reads the input whole, or says that a read of it failed.
+/// Reads the input whole. If a read fails, writes the last line `fault read`. Returns the ending if there is no text.
 pub(crate) fn read_input<S: Source, K: Sink>(
     alloc: Global,
     input: &mut S,

@@ -1,4 +1,4 @@
-//! The last line that the program writes, and the ending that goes with it.
+//! Writes the last line of the program, and returns the ending that goes with it. Commands call these when they end.
 
 ghost use Rattle.std.specs.Prelude.{◌≡◌, string_bytes, IfOk};
 ghost use Rattle.norm_program.specs.Ends.{refused_line, absent_line, Says, IsLastEnding, IsAbsentEnding, IsStoppedEnding};
@@ -8,14 +8,14 @@ use norm_base::{Failed, Sink, Text};
 use norm_turns::SessionFault;
 use std::alloc::{AllocError, Global};
 
-/// Writes a last line. A failed write leaves a front of it and raises the count, and decides nothing.
+/// Writes a last line. If the write fails, a prefix of the line may be out and the count of faults is raised, but the ending stays as it is.
 pub(crate) fn say<K: Sink>(output: &mut K, line: &[u8])
     ensures { Says (K.pieces output.old) (K.pieces output.new) (K.fault_count output.old) (K.fault_count output.new) line.now }
 {
     let _ = output.write(line);
 }
 
-/// The line that refuses line `n` of the input.
+/// The line for a refused line `n` of the input.
 #[tactic(auto, unfolding(crate::specs::Ends::refused_line))]
 pub(crate) fn refused_line(alloc: Global, n: u64) -> Result<String, AllocError>
     ensures { IfOk result (λ text. string_bytes text ≡ refused_line n) }
@@ -23,7 +23,7 @@ pub(crate) fn refused_line(alloc: Global, n: u64) -> Result<String, AllocError>
     format!(in alloc; "refused line {n}\n")
 }
 
-/// The line that says which file is absent.
+/// The line for an absent file.
 #[tactic(auto, unfolding(crate::specs::Ends::absent_line))]
 fn absent_line(alloc: Global, name: &str) -> Result<String, AllocError>
     ensures { IfOk result (λ text. string_bytes text ≡ absent_line name.now) }
@@ -31,7 +31,7 @@ fn absent_line(alloc: Global, name: &str) -> Result<String, AllocError>
     format!(in alloc; "absent {name}\n")
 }
 
-/// How a session that ran ended: one that spent its turns says so.
+/// Returns how a session that ran ends the program. If it was not whole, writes `turns spent`; the ending is `Write` if that write fails.
 pub(crate) fn end_session<K: Sink>(whole: bool, output: &mut K) -> Ending
     ensures { IsLastEnding result whole (K.pieces output.old) (K.pieces output.new)
         (K.fault_count output.old) (K.fault_count output.new) }
@@ -45,7 +45,7 @@ pub(crate) fn end_session<K: Sink>(whole: bool, output: &mut K) -> Ending
     }
 }
 
-/// Says which file is absent, and how that ends the program.
+/// Writes which file is absent and returns the ending: `Memory` if memory runs out for the line.
 pub(crate) fn say_absent<K: Sink>(alloc: Global, name: Text, output: &mut K) -> Ending
     ensures { IsAbsentEnding result name (K.pieces output.old) (K.pieces output.new)
         (K.fault_count output.old) (K.fault_count output.new) }
@@ -62,7 +62,7 @@ pub(crate) fn say_absent<K: Sink>(alloc: Global, name: Text, output: &mut K) -> 
     }
 }
 
-/// How a session that a fault stopped ends the program.
+/// Returns how a fault of the session ends the program, and writes the last line, if the ending has one.
 pub(crate) fn stop_session<K: Sink>(alloc: Global, fault: SessionFault, output: &mut K) -> Ending
     ensures { IsStoppedEnding fault result (K.pieces output.old) (K.pieces output.new)
         (K.fault_count output.old) (K.fault_count output.new) }

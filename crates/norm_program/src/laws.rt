@@ -1,4 +1,4 @@
-//! What is promised of the statuses of failed calls. Each law is the contract of a function that does nothing.
+//! Promises about the statuses of failed calls. Each law is the contract of a function that does nothing.
 
 ghost use Rattle.norm_program.specs.Laws.{FourIsOfReads, FiveIsOfWrites, SixIsOfTheNetwork, SevenIsOfFiles};
 
@@ -20,7 +20,7 @@ pub fn six_is_of_the_network()
     ensures { SixIsOfTheNetwork }
 {}
 
-/// If no call of the files failed and no write, the last line at status 7 is `absent NAME`.
+/// If no call of the files and no write failed, the last line at status 7 is `absent NAME`.
 pub fn seven_is_of_files()
     ensures { SevenIsOfFiles }
 {}

@@ -1,24 +1,24 @@
-//! The outside of a call, lent as one value.
+//! Lends the outside to a command as one value.
 
 ghost use Rattle.std.specs.Prelude.{◌≡◌};
 
-/// The parts of the outside, lent.
+/// The five objects of the outside, borrowed for one command. The caller keeps them and sees what the command did.
 #[derive(Drop)]
 pub(crate) struct Lent<'a, S, K, F, D, C> {
-    /// Where octets come from.
+    /// Gives the octets of the input.
     pub input: &'a mut S,
-    /// Where lines go.
+    /// Takes the lines.
     pub output: &'a mut K,
-    /// The network.
+    /// Takes and gives datagrams.
     pub fabric: &'a mut F,
-    /// The files.
+    /// Reads and puts files.
     pub files: &'a mut D,
-    /// Where moments come from.
+    /// Gives moments.
     pub clock: &'a mut C,
 }
 
 impl<'a, S, K, F, D, C> Lent<'a, S, K, F, D, C> {
-    /// Lends the parts, each as long as the others.
+    /// Lends the five objects, all for the same lifetime.
     // Proof: a struct that is made where the lifetimes of more than two of its references differ cannot be lent to a call.
     pub fn of(
         input: &'a mut S,

@@ -1,8 +1,9 @@
-//! The program as a library: what its words ask for and how that ends it (`program`), each command (`session`, `show`, `generate`, `send`,
-//! `recv`, `hub`), the outside that it lends them as one value (`lent`), its words (`words`; what they ask for says `norm_args`), its
-//! input (`input`), the last line that it writes (`last_line`) and the statuses (`status`). `normd` makes the real objects, reads the words
-//! by `arguments`, and ends with what `run` answers; `run` does for its words what `norm_main` does, which programs and tests call over
-//! objects of their own. What stands on standard error is in `reason`.
+//! The program as a library. `normd` makes the real objects, reads the words with [`arguments`], and exits with what [`run`] returns. Programs
+//! and tests call [`norm_main`] with objects of their own; it returns the status that `run` exits with.
+//!
+//! `program` finds the command that the words ask for (`norm_args` says what they mean). `session`, `show`, `generate`, `send`, `recv` and `hub`
+//! are the commands. `lent` lends them the outside as one value. `words` reads the command line and `input` the input. `last_line` writes the
+//! last line, `status` has the endings and their statuses, and `reason` writes to standard error.
 #![tactic(auto)]
 
 mod boarded;

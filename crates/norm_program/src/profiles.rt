@@ -1,4 +1,4 @@
-//! The profile of a node, loaded from its file.
+//! Loads the profile of a node from its file. `send`, `recv` and `hub` call [`load`] before anything else.
 
 ghost use Rattle.std.specs.Prelude.{◌≡◌, ℕ, List, Option, Ok, IfOk, IfErr, OnOk, string_bytes};
 ghost use Rattle.norm_base.specs.Network.{Network};
@@ -11,7 +11,7 @@ use norm_base::{Files, Profile, Sink, Text};
 use norm_profile::{LoadFault, load_profile};
 use std::alloc::Global;
 
-/// Says that the profile is refused, and how that ends the program.
+/// Writes the last line `refused profile` and returns the ending.
 pub(crate) fn refuse_profile<K: Sink>(why: ProfileFault, output: &mut K) -> Ending
     ensures { IsRefusing result why (K.pieces output.old) (K.pieces output.new) (K.fault_count output.old) (K.fault_count output.new) }
 {
@@ -19,7 +19,7 @@ pub(crate) fn refuse_profile<K: Sink>(why: ProfileFault, output: &mut K) -> Endi
     Ending::Profile { why }
 }
 
-/// How a file that gives no profile ends the program.
+/// Writes the last line for a file that gives no profile, and returns the ending. If memory ran out, it writes none.
 fn end_unloaded<K: Sink>(alloc: Global, path: String, fault: LoadFault, output: &mut K) -> Ending
     ensures { IsUnloadedEnding fault result (string_bytes path) (K.pieces output.old) (K.pieces output.new)
         (K.fault_count output.old) (K.fault_count output.new) }
@@ -35,7 +35,7 @@ fn end_unloaded<K: Sink>(alloc: Global, path: String, fault: LoadFault, output: 
     }
 }
 
-/// Loads the profile at a path.
+/// Loads the profile from the file at a path. If that fails, writes the last line, if the ending has one, and returns the ending.
 pub(crate) fn load<K: Sink, D: Files>(
     alloc: Global,
     path: Text,

@@ -1,4 +1,5 @@
-//! The program: what its words ask for, and how that ends it.
+//! From the words to the ending: finds the command that the words ask for, runs it, and returns how it ended. `normd` calls [`run`]; programs and
+//! tests call [`norm_main`].
 
 ghost use Rattle.std.specs.Prelude.{◌≡◌, map, string_bytes, Some, IfSome, MatchResult};
 ghost use Rattle.std.specs.Process.{exit_status};
@@ -26,12 +27,12 @@ use std::process::ExitCode;
 use std::sync::Wait;
 use std::thread::Threads;
 
-/// What is written where the words are no command.
+/// The last line if the words are no command.
 // One line for all wrong words, which a clause fixes (`usage_line`). What is wrong with them goes to standard error.
 const USAGE: &[u8] =
     b"usage: normd session | show | generate N | send PROFILE | recv PROFILE NODE | hub PROFILE\n";
 
-/// How what is asked for ends the program; what each ending says is in `EndsTask`. It leaves the contents of the files as they were.
+/// Runs `session`, `show` or `generate` and returns the ending; what each ending says is in `EndsTask`. The files keep their contents.
 fn end_task<R: Threads + Wait + Sync, S: Source, K: Sink, F: Fabric, D: Files, C: Clock>(
     rt: &R,
     alloc: Global,
@@ -49,7 +50,7 @@ fn end_task<R: Threads + Wait + Sync, S: Source, K: Sink, F: Fabric, D: Files, C
     }
 }
 
-/// How what is asked for of a node ends the program, under the profile at its path; what each ending says is in `EndsNode`.
+/// Runs `send`, `recv` or `hub` under the profile at its path and returns the ending; what each ending says is in `EndsNode`.
 fn end_node<R: Threads + Wait + Sync, S: Source, K: Sink, F: Fabric, D: Files, C: Clock>(
     rt: &R,
     alloc: Global,
@@ -67,7 +68,7 @@ fn end_node<R: Threads + Wait + Sync, S: Source, K: Sink, F: Fabric, D: Files, C
     }
 }
 
-/// How what is asked for of a node ends the program, or how words end it that ask for nothing; what each ending says is in `EndsNode`.
+/// Runs a node's task. If there is none, writes the usage line. What each ending says is in `EndsNode`.
 fn end_other<R: Threads + Wait + Sync, S: Source, K: Sink, F: Fabric, D: Files, C: Clock>(
     rt: &R,
     alloc: Global,
@@ -87,7 +88,7 @@ fn end_other<R: Threads + Wait + Sync, S: Source, K: Sink, F: Fabric, D: Files, 
     }
 }
 
-/// How words end the program that ask for no task but, it may be, one of a node.
+/// Runs the node's task that the words ask for. Call it if they ask for no other task. Writes the usage line if they ask for nothing.
 fn end_others<R: Threads + Wait + Sync, S: Source, K: Sink, F: Fabric, D: Files, C: Clock>(
     rt: &R,
     alloc: Global,
@@ -103,8 +104,8 @@ fn end_others<R: Threads + Wait + Sync, S: Source, K: Sink, F: Fabric, D: Files,
     }
 }
 
-/// How the program ends with these words, after its name; what each ending says is in `EndsBy`, and what the files have then in
-/// `KeepsFiles`.
+/// Runs what these words ask for and returns the ending. They are the words after the program's name. What each ending says is in `EndsBy`, and
+/// what the files hold afterwards in `KeepsFiles`.
 fn end_of<R: Threads + Wait + Sync, S: Source, K: Sink, F: Fabric, D: Files, C: Clock>(
     rt: &R,
     alloc: Global,
@@ -121,8 +122,8 @@ fn end_of<R: Threads + Wait + Sync, S: Source, K: Sink, F: Fabric, D: Files, C: 
     }
 }
 
-/// The program: `words` are those after its name. Answers the exit status; what each one says is in
-/// `Ends` and `NodeEnds`. It leaves the contents of the files as they were, but where it is a receiver that puts files.
+/// Runs the program and returns its exit status; what each status says is in `Ends` and `NodeEnds`. `words` are those after the program's name.
+/// The files keep their contents, except if the words ask for a receiver, which puts the files that it hands up.
 pub fn norm_main<R: Threads + Wait + Sync, S: Source, K: Sink, F: Fabric, D: Files, C: Clock>(
     rt: &R,
     alloc: Global,
@@ -144,9 +145,9 @@ pub fn norm_main<R: Threads + Wait + Sync, S: Source, K: Sink, F: Fabric, D: Fil
     end_of(rt, alloc, words, &mut lent).status()
 }
 
-/// The program as a process: the words after its name, or why there are none, and the objects that it
-/// has. Its exit code is the status of `norm_main` for these words. Why words, a line or the memory ended it goes to standard
-/// error, and `say_cause` says what a failed call was about.
+/// Runs the program as a process. `words` are those after its name, or why they could not be read. The exit code is the status of `norm_main` for
+/// these words. If words, a line, a profile or memory ended it, standard error says why. Call `say_cause` afterwards: it says what a failed call
+/// was about.
 pub fn run<R: Threads + Wait + Sync + Eprint, S: Source, K: Sink, F: Fabric, D: Files, C: Clock>(
     rt: &R,
     alloc: Global,

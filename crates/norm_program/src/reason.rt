@@ -1,5 +1,5 @@
-//! What stands on standard error, for people: why words, a line, a profile or the memory ended the program, and what a failed call
-//! of the outside was about.
+//! Writes to standard error, for people: why words, a line, a profile or memory ended the program, and what a failed call of the outside was
+//! about. [`run`](crate::run) calls [`explain`]; `normd` calls [`say_cause`] and [`needed`].
 
 ghost use Rattle.std.specs.Prelude.{◌≡◌, ◌∷◌, Some, map, string_bytes, Ok, Err, MatchResult};
 ghost use Rattle.std.specs.Fmt.{DisplaysOnOk};
@@ -13,34 +13,28 @@ use norm_base::Memory;
 use std::fmt;
 use std::process::ExitCode;
 
-/// The program's name and version.
 // No command asks for it, so it stands beside the usage line. On standard error, because a clause fixes all that the output gets then.
 const VERSION: &str = "normd 0.1.0";
 
-/// What `session` takes.
 // Why words are refused is not kept, so each of these says all that its command takes. The bounds are those of `chance` and `turns`.
 const SESSION_TAKES: &str =
     "session takes --chance N, from 0 to 4294967295, and --turns N, from 1 to 4000000, each at most once, and no other word";
 
-/// What `generate` takes.
 // The bounds are those of 32 bits, of which `generate` takes every number.
 const GENERATE_TAKES: &str = "generate takes one word, a number from 0 to 4294967295";
 
-/// What `send` takes.
 // The bounds are those of the key `instance`.
 const SEND_TAKES: &str =
     "send takes one word, the path of a profile, and --instance I, from 0 to 65535, at most once";
 
-/// What `recv` takes.
 // The bounds are those of a node's id (RFC 5740 section 4.1). Whether the profile has the node is seen only after the profile is loaded.
 const RECV_TAKES: &str =
     "recv takes two words, the path of a profile and a node, from 1 to 4294967294";
 
-/// What `hub` takes.
 // Not as for `show`, which names the word that is too many: `hub` is refused without a path too, and then no word could be named.
 const HUB_TAKES: &str = "hub takes one word, the path of a profile";
 
-/// Why a command that stands alone is refused with these words behind it.
+/// Names the word that is one too many after a command that takes none. Writes nothing if no word follows.
 fn say_extra<W: fmt::Write>(word: &str, others: &[String], f: &mut fmt::Formatter<W>) -> fmt::Result
     ensures { DisplaysOnOk W.write_str_gives f.old result (Some (extra_reason word.now (map string_bytes others.now))) f.new }
 {
@@ -53,7 +47,7 @@ fn say_extra<W: fmt::Write>(word: &str, others: &[String], f: &mut fmt::Formatte
     }
 }
 
-/// Why a first word is refused, with these behind it.
+/// Says why these words are refused, of which `word` is the first.
 fn say_first<W: fmt::Write>(word: &str, others: &[String], f: &mut fmt::Formatter<W>) -> fmt::Result
     ensures { DisplaysOnOk W.write_str_gives f.old result (Some (words_reason (word.now ∷ map string_bytes others.now))) f.new }
 {
@@ -79,7 +73,7 @@ fn say_first<W: fmt::Write>(word: &str, others: &[String], f: &mut fmt::Formatte
     write!(f, "the word {word} is unknown")
 }
 
-/// Why words are refused.
+/// Says why words are refused. Call it only if they are.
 fn say_words<W: fmt::Write>(words: &[String], f: &mut fmt::Formatter<W>) -> fmt::Result
     ensures { DisplaysOnOk W.write_str_gives f.old result (Some (words_reason (map string_bytes words.now))) f.new }
 {
@@ -89,7 +83,7 @@ fn say_words<W: fmt::Write>(words: &[String], f: &mut fmt::Formatter<W>) -> fmt:
     }
 }
 
-/// Why a node is no receiver of a profile, whose are those from the first to the last.
+/// Says that a node is no receiver of a profile, whose receivers are `first` to `last`.
 fn say_node<W: fmt::Write>(
     node: u32,
     first: u32,
@@ -104,7 +98,7 @@ fn say_node<W: fmt::Write>(
     )
 }
 
-/// Why a profile is refused.
+/// Says why a profile is refused, or which receivers it has if the node is none of them.
 fn say_profile<W: fmt::Write>(why: &ProfileFault, f: &mut fmt::Formatter<W>) -> fmt::Result
     ensures { DisplaysOnOk W.write_str_gives f.old result (profile_reason why.now) f.new }
 {
@@ -114,7 +108,7 @@ fn say_profile<W: fmt::Write>(why: &ProfileFault, f: &mut fmt::Formatter<W>) -> 
     }
 }
 
-/// The reason of an ending, under the words of the call.
+/// Prints why the program ended so after these words. Prints nothing if the ending has no reason of its own.
 #[derive(Drop)]
 pub(crate) struct Reason<'a> {
     pub ending: &'a Ending,
@@ -145,7 +139,7 @@ impl fmt::Display for Reason<'_> {
 }
 
 impl Ending {
-    /// Whether standard error says why, beside what a failed call of the outside was about.
+    /// Whether [`explain`] has a reason to print. What a failed call of the outside was about is not one: [`say_cause`] prints it.
     pub(crate) fn has_reason(&self) -> bool
         ensures { result ≡ has_reason self.now }
     {
@@ -160,7 +154,7 @@ impl Ending {
     }
 }
 
-/// Says on standard error why the program ended so, and beside the usage line which program it is.
+/// Says on standard error why the program ended so. If the words were refused, also names the program and its version.
 pub(crate) fn explain(rt: &impl Eprint, ending: &Ending, words: &[String]) {
     if ending.has_reason() {
         let reason = Reason { ending, words };
@@ -171,20 +165,20 @@ pub(crate) fn explain(rt: &impl Eprint, ending: &Ending, words: &[String]) {
     }
 }
 
-/// Says on standard error that a word is no text, and which program it is.
+/// Says on standard error that a word is not UTF-8, and names the program and its version.
 pub(crate) fn explain_no_text(rt: &impl Eprint) {
     let _ = eprintln!(rt; "a word is not UTF-8");
     let _ = eprintln!(rt; "{VERSION}");
 }
 
-/// Says on standard error what a failed call of the outside was about, where one failed.
+/// Says on standard error what a failed call of the outside was about. Writes nothing if there is no cause.
 pub fn say_cause<C: fmt::Display>(rt: &impl Eprint, cause: Option<&C>) {
     if let Some(cause) = cause {
         let _ = eprintln!(rt; "{cause}");
     }
 }
 
-/// What was made; or where there was no memory for it the exit code, and standard error says why.
+/// Returns what was made. If memory ran out, says so on standard error and returns the exit code to end with.
 pub fn needed<T>(rt: &impl Eprint, made: Result<T, Memory>) -> Result<T, ExitCode>
     ensures { MatchResult result (λ x. made ≡ Ok x) (λ code. exit_status code ≡ status_of ending.Memory) }
 {

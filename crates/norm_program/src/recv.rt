@@ -1,4 +1,4 @@
-//! `recv`: the receiver of a node of a profile, run alone.
+//! `recv`: runs the receiver of one node of a profile, alone. The program calls [`end_receive`].
 
 ghost use Rattle.std.specs.Prelude.{◌≡◌};
 ghost use Rattle.norm_program.specs.Lending.{GivesBack};
@@ -12,7 +12,7 @@ use norm_base::{Clock, Fabric, Files, NodeId, Profile, Sink, Source, Text};
 use norm_node::run_receiver;
 use std::alloc::Global;
 
-/// Why a node is no receiver of a profile.
+/// Why a node is no receiver of a profile, with the ids of those that are. Call it only for such a node.
 fn no_receiver(profile: &Profile, node: NodeId) -> ProfileFault
     ensures { result ≡ no_receiver profile.now node }
 {
@@ -23,7 +23,8 @@ fn no_receiver(profile: &Profile, node: NodeId) -> ProfileFault
     }
 }
 
-/// How the receiver of a node ends the program; what each ending says is in `EndsReceiver`.
+/// Runs the receiver of a node and returns the ending; what each ending says is in `EndsReceiver`. Refuses a node that is no receiver of the
+/// profile.
 fn receive<S: Source, K: Sink, F: Fabric, D: Files, C: Clock>(
     alloc: Global,
     profile: &Profile,
@@ -49,7 +50,7 @@ fn receive<S: Source, K: Sink, F: Fabric, D: Files, C: Clock>(
     }
 }
 
-/// How the receiver of a node ends the program, under the profile at a path.
+/// Loads the profile at a path, runs the receiver of a node, and returns the ending.
 pub(crate) fn end_receive<S: Source, K: Sink, F: Fabric, D: Files, C: Clock>(
     alloc: Global,
     path: Text,

@@ -1,4 +1,4 @@
-//! `send`: the sender of a profile, run alone over the script that the input is.
+//! `send`: runs the sender of a profile alone, with the input as its script. The program calls [`end_send`].
 
 ghost use Rattle.std.specs.Prelude.{◌≡◌};
 ghost use Rattle.norm_program.specs.Asked.{Sender, with_instance};
@@ -18,7 +18,7 @@ use std::alloc::Global;
 use std::sync::Wait;
 use std::thread::Threads;
 
-/// The profile of a sender, with the instance that is given in place of its own.
+/// The profile with this instance if one is given, and its own otherwise.
 fn with_instance(profile: Profile, instance: Option<u32>) -> Profile
     requires { FitsInstance instance }
     ensures { result ≡ with_instance instance profile }
@@ -32,7 +32,7 @@ fn with_instance(profile: Profile, instance: Option<u32>) -> Profile
     }
 }
 
-/// How the sender of a profile ends the program, run alone over the script that the input is; what each ending says is in `EndsScript`.
+/// Runs the sender of a profile alone, with the input as its script, and returns the ending; what each ending says is in `EndsScript`.
 // A sender alone is one more case of a session (`Asked`), so that what each ending says is written once for both.
 fn send<R: Threads + Wait + Sync, S: Source, K: Sink, F: Fabric, D: Files, C: Clock>(
     rt: &R,
@@ -61,7 +61,7 @@ fn send<R: Threads + Wait + Sync, S: Source, K: Sink, F: Fabric, D: Files, C: Cl
     }
 }
 
-/// How a sender alone ends the program, under the profile at a path with the instance that is given in place of its own.
+/// Loads the profile at a path, runs its sender with the instance if one is given, and returns the ending.
 pub(crate) fn end_send<R: Threads + Wait + Sync, S: Source, K: Sink, F: Fabric, D: Files, C: Clock>(
     rt: &R,
     alloc: Global,

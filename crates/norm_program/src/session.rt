@@ -1,4 +1,5 @@
-//! `session`: the script that the input is, with what the words put in place of its keys, run by all members.
+//! `session`: reads the input as a script, overrides its keys with the options, and runs the session with all members. The program calls
+//! [`run_input`].
 
 ghost use Rattle.std.specs.Prelude.{◌≡◌, Ok, IfOk, IfErr, OnOk};
 ghost use Rattle.norm_program.specs.Asked.{Members, profile_with, script_asked, script_with};
@@ -19,7 +20,7 @@ use std::alloc::Global;
 use std::sync::Wait;
 use std::thread::Threads;
 
-/// A profile with what the options give in place of its own.
+/// A profile with the `chance` and `turns` of the options, if they are given.
 // The options stand in the profile that is run, so that the clauses of a session speak of one profile and know of no options.
 fn profile_with(profile: Profile, options: Options) -> Profile
     requires { FitsOptions options }
@@ -32,7 +33,7 @@ fn profile_with(profile: Profile, options: Options) -> Profile
     }
 }
 
-/// A script with what the options give in place of its keys.
+/// A script whose profile is overridden by the options.
 fn script_with(script: Script, options: Options) -> Script
     requires { FitsOptions options }
     ensures { result ≡ script_with options script }
@@ -42,7 +43,7 @@ fn script_with(script: Script, options: Options) -> Script
     Script { profile, lines }
 }
 
-/// Reads the script that the text is, and puts the options in place of its keys.
+/// Reads the text as a script and overrides its keys with the options. If a line is refused, writes the last line and returns the ending.
 fn read_text<K: Sink>(
     alloc: Global,
     text: &[u8],
@@ -67,7 +68,8 @@ fn read_text<K: Sink>(
     }
 }
 
-/// What there is to run: the script that the input is, with the options in place of its keys.
+/// Reads the input whole, as a script overridden by the options. If that fails, writes the last line, if the ending has one, and returns the
+/// ending.
 fn prepare<S: Source, K: Sink>(
     alloc: Global,
     options: Options,
@@ -87,8 +89,8 @@ fn prepare<S: Source, K: Sink>(
     read_text(alloc, &text, options, output)
 }
 
-/// How a session with these options ends the program; what each ending says is in `Ends`. It leaves the contents of the files as they
-/// were. Only the session itself is handed the runtime.
+/// Runs a session with these options and returns the ending; what each ending says is in `Ends`. The files keep their contents. Only the session
+/// itself gets the runtime.
 pub(crate) fn run_input<
     R: Threads + Wait + Sync,
     S: Source,

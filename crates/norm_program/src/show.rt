@@ -1,4 +1,4 @@
-//! `show`: the datagrams of the input, a line each.
+//! `show`: prints the datagrams of the input, one a line. The program calls [`show`].
 
 ghost use Rattle.norm_program.specs.Ends.{Called, outside};
 ghost use Rattle.norm_program.specs.ShowEnds.{ShowEnds, IsLineEnding};
@@ -9,7 +9,7 @@ use norm_base::{Sink, Source};
 use norm_show::{NoDatagram, ShowFault};
 use std::alloc::Global;
 
-/// The last line where line `number` spells no datagram, and how that ends the program.
+/// Writes the last line for line `number`, which spells no datagram, and returns the ending: `Memory` if memory runs out for that line.
 fn refuse_line<K: Sink>(alloc: Global, number: u64, why: NoDatagram, output: &mut K) -> Ending
     ensures { IsLineEnding result number why (K.pieces output.old) (K.pieces output.new) (K.fault_count output.old) (K.fault_count output.new) }
 {
@@ -23,7 +23,7 @@ fn refuse_line<K: Sink>(alloc: Global, number: u64, why: NoDatagram, output: &mu
     }
 }
 
-/// Shows the datagrams that the input's lines spell, and answers how that ends. It calls no network, no files and no clock.
+/// Shows the datagrams that the input's lines spell, and returns the ending. Calls no network, files or clock.
 pub(crate) fn show<S: Source, K: Sink>(alloc: Global, input: &mut S, output: &mut K) -> Ending
     ensures { (called : Called) → ShowEnds result
         (outside (S.left input.old) (K.pieces output.old) (S.fault_count input.old) (K.fault_count output.old) called)

@@ -1,4 +1,4 @@
-//! How the program ends.
+//! How the program ends: an [`Ending`] says why, and its [`Status`] is the exit status.
 
 ghost use Rattle.std.specs.Prelude.{◌≡◌};
 ghost use Rattle.std.specs.Process.{exit_status};
@@ -13,7 +13,7 @@ use std::alloc::AllocError;
 use std::marker::Model;
 use std::process::ExitCode;
 
-/// A program's exit status.
+/// An exit status of the program, from 0 to 9. [`Ending::status`] makes it.
 #[derive(Clone, Copy, Debug, PartialEq, Eq)]
 pub struct Status(u8);
 
@@ -30,7 +30,7 @@ impl Model for Status {
 }
 
 impl Status {
-    /// The status as a number.
+    /// The status as a process returns it.
     pub fn code(&self) -> u8
         ensures { result ≡ self.now }
     {
@@ -46,43 +46,43 @@ impl From<Status> for ExitCode {
     }
 }
 
-/// Why a profile is refused.
+/// Why a profile is refused, or a node under it.
 #[derive(Debug, Drop)]
 pub enum ProfileFault {
-    /// Its document is none of a profile.
+    /// The document is not that of a profile.
     Document { why: ProfileRefusal },
-    /// The node is none of its receivers, which are those from the first to the last.
+    /// The node is not one of the receivers, whose ids are `first` to `last`.
     Node { node: NodeId, first: u32, last: u32 },
 }
 
 /// How the program ended.
 #[derive(Debug, Drop)]
 pub enum Ending {
-    /// All was done.
+    /// Everything was done.
     Done,
-    /// All was shown, and a datagram was refused.
+    /// Everything was shown, and at least one datagram was refused.
     Datagram,
-    /// There was no memory.
+    /// Memory ran out.
     Memory,
-    /// The words are no command.
+    /// The words are not a command.
     Words,
-    /// A line of the script has no meaning.
+    /// A line of the script has no meaning. `refusal` says which line and why.
     Refused { refusal: Refusal },
-    /// A line to be shown, of this number, spells no datagram.
+    /// Line `number` of what `show` reads spells no datagram.
     Line { number: u64, why: NoDatagram },
-    /// The profile is refused.
+    /// The profile is refused, or the node is not one of its receivers.
     Profile { why: ProfileFault },
-    /// A read failed.
+    /// A read of the input failed.
     Read,
-    /// A write failed.
+    /// A write of the output failed.
     Write,
     /// A call of the network failed.
     Fabric,
     /// A call of the files failed.
     Files,
-    /// The file of this name is not there.
+    /// There is no file of this name.
     Absent { name: Text },
-    /// The turns were spent.
+    /// The session spent its turns before everything was done.
     Spent,
 }
 
@@ -95,7 +95,7 @@ impl From<AllocError> for Ending {
 }
 
 impl Ending {
-    /// The exit status of this ending.
+    /// The exit status. Several endings share one: 3 if something is refused, 7 if a file is absent or a call of the files failed.
     pub fn status(&self) -> Status
         ensures { result ≡ status_of self.now }
     {

@@ -1,4 +1,5 @@
-//! The words of the command line.
+//! The words of the command line. `normd` reads them with [`arguments`], and asks [`paths_asked`] which profiles they name, before it runs the
+//! program.
 
 ghost use Rattle.std.specs.Prelude.{◌≡◌, ◌↔◌, [], ◌∷◌, drop, map, string_bytes, IfOk};
 ghost use Rattle.std.specs.IoError.{error_kind};
@@ -19,7 +20,7 @@ use std::{env, io};
 pub enum WordsFault {
     /// A word is not UTF-8.
     NotText,
-    /// There was no memory.
+    /// Memory ran out.
     Memory,
 }
 
@@ -42,7 +43,11 @@ impl<T: Drop> From<AllocFailed<T>> for WordsFault {
     }
 }
 
-/// The words after the program's name.
+/// Returns the words after the program's name.
+///
+/// # Errors
+///
+/// `NotText` if a word is not UTF-8, and `Memory` if memory runs out.
 pub fn arguments<R: Env + Alloc<A = Global>>(rt: &R) -> Result<Vec<String>, WordsFault> {
     let mut words = Vec::new(rt.alloc());
     for word in env::args(rt)? {
@@ -52,7 +57,7 @@ pub fn arguments<R: Env + Alloc<A = Global>>(rt: &R) -> Result<Vec<String>, Word
     Ok(words)
 }
 
-/// Takes the first word out, which is the program's name.
+/// Removes the first word, the program's name, if there is one.
 fn drop_first(words: &mut Vec<String>)
     ensures { map string_bytes words.new.items ≡ drop 1 (map string_bytes words.old.items) }
 {
@@ -61,7 +66,6 @@ fn drop_first(words: &mut Vec<String>)
     }
 }
 
-/// One path.
 fn one_path(alloc: Global, path: Text) -> Result<Vec<Text>, Memory>
     ensures { IfOk result (λ paths. paths.items ≡ path ∷ []) }
 {
@@ -70,7 +74,7 @@ fn one_path(alloc: Global, path: Text) -> Result<Vec<Text>, Memory>
     Ok(paths)
 }
 
-/// The paths of the profiles that a node's task names.
+/// The path of the profile of a node's task. No path if there is no task.
 fn paths_of(alloc: Global, task: Option<NodeTask>) -> Result<Vec<Text>, Memory>
     ensures { IfOk result (λ paths. paths.items ≡ paths_asked task) }
 {
@@ -82,12 +86,8 @@ fn paths_of(alloc: Global, task: Option<NodeTask>) -> Result<Vec<Text>, Memory>
     }
 }
 
-/// The paths of the profiles that the words ask for, if they ask for a node's run: each is a path as the shell gives it, which the
-/// files are to be told, and no name in their folder.
-///
-/// # Errors
-///
-/// `Memory` if memory runs out.
+/// Returns the path of the profile if the words ask for a node's run, and no path otherwise. It is a path as the shell gives it, not a name in
+/// the folder of the files, so tell the files of it before they open it.
 pub fn paths_asked(alloc: Global, words: &[String]) -> Result<Vec<Text>, Memory>
     ensures { IfOk result (λ paths. paths.items ≡ paths_asked (node_task_of (map string_bytes words.now))) }
 {

@@ -1,4 +1,4 @@
-//! A script to try a session with.
+//! Writes a script to try a session with. `normd generate` calls [`generate`].
 
 ghost use Rattle.std.specs.Prelude.{◌≡◌, ◌+◌, ◌-◌, ◌/◌, ◌%◌, ◌<◌, ◌≤◌, ◌∷◌, [], ◌++◌, codes, decimal, length, map, is_err, IfOk, OnOk, OnErr, slice_index_or};
 ghost use Rattle.std.specs.List.{range_with_len};
@@ -11,18 +11,18 @@ use arrayvec::ArrayVec;
 use itoa::Buffer;
 use norm_base::{Failed, Sink};
 
-/// The lines that set keys.
+/// The number of lines that set keys.
 // As many as `setting_row` has arms.
 const SETTINGS: u32 = 11;
 
-/// All lines: those, and a hundred commands of each of three producers.
+/// The number of all lines: `SETTINGS`, and 100 commands for each of three producers.
 const ROWS: u32 = 311;
 
-/// A line with its line feed.
+/// A line with its line feed, of at most 1,024 octets.
 // The longest line has 500 octets as digits and eight more. On the stack, so that writing a script takes no memory.
 type Row = ArrayVec<u8, 1024>;
 
-/// Puts octets behind what a line has.
+/// Appends octets to a line, which must have room for them.
 fn put(row: &mut Row, octets: &[u8])
     requires { length row.old.items + length octets.now ≤ 1024 }
     ensures { row.new.items ≡ row.old.items ++ octets.now }
@@ -31,7 +31,7 @@ fn put(row: &mut Row, octets: &[u8])
     row.try_extend_from_slice(octets).unwrap()
 }
 
-/// The line that sets a key whose value is a number.
+/// The line that sets a key to a number.
 fn number_row(key: &[u8], value: u32) -> Row
     requires { length key.now ≤ 10 }
     ensures { result.items ≡ codes "set " ++ (key.now ++ 32 ∷ decimal value) ++ 10 ∷ [] }
@@ -46,7 +46,7 @@ fn number_row(key: &[u8], value: u32) -> Row
     row
 }
 
-/// The line that sets key `k` of the eleven.
+/// Line `k` of those that set keys, from 0.
 fn setting_row(n: u32, k: u32) -> Row
     requires { k < 11 }
     ensures { result.items ≡ slice_index_or (map setting_piece (generated_settings n)) k [] }
@@ -72,7 +72,7 @@ fn setting_row(n: u32, k: u32) -> Row
     }
 }
 
-/// An octet of an object, as two digits.
+/// Appends an octet of an object, as two hexadecimal digits.
 fn put_octet(row: &mut Row, octet: u8)
     requires { length row.old.items ≤ 1022 }
     ensures { row.new.items ≡ row.old.items ++ encode_lower (octet ∷ []) }
@@ -84,7 +84,7 @@ fn put_octet(row: &mut Row, octet: u8)
     put(row, digits.as_slice());
 }
 
-/// The octets of command `i` of producer `p`, as digits.
+/// Appends the octets of command `i` of producer `p`, 1 to 500 of them, as hexadecimal digits.
 fn put_octets(row: &mut Row, n: u32, p: u32, i: u32)
     requires p { p ≤ 3 }
     requires i { i < 100 }
@@ -98,7 +98,7 @@ fn put_octets(row: &mut Row, n: u32, p: u32, i: u32)
     }
 }
 
-/// The line of command `k` of all.
+/// The line of command `k` of all, from 0. Every tenth command of a producer is a `mark`; the others are `data`.
 fn command_row(n: u32, k: u32) -> Row
     requires { k < 300 }
     ensures { result.items ≡ command_piece n k }
@@ -117,7 +117,7 @@ fn command_row(n: u32, k: u32) -> Row
     row
 }
 
-/// Line `k` of the script.
+/// Line `k` of the script, from 0.
 fn row_at(n: u32, k: u32) -> Row
     requires { k < 311 }
     ensures { result.items ≡ slice_index_or (generated_pieces n) k [] }
@@ -128,8 +128,12 @@ fn row_at(n: u32, k: u32) -> Row
     command_row(n, k - SETTINGS)
 }
 
-/// Writes the script for this number, a line at a time: three producers send 90 objects each to 16 receivers over a
-/// network that loses one datagram in ten. It stops at the first write that fails.
+/// Writes the script of this number, one line with each write: three producers send 90 objects each to 16 receivers, over a network that loses
+/// one datagram in ten. Allocates no memory.
+///
+/// # Errors
+///
+/// `Failed` if a write fails. Nothing is written after it.
 pub fn generate<K: Sink>(n: u32, output: &mut K) -> Result<(), Failed>
     ensures ok { OnOk result (K.pieces output.new ≡ gained (K.pieces output.old) (generated_pieces n)) }
     ensures text { OnOk result (written_of (K.pieces output.new) ≡ gained (written_of (K.pieces output.old)) (generate_text n)) }

@@ -1,4 +1,5 @@
-//! A script's head: the lines before the first command, which set keys.
+//! Reads a script's head: the lines before the first command, which set keys. The reader of scripts calls [`read_head`], and then
+//! [`profile`](Head::profile).
 
 ghost use Rattle.std.specs.Prelude.{◌≡◌, ◌≤◌, IfOk, OnOk, is_some, unwrap_or};
 ghost use Rattle.norm_base.specs.Given.{value_in};
@@ -17,7 +18,7 @@ use std::marker::Model;
 // Our own choice: twice as many as commands, for settings, comments and empty lines. A line more is refused with `ManyLines`.
 pub const MOST_LINES: u32 = 8192;
 
-/// What a head says so far.
+/// The settings of a head so far, and the first line that is refused. Each line is taken in with [`take_line`](Head::take_line).
 #[derive(Drop)]
 pub(crate) struct Head {
     settings: Vec<Setting>,
@@ -32,7 +33,7 @@ impl Model for Head {
     ghost view = { λ h. record { settings = h.settings.items; refused = h.refused } };
 }
 
-/// The setting of a key.
+/// The setting of this key, if there is one.
 fn setting_of_key(settings: &[Setting], key: Key) -> Option<Setting>
     ensures { result ≡ setting_of_key key settings.now }
 {
@@ -45,7 +46,7 @@ fn setting_of_key(settings: &[Setting], key: Key) -> Option<Setting>
 }
 
 impl Head {
-    /// No key is set.
+    /// A head that sets no key.
     fn new(alloc: Global) -> Head
         ensures { result ≡ nothing_set }
     {
@@ -55,7 +56,7 @@ impl Head {
         }
     }
 
-    /// A line has no meaning. The first one counts.
+    /// Refuses a line. Does nothing if a line was refused before.
     fn refuse(&mut self, line: u32, why: Why)
         ensures { self.new ≡ refuse self.old line why }
     {
@@ -64,7 +65,7 @@ impl Head {
         }
     }
 
-    /// A line sets a key, which it may where no line before it did.
+    /// Sets a key. If an earlier line has set it, refuses this line instead.
     fn set_once(&mut self, new: Setting) -> Result<(), Memory>
         ensures { OnOk result (self.new ≡ set_once self.old new (setting_of_key new.key self.old.settings)) }
     {
@@ -84,7 +85,7 @@ impl Head {
         }
     }
 
-    /// Takes in what line `n` means. `false` where it is a command, which ends the head.
+    /// Takes in what line `n` means. Returns `false` if it is a command, which ends the head.
     fn take(&mut self, n: u32, meaning: Result<Meaning, Why>) -> Result<bool, Memory>
         ensures { IfOk result (λ taken. let next = head_after self.old n meaning in
             (taken ≡ is_some next) × (self.new ≡ unwrap_or next self.old)) }
@@ -108,7 +109,7 @@ impl Head {
         }
     }
 
-    /// Takes in line `n`. `false` where the head ends before it.
+    /// Takes in line `n`. Returns `false` if the head ends before it: it is a command, or a line too many.
     fn take_line(&mut self, alloc: Global, n: u32, line: &[u8]) -> Result<bool, Memory>
         ensures { IfOk result (λ taken. let next = head_line self.old n line.now in
             (taken ≡ is_some next) × (self.new ≡ unwrap_or next self.old)) }
@@ -120,7 +121,11 @@ impl Head {
         self.take(n, meaning)
     }
 
-    /// The profile that the settings make, or the first line without meaning.
+    /// Returns the profile that the settings make.
+    ///
+    /// # Errors
+    ///
+    /// The earliest line without meaning. If the settings break a rule across keys, this counts as a refusal of the last line that sets a key.
     pub(crate) fn profile(&self) -> Result<Profile, Refusal>
         ensures { result ≡ profile_of self.now }
     {
@@ -145,7 +150,7 @@ impl Head {
     }
 }
 
-/// The values that are set.
+/// The values that the settings give to their keys.
 fn given_by(settings: &[Setting]) -> Given
     ensures { result ≡ given_by settings.now }
 {
@@ -156,7 +161,7 @@ fn given_by(settings: &[Setting]) -> Given
     given
 }
 
-/// The line that sets the last key.
+/// The line of the last setting, or 0 if there is none.
 fn last_set(settings: &[Setting]) -> u32
     ensures { result ≡ last_set settings.now }
 {
@@ -167,7 +172,7 @@ fn last_set(settings: &[Setting]) -> u32
     line
 }
 
-/// Which of the two rules across keys is broken.
+/// Which of the two rules across keys is broken. Call it only if one is.
 fn broken_rule(given: &Given) -> Why
     ensures { result ≡ broken_rule (value_in given.now) }
 {
@@ -183,14 +188,14 @@ fn broken_rule(given: &Given) -> Why
     }
 }
 
-/// The refusal of the earlier line.
+/// The refusal of the earlier line, or `b` if both are of the same line.
 fn earlier(a: Refusal, b: Refusal) -> Refusal
     ensures { result ≡ earlier a b }
 {
     if a.line < b.line { a } else { b }
 }
 
-/// A head, and the text behind it, whose first line has this number.
+/// A head, and the text after it, which begins with line `next`.
 #[derive(Drop)]
 pub(crate) struct Begun<'a> {
     pub(crate) head: Head,
@@ -198,7 +203,11 @@ pub(crate) struct Begun<'a> {
     pub(crate) rest: &'a [u8],
 }
 
-/// Reads a script's head.
+/// Reads a script up to its first command, or up to its end. A line beyond the most lines ends the head too.
+///
+/// # Errors
+///
+/// `Memory` if memory runs out.
 pub(crate) fn read_head(alloc: Global, text: &[u8]) -> Result<Begun<'_>, Memory>
     ensures head { IfOk result (λ begun. head_from nothing_set 1 (text_lines text.now) ≡
         record { head = begun.head; next = begun.next; rest = text_lines begun.rest.now }) }

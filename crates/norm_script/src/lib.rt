@@ -1,10 +1,10 @@
-//! What a session is told: the grammar of scripts, and its reader.
+//! Scripts: what a session is asked to do, as lines of text, and their reader.
 //!
-//! `read_script` makes a `Script` (a profile and the commands) of a text, or answers the first line without
-//! meaning; `why_refused` says why that line has none. `read_commands` reads a script for a profile that is
-//! given, and `read` reads as much of the grammar as it is told to. `generate` writes a script to try a
-//! session with. The program reads with these, and `norm_session` runs what they read. `split_at_first` cuts a
-//! text at a line feed or a space, and `spelling_of` says how an editor spelt a line, for whoever reads other lines.
+//! [`read`] makes a [`Script`] (a profile and commands) of a text, or returns the first line without meaning and why it has none. [`read_script`]
+//! returns only the number of that line, and [`why_refused`] no script. [`read_commands`] reads a script whose profile is given. [`generate`]
+//! writes a script to try a session with. The program reads with these, and `norm_session` runs what they read. Readers of other lines use
+//! [`split_at_first`], which cuts a text at a line feed or a space, [`number_within`], [`name_of`], and [`spelling_of`], which finds what an
+//! editor did to a line.
 #![tactic(auto)]
 
 mod generator;

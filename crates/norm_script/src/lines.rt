@@ -1,11 +1,11 @@
-//! The lines of a text.
+//! Cuts a text into lines. The readers call [`first_line`] until no text is left.
 
 ghost use Rattle.std.specs.Prelude.{◌≡◌, ◌≤◌, ◌<◌, ◌∷◌, length};
 ghost use Rattle.norm_script.specs.Text.{text_lines};
 
 use crate::words::split_at_first;
 
-/// The first line of a text that is not empty, and what follows it.
+/// Returns the first line of a text without its line feed, and what follows it. The text must not be empty.
 // Proof: the definition goes octet by octet, and the code cuts at the first line feed. text_lines-some and text_whole join them.
 pub(crate) fn first_line(text: &[u8]) -> (&[u8], &[u8])
     requires { 1 ≤ length text.now }

@@ -1,4 +1,4 @@
-//! What a line of a script means by itself.
+//! What a line of a script means by itself, without the lines before it. The readers of heads and of commands call [`meaning_of`].
 
 ghost use Rattle.std.specs.Prelude.{◌≡◌, ◌≤◌, ◌==◌, ◌||◌, length, slice_index, IfOk};
 ghost use Rattle.norm_script.specs.Meaning.{number_for, value_for, setting_of, contents, data_of, file_of, write_of, restart_of, mark_of, strike_of, verb_with, verb_alone, verb_of, command_of, meaning_of_words, is_passed_over, meaning_of};
@@ -17,7 +17,7 @@ use std::alloc::Global;
 // unread.
 const MOST_OCTETS: usize = 16_500;
 
-/// The greatest quorum: a session has at most so many receivers.
+/// The greatest quorum: a session has at most this many receivers.
 // The greatest value of the key `receivers`.
 const MOST_QUORUM: u32 = 16;
 
@@ -25,18 +25,18 @@ const MOST_QUORUM: u32 = 16;
 // RFC 5740 section 4.1: 2^32 - 1 is NORM_NODE_ANY and names no member.
 const LAST_NODE: u32 = 4_294_967_294;
 
-/// What a line means by itself.
+/// What a line means by itself. The reader may still refuse the line: its key may be set twice, or its producer may not exist.
 #[derive(Debug, Drop)]
 pub enum Meaning {
-    /// It is empty, or a comment.
+    /// The line is empty or a comment.
     Nothing,
-    /// A key has this value.
+    /// The line sets a key to this value.
     Set { key: Key, value: u32 },
-    /// A producer's command.
+    /// The line is a producer's command.
     Command { producer: u32, verb: Verb },
 }
 
-/// The number in a key's range that a word spells.
+/// The number in a key's range that a word spells, or why it spells none.
 fn number_for(key: Key, word: &[u8]) -> Result<u32, Why>
     ensures { result ≡ number_for key word.now }
 {
@@ -54,7 +54,7 @@ fn number_for(key: Key, word: &[u8]) -> Result<u32, Why>
     }
 }
 
-/// The value of a key that a word spells.
+/// The value of a key that a word spells, or why it spells none.
 fn value_for(key: Key, word: &[u8]) -> Result<u32, Why>
     ensures { result ≡ value_for key word.now }
 {
@@ -76,14 +76,14 @@ fn setting_of(words: &[u8]) -> Result<Meaning, Why>
     Ok(Meaning::Set { key, value })
 }
 
-/// The contents that a word spells.
+/// The contents that a word spells, or `NoContents`.
 fn contents(alloc: Global, word: &[u8]) -> Result<Result<Octets, Why>, Memory>
     ensures { IfOk result (λ bytes. bytes ≡ contents word.now) }
 {
     Ok(contents_of(alloc, word)?.ok_or(Why::NoContents))
 }
 
-/// An object without an info.
+/// The `data` command of an object without an info.
 fn bare_data(alloc: Global, word: &[u8]) -> Result<Result<Verb, Why>, Memory>
     ensures { IfOk result (λ verb. verb ≡ data_of None word.now) }
 {
@@ -93,7 +93,7 @@ fn bare_data(alloc: Global, word: &[u8]) -> Result<Result<Verb, Why>, Memory>
     }
 }
 
-/// An object with an info.
+/// The `data` command of an object with an info.
 fn data_with_info(alloc: Global, word: &[u8], info: &[u8]) -> Result<Result<Verb, Why>, Memory>
     ensures { IfOk result (λ verb. verb ≡ data_of (Some (word.now, info.now)) word.now) }
 {
@@ -202,7 +202,7 @@ fn verb_with(alloc: Global, name: &[u8], words: &[u8]) -> Result<Result<Verb, Wh
     Ok(Err(Why::NoVerb))
 }
 
-/// The verb that a word alone is.
+/// The verb that a word alone is, if it is one: `open`, `close` or `mark`.
 fn verb_alone(word: &[u8]) -> Option<Verb>
     ensures { result ≡ verb_alone word.now }
 {
@@ -264,7 +264,11 @@ fn is_passed_over(line: &[u8]) -> bool
     line.is_empty() || line[0] == b'#'
 }
 
-/// What a line means, or why it has no meaning.
+/// Returns what a line means, or why it has no meaning.
+///
+/// # Errors
+///
+/// `Memory` if memory runs out.
 pub(crate) fn meaning_of(alloc: Global, line: &[u8]) -> Result<Result<Meaning, Why>, Memory>
     ensures { IfOk result (λ meaning. meaning ≡ meaning_of line.now) }
 {

@@ -1,4 +1,4 @@
-//! The reader of scripts.
+//! Reads scripts: [`read`] one that sets its own profile, [`read_commands`] one whose profile is given. The program calls both.
 
 ghost use Rattle.std.specs.Prelude.{◌≡◌, ◌+◌, ◌≤◌, ◌==◌, count_by, length, MatchResult, Ok, IfOk};
 ghost use Rattle.std.specs.Result.{result_err};
@@ -21,14 +21,14 @@ use std::alloc::Global;
 // means another object. One more command is refused with `ManyCommands`.
 const MOST_COMMANDS: usize = 4096;
 
-/// How many of these commands a producer has.
+/// How many of these commands are this producer's.
 fn count_of(lines: &[Line], producer: u32) -> usize
     ensures { result ≡ count_by (λ l. l.producer == producer) lines.now }
 {
     lines.iter().filter(|l| l.producer == producer).count()
 }
 
-/// A producer's next command.
+/// A producer's next command, with its number.
 fn next_line(before: &[Line], producer: u32, verb: Verb) -> Line
     requires { length before.now ≤ most_commands }
     ensures { result ≡ next_line before.now producer verb }
@@ -40,7 +40,7 @@ fn next_line(before: &[Line], producer: u32, verb: Verb) -> Line
     }
 }
 
-/// Why a command behind so many is refused, where it is.
+/// Why a command after `before` others is refused, if it is.
 fn command_refused(profile: &Profile, before: usize, producer: u32) -> Option<Why>
     ensures { result ≡ command_refused profile.now before producer }
 {
@@ -57,7 +57,7 @@ fn command_refused(profile: &Profile, before: usize, producer: u32) -> Option<Wh
     None
 }
 
-/// Takes a command in. Answers why it is refused, where it is.
+/// Appends a command. If it is refused, returns why and appends nothing.
 fn add(
     profile: &Profile,
     lines: &mut Vec<Line>,
@@ -76,7 +76,7 @@ fn add(
     }
 }
 
-/// Takes in what a line means. Answers why it is refused, where it is.
+/// Takes in what a line means. Returns why the line is refused, if it is.
 fn take_in(
     profile: &Profile,
     lines: &mut Vec<Line>,
@@ -91,7 +91,7 @@ fn take_in(
     }
 }
 
-/// Takes in line `n`. Answers why it is refused, where it is.
+/// Takes in line `n`. Returns why it is refused, if it is.
 fn take_line(
     alloc: Global,
     profile: &Profile,
@@ -110,7 +110,7 @@ fn take_line(
     }
 }
 
-/// Reads commands, from line `n` on.
+/// Reads commands. The text begins with line `n` of the script.
 fn read_from(
     alloc: Global,
     profile: Profile,
@@ -135,7 +135,11 @@ fn read_from(
     Ok(Ok(Script { profile, lines }))
 }
 
-/// Reads a script: its profile and its commands, or the first line without meaning and why it has none.
+/// Reads a script: its profile and its commands. Returns the first line without meaning, and why it has none, if there is one.
+///
+/// # Errors
+///
+/// `Memory` if memory runs out.
 pub fn read(alloc: Global, text: &[u8]) -> Result<Result<Script, Refusal>, Memory>
     ensures { IfOk result (λ read. read ≡ script_of text.now) }
 {
@@ -146,7 +150,11 @@ pub fn read(alloc: Global, text: &[u8]) -> Result<Result<Script, Refusal>, Memor
     }
 }
 
-/// Reads a script: its profile and its commands. A line without meaning refuses it, the first one counts.
+/// Reads a script: its profile and its commands.
+///
+/// # Errors
+///
+/// `Line` with the number of the first line without meaning, or `Memory` if memory runs out.
 pub fn read_script(alloc: Global, text: &[u8]) -> Result<Script, ScriptFault>
     ensures { MatchResult result (λ script. script_of text.now ≡ Ok script) (IsRefused (script_of text.now)) }
 {
@@ -157,7 +165,11 @@ pub fn read_script(alloc: Global, text: &[u8]) -> Result<Script, ScriptFault>
     }
 }
 
-/// Reads a script for a profile that is given: no line of it sets a key.
+/// Reads a script whose profile is given. A line that sets a key is refused.
+///
+/// # Errors
+///
+/// `Line` with the number of the first line without meaning, or `Memory` if memory runs out.
 // It answers the line alone. Why the line has no meaning is found by a second reading, since only people need to know it.
 pub fn read_commands(alloc: Global, text: &[u8], profile: &Profile) -> Result<Script, ScriptFault>
     ensures { MatchResult result (λ script. commands_of profile.now text.now ≡ Ok script) (IsRefused (commands_of profile.now text.now)) }
@@ -169,7 +181,11 @@ pub fn read_commands(alloc: Global, text: &[u8], profile: &Profile) -> Result<Sc
     }
 }
 
-/// Why the first line of a script that has no meaning has none. `None` where each line has one.
+/// Reads a script, and returns the first line without meaning and why it has none. `None` if each line has a meaning.
+///
+/// # Errors
+///
+/// `Memory` if memory runs out.
 pub fn why_refused(alloc: Global, text: &[u8]) -> Result<Option<Refusal>, Memory>
     ensures { IfOk result (λ refusal. refusal ≡ result_err (script_of text.now)) }
 {

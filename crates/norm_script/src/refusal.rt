@@ -1,4 +1,4 @@
-//! Why a script is refused.
+//! Why a script is refused. [`Refusal`] has the line and the reason, and prints both; [`ScriptFault`] has only the line.
 
 use norm_base::Key;
 use thiserror::Error;
@@ -8,7 +8,7 @@ use thiserror::Error;
 pub enum Why {
     /// It begins with the byte order mark of UTF-8.
     ByteOrderMark,
-    /// It has an octet as UTF-16 has.
+    /// It has an octet 0, 254 or 255, as a text in UTF-16 has.
     Utf16,
     /// It ends with a carriage return.
     CarriageReturn,
@@ -16,45 +16,45 @@ pub enum Why {
     SpaceAtEnd,
     /// It has two spaces in a row.
     TwoSpaces,
-    /// It has so many octets, and is longer than a line may be.
+    /// It has this many octets, and is longer than a line may be.
     LongLine { octets: u64 },
-    /// It is a line more than a script may have.
+    /// The script has more lines than it may have. This is the first beyond them.
     ManyLines,
     /// It is neither a setting nor a command.
     NoForm,
-    /// It sets no key that there is.
+    /// It sets a key that does not exist.
     NoKey,
-    /// The key's value is a number, and no number is there.
+    /// The key takes a number, and the value is not one.
     NoNumber { key: Key },
-    /// The key's value is a word, and another is there.
+    /// The key takes certain words, and the value is not one of them.
     NoWord { key: Key },
-    /// The value is below the key's least.
+    /// The value is less than the key's least.
     Below { key: Key, value: u32 },
-    /// The value is above the key's greatest.
+    /// The value is more than the key's greatest.
     Above { key: Key },
-    /// The key was set on this line already.
+    /// The key was set before, on line `line`.
     Twice { key: Key, line: u32 },
-    /// A key is set behind a command.
+    /// It sets a key after a command, or in a script whose profile is given.
     AfterCommand,
-    /// The settings make max_n less than b.
+    /// The settings make `max_n` less than `b`.
     MaxBelowB { max_n: u32, b: u32 },
-    /// The settings make a stream's buffer too long.
+    /// The settings make a stream's buffer, of `blocks` * `b` * `e` octets, too long.
     Buffer { blocks: u32, b: u32, e: u32 },
-    /// No command has this verb, or these words.
+    /// The verb does not exist, or takes other words.
     NoVerb,
-    /// Contents are no hexadecimal digits, or too many.
+    /// The contents are not an even number of hexadecimal digits, or too many.
     NoContents,
-    /// It is no name of a file.
+    /// The word is not a name of a file.
     NoName,
-    /// It is no instance id.
+    /// The word is not an instance id.
     NoInstance,
-    /// It is no quorum.
+    /// The word is not a quorum.
     NoQuorum,
-    /// It is no node id.
+    /// The word is not a node id.
     NoNode,
-    /// It is a command more than a script may have.
+    /// The script has more commands than it may have. This is the first beyond them.
     ManyCommands,
-    /// There is no such producer.
+    /// The profile has `producers` producers, and this one is not among them.
     Producer { producer: u32, producers: u32 },
 }
 
@@ -71,7 +71,7 @@ pub enum ScriptFault {
     /// Line `n`, from 1, is the first that has no meaning.
     #[error("line {n} has no meaning")]
     Line { n: u32 },
-    /// There was no memory.
+    /// Memory ran out.
     #[error("out of memory")]
     Memory,
 }

@@ -1,4 +1,4 @@
-//! What a session is asked to do.
+//! A [`Script`], as it was read: a profile and the commands of all producers.
 
 use norm_base::{NodeId, Octets, Profile, Text};
 use std::marker::Model;
@@ -8,23 +8,23 @@ use std::marker::Model;
 pub enum Verb {
     /// Sends a data object, with its info if it has one.
     Data { info: Option<Octets>, bytes: Octets },
-    /// Sends the file of this name, which is the object's info.
+    /// Sends the file of this name. The name is the object's info.
     File { name: Text },
     /// Begins a stream.
     Open,
-    /// Adds octets to the open stream.
+    /// Appends octets to the open stream.
     Write { bytes: Octets },
     /// Ends the open stream.
     Close,
-    /// Asks which receivers have everything up to here: so many of them, or all.
+    /// Asks which receivers have everything up to here. `quorum` of them are enough, or all of them are needed if it is not given.
     Mark { quorum: Option<u32> },
     /// Begins a new instance of the sender.
     Restart { instance: u16 },
-    /// Takes a receiver from the sender's list for good.
+    /// Removes a receiver from the sender's list, for good.
     Strike { node: NodeId },
 }
 
-/// A command: its producer, that producer's number of it (1, 2, ..), and what it does.
+/// A command: its producer, its number among this producer's commands, from 1, and what it does.
 #[derive(Debug, Drop)]
 pub struct Line {
     pub producer: u32,
@@ -32,7 +32,7 @@ pub struct Line {
     pub verb: Verb,
 }
 
-/// A session's profile and its commands in their order.
+/// A session's profile, and its commands in order.
 #[derive(Debug, Drop)]
 pub struct Script {
     pub profile: Profile,

@@ -1,4 +1,4 @@
-//! The sentence of each reason.
+//! Prints refusals for people: a sentence for each [`Why`]. The program writes them to standard error.
 
 ghost use Rattle.std.specs.Prelude.{Some};
 ghost use Rattle.std.specs.Fmt.{DisplaysOnOk};
@@ -7,7 +7,7 @@ ghost use Rattle.norm_script.specs.Sentences.{sentence_of, refusal_text, sentenc
 use crate::refusal::{Refusal, Why};
 use std::fmt;
 
-/// The sentence of a reason that speaks of a key.
+/// Prints a reason that names a key. Prints nothing for another reason.
 fn say_key<W: fmt::Write>(why: Why, f: &mut fmt::Formatter<W>) -> fmt::Result
     ensures { DisplaysOnOk W.write_str_gives f.old result (sentence_by_key why) f.new }
 {
@@ -41,7 +41,7 @@ fn say_key<W: fmt::Write>(why: Why, f: &mut fmt::Formatter<W>) -> fmt::Result
     }
 }
 
-/// The sentence of a reason that speaks of numbers alone.
+/// Prints a reason that has numbers and no key. Prints nothing for another reason.
 fn say_numbers<W: fmt::Write>(why: Why, f: &mut fmt::Formatter<W>) -> fmt::Result
     ensures { DisplaysOnOk W.write_str_gives f.old result (sentence_by_numbers why) f.new }
 {

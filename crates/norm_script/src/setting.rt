@@ -1,4 +1,4 @@
-//! A line that sets a key.
+//! A line that sets a key, after it was read.
 
 use norm_base::Key;
 

@@ -1,4 +1,5 @@
-//! How editors spell a text otherwise than a script is spelt.
+//! Finds what an editor did to a line, such as a carriage return at its end. [`spelling_of`] is called if a line has no meaning, because this may
+//! be the cause.
 
 ghost use Rattle.std.specs.Prelude.{◌≡◌, ◌≤◌, ◌==◌, false, length};
 ghost use Rattle.std.specs.List.{list_any};
@@ -13,7 +14,7 @@ fn begins_with_mark(line: &[u8]) -> bool
     3 <= line.len() && line[0] == 0xef && line[1] == 0xbb && line[2] == 0xbf
 }
 
-/// Whether it has an octet 0, 254 or 255.
+/// Whether a line has an octet 0, 254 or 255.
 // UTF-16 has 254 and 255 in its mark, and 0 beside each ASCII letter. A text in UTF-8 has none of these unless it has a NUL.
 fn is_wide(line: &[u8]) -> bool
     ensures { result ≡ list_any is_wide line.now }
@@ -21,7 +22,7 @@ fn is_wide(line: &[u8]) -> bool
     line.iter().any(|octet| *octet == 0 || 254 <= *octet)
 }
 
-/// Whether it has two spaces in a row.
+/// Whether a line has two spaces in a row.
 fn has_two_spaces(line: &[u8]) -> bool
     ensures { result ≡ has_two_spaces false line.now }
 {
@@ -36,7 +37,7 @@ fn has_two_spaces(line: &[u8]) -> bool
     false
 }
 
-/// Whether its last octet is this one.
+/// Whether the last octet of a line is this one.
 fn ends_with(line: &[u8], octet: u8) -> bool
     requires { 1 ≤ length line.now }
     ensures { result ≡ (last_octet line.now == octet) }
@@ -44,7 +45,8 @@ fn ends_with(line: &[u8], octet: u8) -> bool
     line[line.len() - 1] == octet
 }
 
-/// How a line that is not empty is spelt otherwise than a script is, as editors do. `None` where it has none of these.
+/// Returns what an editor did to a line: a byte order mark, UTF-16, a carriage return, a space at the end, or two spaces in a row. `None` if the
+/// line has none of these. It must not be empty.
 pub fn spelling_of(line: &[u8]) -> Option<Why>
     requires { 1 ≤ length line.now }
     ensures { result ≡ spelling_of line.now }

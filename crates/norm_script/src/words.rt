@@ -1,4 +1,4 @@
-//! The words that lines are made of.
+//! Reads the words of a line: numbers, contents in hexadecimal, and names of files.
 
 ghost use Rattle.std.specs.Prelude.{◌≡◌, ◌≤◌, ◌==◌, ◌||◌, if◌then◌else◌, not, nat_le, Some, None, List, ℕ, length, slice_index, IfOk, IfSome};
 ghost use Rattle.std.specs.List.{list_all};
@@ -18,7 +18,7 @@ const MOST_DIGITS: usize = 16_384;
 // Our own choice, for names that every file system takes, and that fit an info: the least `e` is 64 too.
 const MOST_NAME: usize = 64;
 
-/// The octets before the first of these, and those after it. `None` where there is none.
+/// Returns the octets before the first `octet`, and those after it. `None` if it does not occur.
 pub fn split_at_first(bytes: &[u8], octet: u8) -> Option<(&[u8], &[u8])>
     ensures { option_map (λ x. (x.0.now, x.1.now)) result ≡ split_at_first octet bytes.now }
 {
@@ -38,7 +38,7 @@ fn all_digits(word: &[u8]) -> bool
     word.iter().all(|c| 48 <= *c && *c <= 57)
 }
 
-/// Whether digits have no leading zero.
+/// Whether decimal digits have no leading zero. `0` alone has none.
 fn begins_well(word: &[u8]) -> bool
     requires { 1 ≤ length word.now }
     ensures { result ≡ (length word.now == 1 || not (slice_index word.now 0 == 48)) }
@@ -46,14 +46,14 @@ fn begins_well(word: &[u8]) -> bool
     word.len() == 1 || word[0] != 48
 }
 
-/// Whether it is decimal digits without a sign or a leading zero.
+/// Whether a word is a number: decimal digits, at least one, without a sign or a leading zero.
 pub(crate) fn is_number(word: &[u8]) -> bool
     ensures { result ≡ is_number word.now }
 {
     1 <= word.len() && all_digits(word) && begins_well(word)
 }
 
-/// The value of digits, where it is at most `high`.
+/// The value of decimal digits. `None` if it is above `high`.
 pub(crate) fn value_up_to(word: &[u8], high: u32) -> Option<u64>
     ensures { result ≡ (if nat_le (value_of word.now) high then Some (value_of word.now) else None) }
 {
@@ -82,7 +82,11 @@ pub fn number_within(word: &[u8], low: u32, high: u32) -> Option<u32>
     }
 }
 
-/// The contents that a word spells in hexadecimal. `None` where it spells none.
+/// The contents that a word spells: an even number of hexadecimal digits, 2 to 16,384. `None` if it is anything else.
+///
+/// # Errors
+///
+/// `Memory` if memory runs out.
 pub(crate) fn contents_of(alloc: Global, word: &[u8]) -> Result<Option<Octets>, Memory>
     ensures { IfOk result (λ contents. contents ≡ contents_of word.now) }
 {
@@ -96,14 +100,14 @@ pub(crate) fn contents_of(alloc: Global, word: &[u8]) -> Result<Option<Octets>, 
     }
 }
 
-/// Whether an octet may stand in a name.
+/// Whether an octet may be part of a name.
 fn is_name_octet(c: u8) -> bool
     ensures { result ≡ is_name_octet c }
 {
     c.is_ascii_alphanumeric() || c == b'.' || c == b'_' || c == b'-'
 }
 
-/// Whether each octet may stand in a name.
+/// Whether every octet may be part of a name.
 fn all_name_octets(word: &[u8]) -> bool
     ensures { result ≡ list_all is_name_octet word.now }
 {
@@ -120,7 +124,7 @@ fn is_name(word: &[u8]) -> bool
     word.len() <= MOST_NAME && all_name_octets(word) && word[0] != b'.'
 }
 
-/// The file's name that a word is: 1 to 64 ASCII letters, digits, `.`, `_` or `-`, not beginning with `.`. `None` if it is none.
+/// The file's name that a word is: 1 to 64 ASCII letters, digits, `.`, `_` or `-`, not beginning with `.`. `None` if it is not one.
 ///
 /// # Errors
 ///

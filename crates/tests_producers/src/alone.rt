@@ -1,4 +1,4 @@
-//! A gate and a board in one thread.
+//! Tests of a gate and a board in one thread.
 ghost use Rattle.std.specs.Prelude.{◌≡◌, All, IfSome};
 
 use mark_book::Outcome;
@@ -10,7 +10,7 @@ use std::alloc::Global;
 use std::sync::Wait;
 use std::test::Fail;
 
-/// What each call of the small ring answered: three submits, three pulls, and the end.
+/// What each call of the small ring returned: three submits, three pulls, and the order at the end.
 #[derive(Debug, Drop)]
 struct Answers {
     submits: [Result<u64, (u32, GateFault)>; 3],
@@ -23,7 +23,7 @@ fn name_of(pulled: Option<Submitted>) -> Option<(u32, u64)> {
     pulled.map(|command| (command.producer, command.number))
 }
 
-/// Submits once the turnstile was passed.
+/// Passes the turnstile, and then submits.
 fn submit<R: Wait>(
     rt: &R,
     gate: &Gate,
@@ -38,7 +38,7 @@ fn submit<R: Wait>(
     gate.submit(rt, seat, item)
 }
 
-/// Pulls, and names what came.
+/// Pulls, and returns the producer and the number of the command, if one came.
 fn pull<R: Wait>(rt: &R, gate: &Gate, seat: &mut PullSeat) -> Option<(u32, u64)>
     requires { seat.old.gate ≡ gate.now.id }
     ensures { seat.new.gate ≡ seat.old.gate }
@@ -46,7 +46,7 @@ fn pull<R: Wait>(rt: &R, gate: &Gate, seat: &mut PullSeat) -> Option<(u32, u64)>
     name_of(gate.pull(rt, seat))
 }
 
-/// The first and the second of two seats.
+/// Both seats of a list of two.
 fn both(gate: &Gate, mut seats: Vec<Seat>) -> Option<(Seat, Seat)>
     requires { All (λ s. s.gate ≡ gate.now.id) seats.items }
     ensures { IfSome result (λ pair. (pair.0.gate ≡ gate.now.id) × (pair.1.gate ≡ gate.now.id)) }
@@ -56,7 +56,7 @@ fn both(gate: &Gate, mut seats: Vec<Seat>) -> Option<(Seat, Seat)>
     Some((first, second))
 }
 
-/// Two producers at a ring of one place.
+/// Runs two producers at a ring of one slot.
 fn small_ring<R: Wait>(rt: &R, alloc: Global) -> Result<Option<Answers>, Memory> {
     let (gate, seats, mut all) = Gate::new(alloc, 2, 1)?;
     let Some((mut first, mut second)) = both(&gate, seats) else {
@@ -87,7 +87,7 @@ fn a_full_ring_hands_the_item_back_and_it_comes_once(rt: HostRuntime) -> Result<
     Ok(())
 }
 
-/// Publishes an outcome, and tells the reader of it.
+/// Publishes an outcome, and reports it to the reader. Returns how many were published.
 fn tell(
     board: &mut Board,
     reader: &mut BoardReader,
@@ -103,7 +103,7 @@ fn tell(
     Ok(count)
 }
 
-/// What one reader finds of two marks before and after it was told, and after a later entry.
+/// What one reader finds of two marks, before and after each outcome was reported to it.
 fn looks_of(alloc: Global) -> Result<Option<[Seen; 5]>, Memory> {
     let (mut board, mut readers) = Board::new(alloc, 1)?;
     let Some(mut reader) = readers.pop() else {

@@ -1,4 +1,4 @@
-//! Tests of what the threads of a session share: the ring of the producers, and the board of outcomes. No other code stands here.
+//! Tests of what the threads of a session share: the ring of the producers, and the board of outcomes. There is no other code here.
 #![tactic(auto)]
 
 #[cfg(test)]

@@ -1,4 +1,4 @@
-//! Lines of a session, each written in one piece.
+//! Tests of the lines of a session: hand-ups, changes and the summary.
 ghost use Rattle.std.specs.Prelude.{◌≡◌, None};
 
 use fec_plan::Position;
@@ -13,7 +13,7 @@ use norm_text::Line;
 use norm_turns::{SessionFault, write_end, write_news, write_up};
 use std::alloc::Global;
 
-/// Whether these octets were written, and no others.
+/// Whether these octets were written, and no others. `false` if there was a fault.
 fn is_written(output: Result<MemSink, SessionFault>, text: &[u8]) -> bool {
     match output {
         Ok(sink) => sink.bytes() == text,
@@ -21,12 +21,12 @@ fn is_written(output: Result<MemSink, SessionFault>, text: &[u8]) -> bool {
     }
 }
 
-/// A sink that nothing was written to.
+/// An empty sink.
 fn empty_sink(alloc: Global) -> MemSink {
     MemSink::of(Vec::new(alloc), Vec::new(alloc))
 }
 
-/// Octets of a test, in memory of their own.
+/// A copy of these octets.
 fn octets(alloc: Global, bytes: &[u8]) -> Result<Octets, Memory> {
     let mut list = Vec::new(alloc);
     for octet in bytes {
@@ -35,7 +35,7 @@ fn octets(alloc: Global, bytes: &[u8]) -> Result<Octets, Memory> {
     Ok(Octets::of(list))
 }
 
-/// A data object that is handed up.
+/// A data object, handed up.
 fn hello(alloc: Global) -> Result<Up, Memory> {
     let bytes = octets(alloc, b"hello")?;
     Ok(Up::Object {
@@ -46,7 +46,7 @@ fn hello(alloc: Global) -> Result<Up, Memory> {
     })
 }
 
-/// A file that is handed up.
+/// A file, handed up.
 fn file(alloc: Global) -> Result<Up, Memory> {
     let name = octets(alloc, b"hi.txt")?;
     let bytes = octets(alloc, b"hi")?;
@@ -58,7 +58,7 @@ fn file(alloc: Global) -> Result<Up, Memory> {
     })
 }
 
-/// An octet of a stream that is handed up.
+/// One octet of a stream, handed up.
 fn letter(alloc: Global) -> Result<Up, Memory> {
     let bytes = octets(alloc, b"A")?;
     Ok(Up::StreamBytes {
@@ -80,7 +80,7 @@ fn up_of(alloc: Global, row: u32) -> Result<Up, Memory> {
     }
 }
 
-/// What is written of the hand-up of a row, by node 2 in instance 7.
+/// What is written of the hand-up of a row, if node 2 made it in instance 7.
 fn up_written(alloc: Global, row: u32) -> Result<MemSink, SessionFault> {
     let node = NodeId::of(2).ok_or(Memory)?;
     let up = up_of(alloc, row)?;
@@ -108,7 +108,7 @@ fn a_hand_up_is_written(rt: HostRuntime) {
     }
 }
 
-/// Whether a sender took a command.
+/// Gives a command to a sender. Returns whether the sender took it.
 fn gives(sender: &mut Sender, job: Job) -> bool
     requires { sender.old.window.filling ≡ None }
     ensures { sender.new.window.filling ≡ None }
@@ -120,7 +120,7 @@ fn gives(sender: &mut Sender, job: Job) -> bool
     sender.command(by, job, Moment(0)).is_ok()
 }
 
-/// A sender of instance 7, whose first watermark its one receiver, node 2, has not confirmed.
+/// A sender of instance 7. Its one receiver, node 2, has not confirmed its first watermark.
 fn asking(alloc: Global) -> Result<Sender, Memory> {
     let bytes = octets(alloc, b"hello")?;
     let mut sender = Sender::new(alloc, &Profile::default(), InstanceId(7))?;
@@ -177,7 +177,7 @@ fn a_change_is_written(rt: HostRuntime) {
     }
 }
 
-/// What is written of these counts.
+/// The summary line of these counts.
 fn end_written(alloc: Global, totals: &Totals) -> Result<MemSink, SessionFault> {
     let mut line = Line::new(alloc);
     let mut output = empty_sink(alloc);

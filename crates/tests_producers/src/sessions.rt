@@ -1,4 +1,4 @@
-//! What a session does with its gate and its board.
+//! Tests of what a session does with its gate and its board.
 ghost use Rattle.std.specs.Prelude.{◌≡◌, IfOk, IfSome};
 ghost use Rattle.norm_base.specs.Octets.{AreOctets};
 ghost use Rattle.norm_base.specs.Settings.{InRange};
@@ -19,7 +19,7 @@ use std::thread;
 use std::thread::Threads;
 use std::time::{Clock, Duration};
 
-/// The script that a text is, if it can be run.
+/// The script in a text. `None` if a line is refused.
 fn script_of(alloc: Global, text: &[u8]) -> Result<Option<Script>, Memory>
     ensures { IfOk result (λ found. IfSome found CanRun) }
 {
@@ -30,7 +30,7 @@ fn script_of(alloc: Global, text: &[u8]) -> Result<Option<Script>, Memory>
     }
 }
 
-/// A sink that keeps nothing of what is written. At its first write it looks at a flag.
+/// A sink that keeps nothing of what is written. At the first write it reads a flag.
 #[derive(Drop)]
 struct Looking<'a> {
     flag: &'a AtomicU64,
@@ -63,7 +63,7 @@ impl Sink for Looking<'_> {
     }
 }
 
-/// How the session of a script ended, in memory, with its producers at this turnstile.
+/// Runs the session of a script in memory, with its producers at this turnstile, and returns how it ended.
 fn ran<R: Threads + Wait + Sync, G: Turnstile + Sync, K: Sink>(
     rt: &R,
     alloc: Global,
@@ -91,8 +91,8 @@ fn ran<R: Threads + Wait + Sync, G: Turnstile + Sync, K: Sink>(
     )
 }
 
-/// What a reader finds of marks 1 and 2 once it was told of all that the session of a text published, with its producers at this turnstile. `None`
-/// if the session was not done.
+/// Runs the session of a text with its producers at this turnstile, and returns what a reader then finds of marks 1 and 2 if it was told of all
+/// that the session published. `None` if not everything was done.
 fn looks_after<R: Threads + Wait + Sync, G: Turnstile + Sync, K: Sink>(
     rt: &R,
     alloc: Global,
@@ -114,7 +114,7 @@ fn looks_after<R: Threads + Wait + Sync, G: Turnstile + Sync, K: Sink>(
     Ok(Some([reader.outcome(1), reader.outcome(2)]))
 }
 
-/// The same, with producers that nobody holds up.
+/// As [`looks_after`], with producers that nothing holds up.
 fn looks_through<R: Threads + Wait + Sync>(
     rt: &R,
     alloc: Global,
@@ -132,7 +132,7 @@ fn a_reader_finds_what_became_of_a_sessions_mark(rt: HostRuntime) {
     assert!(rt; looks == Some([Seen::Known(Outcome::Satisfied), Seen::Unknown]));
 }
 
-/// Where producers meet before their first commands: each shows that it is there, and waits for the others.
+/// A turnstile at which producers meet before their first commands: each shows that it is there, and waits for the others.
 #[derive(Drop)]
 struct Meeting {
     /// A bit for each producer that is awaited.
@@ -141,7 +141,7 @@ struct Meeting {
     met: AtomicU64,
 }
 
-/// A producer looks for the others so often.
+/// How often a producer looks for the others before it goes on alone.
 const LOOKS: u32 = 10_000_000;
 
 impl Turnstile for Meeting {
@@ -161,7 +161,7 @@ impl Turnstile for Meeting {
     }
 }
 
-/// How many producers found all the others, if the session was done.
+/// Runs the session of a text, and returns how many producers found all the others. Returns 0 if not everything was done.
 fn meetings<R: Threads + Wait + Sync>(
     rt: &R,
     alloc: Global,
@@ -179,7 +179,7 @@ fn meetings<R: Threads + Wait + Sync>(
     Ok(if looks.is_some() { met } else { 0 })
 }
 
-/// Scripts, the bits of their producers, and how many these are.
+/// Scripts, the bits of their producers, and the number of producers.
 const MEETINGS: [(&[u8], u64, u64); 2] = [
     (
         b"set instance 7\nset e 64\nset producers 2\n1 data 01\n2 data 02\n",
@@ -201,7 +201,7 @@ fn producers_run_at_once(rt: HostRuntime) {
     }
 }
 
-/// How many milliseconds a producer is held up. A session that does not wait for it writes its first line within a few.
+/// How many milliseconds a producer is held up. If the session does not wait for it, the first line is written within a few.
 const HOLD_UP: u64 = 300;
 
 /// Holds the first producer up before its first command, and then sets a flag.
@@ -220,7 +220,8 @@ impl<R: Clock> Turnstile for Slow<'_, R> {
     }
 }
 
-/// The flag of a producer that is held up, as the first line of its session is written.
+/// The flag of a producer that is held up, at the time of the first line of its session. `None` if nothing was written or not everything was
+/// done.
 fn found_at_first<R: Threads + Wait + Clock + Sync>(
     rt: &R,
     alloc: Global,
@@ -241,10 +242,10 @@ fn a_command_comes_after_its_producer_passed(rt: HostRuntime) {
     assert!(rt; found == Some(1));
 }
 
-/// How many octets the long object has: 139 symbols of 1,024. A line of a script has at most 8,192 octets.
+/// How many octets the long object has: 139 symbols of 1,024. A line of a script gives at most 8,192.
 const LONG: u32 = 142_336;
 
-/// The long object's octets. 251 is prime, so that no symbol has the octets of another.
+/// The long object's octets. 251 is prime, so no symbol has the octets of another.
 fn long_object(alloc: Global) -> Result<Vec<u8>, Memory> {
     let mut octets = Vec::new(alloc);
     for i in 0..LONG {
@@ -293,7 +294,7 @@ fn is_object(up: &Up, octets: &[u8]) -> bool {
     }
 }
 
-/// Whether a journal has one hand-up, which is an object of these octets.
+/// Whether a journal has exactly one hand-up, an object of these octets.
 fn has_handed(journal: &Journal, octets: &[u8]) -> bool {
     let Some((_node, up)) = journal.up(0) else {
         return false;

@@ -1,4 +1,4 @@
-//! Producers and the one who pulls in threads of their own.
+//! Tests of producers and the one who pulls, each in its own thread.
 ghost use Rattle.std.specs.Prelude.{◌≡◌, ◌≤◌, All};
 
 use norm_base::Memory;
@@ -9,10 +9,10 @@ use std::test::Fail;
 use std::thread;
 use std::thread::{Threads, join_mut};
 
-/// The most that one producer may submit.
+/// How many items each producer submits. A producer may submit no more.
 const EACH: u32 = 4096;
 
-/// Submits an item, again and again until it is taken.
+/// Submits an item again and again until it is taken.
 fn insist<R: Wait>(rt: &R, gate: &Gate, seat: &mut Seat, item: u32)
     requires { seat.old.gate ≡ gate.now.id }
     ensures { seat.new.gate ≡ seat.old.gate }
@@ -26,7 +26,7 @@ fn insist<R: Wait>(rt: &R, gate: &Gate, seat: &mut Seat, item: u32)
     }
 }
 
-/// Submits the items 1, 2, .. in order.
+/// Submits the items 1 to `EACH` in order.
 fn produce<R: Wait>(rt: &R, gate: &Gate, seat: &mut Seat)
     requires { seat.old.gate ≡ gate.now.id }
     ensures { seat.new.gate ≡ seat.old.gate }
@@ -37,7 +37,7 @@ fn produce<R: Wait>(rt: &R, gate: &Gate, seat: &mut Seat)
     }
 }
 
-/// Pulls so many commands.
+/// Pulls until `into` has this many commands, or until memory runs out.
 fn pull_all<R: Wait>(
     rt: &R,
     gate: &Gate,
@@ -63,14 +63,18 @@ fn pull_all<R: Wait>(
     }
 }
 
-/// All producers, each in a thread of its own.
+/// Runs all producers, each in its own thread.
 fn produce_all<R: Threads + Wait + Sync>(rt: &R, gate: &Gate, seats: &mut [Seat])
     requires { All (λ s. s.gate ≡ gate.now.id) seats.old }
 {
     thread::for_each_mut(rt, seats, 4, &|_, seat| produce(rt, gate, seat));
 }
 
-/// What was pulled of so many producers at a ring of so many places.
+/// What was pulled of this many producers, at a ring of this many slots.
+///
+/// # Errors
+///
+/// `Memory` if memory runs out before the producers begin.
 fn pulled_of<R: Threads + Wait + Sync>(
     rt: &R,
     alloc: Global,
@@ -94,7 +98,7 @@ fn pulled_of<R: Threads + Wait + Sync>(
     Ok(into)
 }
 
-/// Whether these are all commands of so many producers, each once, those of each producer in its order and with its items.
+/// Whether these are all commands of this many producers: each once, and those of each producer in its order and with its items.
 fn all_in_order(pulled: &[Submitted], producers: u32) -> bool {
     let mut counts = [0u32; 5];
     for command in pulled {
@@ -115,7 +119,7 @@ fn all_in_order(pulled: &[Submitted], producers: u32) -> bool {
         })
 }
 
-/// Runs so many producers at a ring of 64 places, and says whether all came in order.
+/// Runs this many producers at a ring of 64 slots. Returns whether all commands came, in order.
 fn come_in_order<R: Threads + Wait + Sync>(rt: &R, alloc: Global, producers: u32) -> bool
     requires { (1 ≤ producers) × (producers ≤ 4) }
 {

@@ -4,16 +4,16 @@ use crate::fault::Fault;
 use crate::words::Words;
 use std::alloc::Global;
 
-/// What is printed of the objects after each call, beside the status and the lines.
+/// What is printed of the objects after each call, in addition to the status and the lines.
 #[derive(Drop)]
 pub(crate) struct Asked {
-    /// How many calls were made.
+    /// Whether to print how many calls were made.
     pub(crate) counts: bool,
     /// The datagrams with these numbers, from 1, and who offered them.
     pub(crate) offers: Vec<usize>,
     /// The contents of the files with these names.
     pub(crate) files: Vec<String>,
-    /// In place of the lines, whether each line of a hand-up ends with this text.
+    /// If it is given, whether each line of a hand-up ends with this text is printed instead of the lines.
     pub(crate) hand_ups: Option<String>,
 }
 
@@ -28,7 +28,7 @@ impl Asked {
         }
     }
 
-    /// Adds what a line asks for. False if it asks for nothing.
+    /// Adds what a line asks for. Returns `false` if it asks for nothing.
     pub(crate) fn add(
         &mut self,
         alloc: Global,
@@ -67,7 +67,7 @@ impl Asked {
         Ok(true)
     }
 
-    /// Asks from now on only whether the hand-ups end with this text.
+    /// From now on, asks only whether the hand-ups end with this text.
     pub(crate) fn ask_hand_ups(&mut self, alloc: Global, text: &str) -> Result<(), Fault> {
         self.hand_ups = Some(String::from_str(alloc, text)?);
         Ok(())

@@ -1,4 +1,4 @@
-//! What the program is called with.
+//! What the program is called with. The lines of a row fill a [`Call`], and `playing` makes the objects from it.
 
 use crate::fault::Fault;
 use crate::words::Words;
@@ -20,7 +20,7 @@ pub(crate) enum Fails {
 }
 
 impl Fails {
-    /// The failing call that a line names.
+    /// The failing call that a line names, if it names one.
     fn named(words: &mut Words<'_>) -> Option<Fails> {
         let kind = words.word()?;
         let number = words.number()?;
@@ -34,7 +34,7 @@ impl Fails {
         }
     }
 
-    /// The number of the failing read.
+    /// The number of the failing read, if a read fails.
     fn read(self) -> Option<u64> {
         match self {
             Fails::Read(number) => Some(number),
@@ -42,7 +42,7 @@ impl Fails {
         }
     }
 
-    /// The number of the failing write.
+    /// The number of the failing write, if a write fails.
     fn write(self) -> Option<u64> {
         match self {
             Fails::Write(number) => Some(number),
@@ -50,7 +50,7 @@ impl Fails {
         }
     }
 
-    /// The number of the failing offer.
+    /// The number of the failing offer, if an offer fails.
     pub(crate) fn offer(self) -> Option<u64> {
         match self {
             Fails::Offer(number) => Some(number),
@@ -58,7 +58,7 @@ impl Fails {
         }
     }
 
-    /// The number of the failing take.
+    /// The number of the failing take, if a take fails.
     pub(crate) fn take(self) -> Option<u64> {
         match self {
             Fails::Take(number) => Some(number),
@@ -66,7 +66,7 @@ impl Fails {
         }
     }
 
-    /// The number of the failing call of the files.
+    /// The number of the failing call of the files, if one fails.
     fn file(self) -> Option<u64> {
         match self {
             Fails::File(number) => Some(number),
@@ -75,7 +75,7 @@ impl Fails {
     }
 }
 
-/// A list of this number, or of none.
+/// A list of this number, or an empty one if there is none.
 pub(crate) fn numbers(alloc: Global, number: Option<u64>) -> Result<Vec<u64>, AllocError> {
     let mut numbers = Vec::new(alloc);
     if let Some(number) = number {
@@ -104,7 +104,7 @@ impl Call {
         }
     }
 
-    /// Adds what a line says of the call. False if it says nothing of it.
+    /// Adds what a line says of the call. Returns `false` if it says nothing of it.
     pub(crate) fn add(
         &mut self,
         alloc: Global,
@@ -124,7 +124,7 @@ impl Call {
         self.input.extend_from_slice(text.as_bytes())
     }
 
-    /// Adds words of the command line.
+    /// Adds words of the command line, at most `MOST_WORDS` of them from one line.
     fn add_words(&mut self, alloc: Global, words: &mut Words<'_>) -> Result<bool, Fault> {
         for _ in 0..MOST_WORDS {
             let Some(word) = words.word() else {
@@ -135,7 +135,7 @@ impl Call {
         Ok(true)
     }
 
-    /// Adds a file. False if the line names none.
+    /// Adds a file. Returns `false` if the line names none.
     fn add_file(&mut self, alloc: Global, words: &mut Words<'_>) -> Result<bool, Fault> {
         let Some(name) = words.word() else {
             return Ok(false);
@@ -148,7 +148,7 @@ impl Call {
         Ok(true)
     }
 
-    /// Lets one call fail from now on, and no other. False if the line names none.
+    /// Lets this call of the outside fail from now on, and no other. Returns `false` if the line names none.
     fn fail(&mut self, words: &mut Words<'_>) -> bool {
         let Some(fails) = Fails::named(words) else {
             return false;
@@ -166,19 +166,19 @@ impl Call {
         Ok(words)
     }
 
-    /// The input, whose failing read is the call's.
+    /// The input. The read that the row names fails.
     pub(crate) fn source(&self, alloc: Global) -> Result<MemSource, AllocError> {
         let input = Vec::from_slice(alloc, self.input.as_slice())?;
         Ok(MemSource::of(input, numbers(alloc, self.fails.read())?))
     }
 
-    /// An empty output, whose failing write is the call's.
+    /// An empty output. The write that the row names fails.
     pub(crate) fn sink(&self, alloc: Global) -> Result<MemSink, AllocError> {
         let failing = numbers(alloc, self.fails.write())?;
         Ok(MemSink::of(Vec::new(alloc), failing))
     }
 
-    /// The files, whose failing call is the call's.
+    /// The files. The call of them that the row names fails.
     pub(crate) fn files(&self, alloc: Global) -> Result<MemFiles, AllocError> {
         let mut files = Vec::new(alloc);
         for (name, octets) in &self.files {

@@ -1,10 +1,14 @@
-//! The input, read whole.
+//! Reads the input whole.
 
 use crate::fault::Fault;
 use norm_base::Source;
 use std::alloc::Global;
 
-/// All of the input's octets.
+/// Reads up to the end of the input.
+///
+/// # Errors
+///
+/// `Read` if a read fails, and `Memory` if memory runs out.
 pub(crate) fn read_all<S: Source>(alloc: Global, input: &mut S) -> Result<Vec<u8>, Fault> {
     let mut text = Vec::new(alloc);
     let mut buffer = [0u8; 4096];

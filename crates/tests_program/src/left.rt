@@ -1,4 +1,4 @@
-//! What the program left, as lines.
+//! Prints what the program left, as lines.
 
 use crate::asked::Asked;
 use crate::fault::Fault;
@@ -60,7 +60,7 @@ fn print_hand_ups<K: Sink>(
     print(line, output)
 }
 
-/// Prints the status, and then all that was written, or what is asked of the hand-ups.
+/// Prints the status. After it, prints all that was written, or what the row asks about the hand-ups.
 pub(crate) fn print_left<K: Sink>(
     alloc: Global,
     left: &Left,
@@ -115,7 +115,7 @@ pub(crate) fn print_no_offer<K: Sink>(
     print(line, output)
 }
 
-/// Prints the contents of a file, or that there is none.
+/// Prints the contents of a file, or only its name if there is no such file.
 fn print_file<K: Sink>(
     alloc: Global,
     name: &str,
@@ -130,7 +130,7 @@ fn print_file<K: Sink>(
     print(line, output)
 }
 
-/// Prints the files that are asked for.
+/// Prints the files that the row asks for.
 pub(crate) fn print_files<K: Sink>(
     alloc: Global,
     left: &Left,

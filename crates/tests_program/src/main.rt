@@ -1,4 +1,4 @@
-//! tests_program: calls the program over objects in memory, as rows of the standard input say, and prints what each call left.
+//! tests_program: calls the program over objects in memory, as the rows of the standard input say, and prints what each call left.
 #![tactic(auto)]
 
 mod asked;

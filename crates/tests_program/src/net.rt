@@ -1,4 +1,4 @@
-//! The network of a row.
+//! The network of a row. The lines of a row fill a [`Net`], and `playing` makes the fabric of its [`Kind`].
 
 ghost use Rattle.std.specs.Prelude.{◌≤◌, length, IfOk};
 
@@ -14,7 +14,7 @@ use std::alloc::{AllocError, Global};
 /// The most octets of a datagram.
 const MOST_OCTETS: usize = 1500;
 
-/// The most datagrams that a network gives in an order of the row's own.
+/// The most datagrams that a network gives in an order that a row names.
 const MOST_GIVEN: u32 = 64;
 
 /// The most datagrams that a network gives to a node that is alone.
@@ -25,11 +25,11 @@ const MOST_FED: usize = 2;
 pub(crate) enum Kind {
     /// It gives each datagram once, except as rules say, and one of its calls may fail.
     Ruled,
-    /// It keeps what is offered, and gives datagrams of the row.
+    /// It keeps what is offered, and gives datagrams that the row names.
     Fed,
-    /// It gives what was offered in an order of the row.
+    /// It gives what was offered in an order that the row names.
     Disturbed,
-    /// It gives refused datagrams before each that was offered.
+    /// It gives the datagrams of a list before each one that was offered. Members refuse them.
     Hostile,
 }
 
@@ -44,7 +44,7 @@ pub(crate) struct Net {
     turned: Option<usize>,
 }
 
-/// The loss of one copy that a line names.
+/// The rule that loses the copy that a line names: the number of an offer, and a member.
 fn lost(words: &mut Words<'_>) -> Option<Rule> {
     let offer = words.number()?;
     let to = words.node()?;
@@ -56,7 +56,7 @@ fn lost(words: &mut Words<'_>) -> Option<Rule> {
     })
 }
 
-/// The loss of all that a node offers, which a line names.
+/// The rule that loses everything that a node offers. A line names the node.
 fn muted(words: &mut Words<'_>) -> Option<Rule> {
     let from = words.node()?;
     Some(Rule::Mute { from, since: 1 })
@@ -85,7 +85,7 @@ impl Net {
         }
     }
 
-    /// Adds what a line says of the network. False if it says nothing of it.
+    /// Adds what a line says of the network. Returns `false` if it says nothing of it.
     pub(crate) fn add(
         &mut self,
         alloc: Global,
@@ -103,7 +103,7 @@ impl Net {
         }
     }
 
-    /// Adds a rule, if there is one.
+    /// Adds a rule. Returns `false` if there is none.
     fn add_rule(&mut self, rule: Option<Rule>) -> Result<bool, Fault> {
         let Some(rule) = rule else {
             return Ok(false);
@@ -112,7 +112,7 @@ impl Net {
         Ok(true)
     }
 
-    /// Adds a datagram that the network gives to a node. False if the line names none, or it is one too many.
+    /// Adds a datagram that the network gives to a node. Returns `false` if the line names none, or if it is one too many.
     fn feed(&mut self, alloc: Global, words: &mut Words<'_>) -> Result<bool, Fault> {
         let Some(node) = words.node() else {
             return Ok(false);
@@ -128,7 +128,7 @@ impl Net {
         Ok(true)
     }
 
-    /// Adds a datagram that the network gives before each that was offered.
+    /// Adds a datagram that the network gives before each one that was offered. Returns `false` if the line has none.
     fn refuse(&mut self, alloc: Global, words: &mut Words<'_>) -> Result<bool, Fault> {
         let Some(octets) = words.octets(alloc)? else {
             return Ok(false);
@@ -138,7 +138,7 @@ impl Net {
         Ok(true)
     }
 
-    /// Gives what was offered in this order from now on.
+    /// From now on, gives what was offered in this order, by numbers from 0.
     fn order(&mut self, words: &mut Words<'_>) -> Result<bool, Fault> {
         self.kind = Kind::Disturbed;
         self.order.clear();
@@ -151,13 +151,13 @@ impl Net {
         Ok(true)
     }
 
-    /// Turns all bits of this octet from now on.
+    /// From now on, inverts all bits of the octet with this index in each datagram. Returns `false` if the line has no index.
     fn turn(&mut self, words: &mut Words<'_>) -> bool {
         self.turned = words.index();
         self.turned.is_some()
     }
 
-    /// The network with rules, whose failing call is this one.
+    /// The network with rules. The offer or take that `fails` names fails.
     pub(crate) fn ruled(&self, alloc: Global, fails: Fails) -> Result<ListFabric, Fault> {
         let mut rules = Vec::new(alloc);
         for rule in &self.rules {
@@ -168,7 +168,7 @@ impl Net {
         Ok(ListFabric::of(alloc, rules, offers, takes)?)
     }
 
-    /// The network that gives datagrams of the row.
+    /// The network that gives datagrams of the row, at most `MOST_FED` of them.
     pub(crate) fn fed(&self, alloc: Global) -> Result<FeedFabric, Fault> {
         let Some(first) = self.datagrams.first() else {
             return Ok(FeedFabric::of(alloc, Vec::new(alloc))?);
@@ -187,7 +187,7 @@ impl Net {
         Ok(DisturbedFabric::of(alloc, order, self.turned))
     }
 
-    /// The network that gives refused datagrams before each that was offered.
+    /// The network that gives the refused datagrams before each one that was offered.
     pub(crate) fn hostile(&self, alloc: Global) -> Result<HostileFabric, Fault> {
         let mut refused: Vec<Octets> = Vec::new(alloc);
         for octets in &self.refused {

@@ -1,4 +1,4 @@
-//! A row is run: the program is called, and what it left is printed.
+//! Runs a row: calls the program, and prints what it left. `rows` calls [`play`].
 
 use crate::asked::Asked;
 use crate::call::Call;
@@ -15,7 +15,7 @@ use std::thread::Threads;
 /// The most datagrams that are counted.
 const MOST_OFFERS: usize = 100;
 
-/// The status of the program. The contract of `norm_main` is long. Nothing follows the call, so no goal comes of it here.
+/// The status of the program. Nothing follows the call here, so no goal has the long contract of `norm_main`.
 fn status_of<R: Threads + Wait + Sync, S: Source, K: Sink, F: Fabric>(
     rt: &R,
     alloc: Global,
@@ -29,7 +29,7 @@ fn status_of<R: Threads + Wait + Sync, S: Source, K: Sink, F: Fabric>(
     norm_main(rt, alloc, words, input, output, fabric, files, clock)
 }
 
-/// The number of the program's status.
+/// The program's status as a number.
 fn status_code<R: Threads + Wait + Sync, S: Source, K: Sink, F: Fabric>(
     rt: &R,
     alloc: Global,
@@ -75,7 +75,7 @@ fn called<R: Threads + Wait + Sync, F: Fabric>(
     })
 }
 
-/// How many datagrams were offered, at most a hundred.
+/// How many datagrams were offered, or `MOST_OFFERS` if there were more.
 fn offers_in(fabric: &ListFabric) -> u64 {
     for place in 0..MOST_OFFERS {
         if fabric.offered(place).is_none() {
@@ -85,7 +85,7 @@ fn offers_in(fabric: &ListFabric) -> u64 {
     MOST_OFFERS as u64
 }
 
-/// Prints the datagrams that are asked for of a network with rules.
+/// Prints the datagrams that the row asks for, of a network with rules.
 fn print_ruled<K: Sink>(
     alloc: Global,
     asked: &Asked,
@@ -101,7 +101,7 @@ fn print_ruled<K: Sink>(
     Ok(())
 }
 
-/// Prints the datagrams that are asked for of a network that gives the row's.
+/// Prints the datagrams that the row asks for, of a network that gives the row's datagrams.
 fn print_fed<K: Sink>(
     alloc: Global,
     asked: &Asked,
@@ -153,7 +153,7 @@ fn play_fed<R: Threads + Wait + Sync, K: Sink>(
     print_files(alloc, &left, asked, output)
 }
 
-/// Runs a row over a network with an order of its own.
+/// Runs a row over a network that gives what was offered in the row's order.
 fn play_disturbed<R: Threads + Wait + Sync, K: Sink>(
     rt: &R,
     alloc: Global,

@@ -1,4 +1,4 @@
-//! The rows of an input, read and run line by line.
+//! Reads the rows of an input and runs them, line by line. `main` calls [`play_rows`].
 
 use crate::asked::Asked;
 use crate::call::Call;
@@ -22,7 +22,7 @@ struct Row {
 }
 
 impl Row {
-    /// A row of which nothing was said.
+    /// A row before its first line.
     fn new(alloc: Global) -> Row {
         Row {
             call: Call::new(alloc),
@@ -44,13 +44,13 @@ impl Row {
         Ok(true)
     }
 
-    /// Asks from now on only how the hand-ups end.
+    /// From now on, asks only how the hand-ups end.
     fn ask_hand_ups(&mut self, alloc: Global, text: &str) -> Result<bool, Fault> {
         self.asked.ask_hand_ups(alloc, text)?;
         Ok(true)
     }
 
-    /// Adds what the words of a line say. False if they say nothing.
+    /// Adds what the words of a line say. Returns `false` if they are no line of a row.
     fn add_words(&mut self, alloc: Global, what: &str, rest: &str) -> Result<bool, Fault> {
         let mut words = Words::of(rest);
         let is_one = self.call.add(alloc, what, &mut words)?
@@ -59,7 +59,7 @@ impl Row {
         Ok(is_one && words.are_done())
     }
 
-    /// Adds what a line says. False if it says nothing.
+    /// Adds what a line says. Returns `false` if it is no line of a row.
     fn add(&mut self, alloc: Global, what: &str, rest: &str) -> Result<bool, Fault> {
         match what {
             "in" => self.add_line(rest),
@@ -70,7 +70,7 @@ impl Row {
     }
 }
 
-/// Does what a line says. False if it is no line of a row.
+/// Does what a line says. Returns `false` if it is no line of a row.
 fn play_line<R: Threads + Wait + Sync, K: Sink>(
     rt: &R,
     alloc: Global,
@@ -94,11 +94,12 @@ fn play_line<R: Threads + Wait + Sync, K: Sink>(
     }
 }
 
-/// Runs the rows of an input in their order.
+/// Runs the rows of an input in order.
 ///
 /// # Errors
 ///
-/// The first line that is no line of a row, an input that can't be read, an output that can't be written, and want of memory.
+/// `Line` with the first line that is no line of a row, `NotText` if the input is not UTF-8, `Read` if a read fails, `Write` if a write fails,
+/// and `Memory` if memory runs out.
 pub(crate) fn play_rows<R: Threads + Wait + Sync, S: Source, K: Sink>(
     rt: &R,
     alloc: Global,

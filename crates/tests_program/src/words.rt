@@ -1,4 +1,4 @@
-//! The words of a line.
+//! Splits a line into words. The lines of a row are read with [`Words`].
 
 use crate::fault::Fault;
 use hex::FromHexError;
@@ -6,7 +6,7 @@ use norm_base::NodeId;
 use std::alloc::Global;
 use std::str::SplitWhitespace;
 
-/// The words of a line that were not read yet.
+/// The words of a line that were not read yet. Each call takes the next word. It returns `None` if there is none, or if it is not of that kind.
 #[derive(Drop)]
 pub(crate) struct Words<'a> {
     rest: SplitWhitespace<'a>,
@@ -20,12 +20,12 @@ impl<'a> Words<'a> {
         }
     }
 
-    /// The next word, as it stands.
+    /// The next word.
     pub(crate) fn word(&mut self) -> Option<&'a str> {
         self.rest.next()
     }
 
-    /// The next word, as a number of 64 bits.
+    /// The next word, as a 64-bit number.
     pub(crate) fn number(&mut self) -> Option<u64> {
         self.rest.next()?.parse::<u64>().ok()
     }
