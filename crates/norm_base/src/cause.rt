@@ -1,18 +1,17 @@
-//! What a failed call of the outside was about.
+//! Why a call of the outside failed, in the system's words. The objects of `norm_host` keep it for a message to the user.
 
 use std::{fmt, io};
 
-/// What a call of the outside was done to as it failed, and why it failed, in the system's words. It is for people: no
-/// clause speaks of it.
+/// What a failed call acted on, and the error of the system. It is for people: no clause mentions it.
 // Kept by the objects of the process, beside the count of faults that clauses speak of. So a cause can be said without a change of any trait or
 // contract.
 #[derive(Debug, Drop)]
 pub enum Cause {
-    /// The input was read.
+    /// The input could not be read.
     Input { error: io::Error },
-    /// The output was written.
+    /// The output could not be written.
     Output { error: io::Error },
-    /// The file of this path was looked at, read or written.
+    /// The file with this path could not be opened, measured, read or written.
     File { path: String, error: io::Error },
 }
 

@@ -1,4 +1,4 @@
-//! One datagram as it is written, of at most 1,500 octets.
+//! The buffer that a tick writes a datagram into, and that a network fills with one.
 
 ghost use Rattle.std.specs.Prelude.{◌≡◌, ◌+◌, ◌-◌, ◌≤◌, ℕ, List, [], ◌++◌, length, take, drop, IfOk, vec_len, vec_capacity};
 ghost use Rattle.norm_base.specs.Sizes.{datagram_room};
@@ -11,11 +11,11 @@ use std::marker::Model;
 // Our own choice: more than the 1,440 octets of the longest DATA. A longer datagram that comes is passed over, and none is written.
 pub const DATAGRAM_ROOM: usize = 1500;
 
-/// The most octets of a symbol as it is coded: a symbol of 1,400, and the eight octets of a segment's place before it.
+/// The most octets of a coded symbol: 1,400 of the symbol, and before them the eight octets of a segment's position.
 // It follows from `e` up to 1,400 (own) and the place of RFC 5740 section 4.2.1. It is the length of arrays in which symbols are made.
 pub const SYMBOL_ROOM: usize = 1408;
 
-/// A datagram with room for 1,500 octets, all of it reserved at the start.
+/// A datagram of at most 1,500 octets. Only [`new`](Datagram::new) takes memory: room for all 1,500.
 // All memory is taken by `new`: a tick writes a datagram, and has no answer for want of memory.
 #[derive(Debug, Drop)]
 pub struct Datagram {
@@ -31,7 +31,7 @@ impl Model for Datagram {
 }
 
 impl Datagram {
-    /// An empty datagram.
+    /// Returns an empty datagram. Fails with `Memory` if the room cannot be reserved.
     pub fn new(alloc: Global) -> Result<Datagram, Memory>
         ensures { IfOk result (λ d. d ≡ []) }
     {
@@ -39,14 +39,14 @@ impl Datagram {
         Ok(Datagram { bytes })
     }
 
-    /// Takes all octets out.
+    /// Removes all octets. The room stays reserved.
     pub fn clear(&mut self)
         ensures { self.new ≡ [] }
     {
         self.bytes.clear();
     }
 
-    /// The octets, lent.
+    /// Borrows the octets.
     pub fn bytes(&self) -> &[u8]
         ensures octets { result.now ≡ self.now }
         ensures most { length result.now ≤ datagram_room }
@@ -54,7 +54,7 @@ impl Datagram {
         self.bytes.as_slice()
     }
 
-    /// How many octets may still be pushed: 1,500 less the length.
+    /// Returns how many octets may still be pushed: 1,500 minus the length.
     pub fn room(&self) -> usize
         ensures room { result ≡ datagram_room - length self.now }
         ensures most { length self.now ≤ datagram_room }
@@ -62,7 +62,7 @@ impl Datagram {
         DATAGRAM_ROOM - self.bytes.len()
     }
 
-    /// Adds the octets at the end.
+    /// Appends octets. At most [`room`](Datagram::room) of them may be pushed.
     pub fn push(&mut self, part: &[u8])
         requires { length part.now ≤ datagram_room - length self.old }
         ensures { self.new ≡ self.old ++ part.now }
@@ -70,7 +70,7 @@ impl Datagram {
         // It does not fail: the clause asks for room, and the room was reserved.
         self.bytes.extend_from_slice(part).unwrap();
     }
-    /// Writes the octets over those that stand from octet `at` on, as a length that is known only later.
+    /// Overwrites the octets from offset `at` on, for instance with a length that is known only after what it counts.
     pub fn replace(&mut self, at: usize, part: &[u8])
         requires { at + length part.now ≤ length self.old }
         ensures { self.new ≡ take at self.old ++ part.now ++ drop (at + length part.now) self.old }

@@ -1,4 +1,4 @@
-//! The network between the members of a session.
+//! The trait of the network between the members of a session. `norm_memory` implements it in memory, `norm_udp` over sockets.
 
 ghost use Rattle.std.specs.Prelude.{◌≡◌, ◌≤◌, ℕ, [], length, IfOk, IfNone, OnOk, OnErr};
 ghost use Rattle.norm_base.specs.Faults.{Counts, network_failed};
@@ -11,32 +11,32 @@ use crate::kinds::Local;
 use crate::node::NodeId;
 use crate::profile::Profile;
 
-/// A network of members: each offers datagrams, and datagrams are taken for each. It may lose, repeat,
-/// delay and reorder them, and `take` may answer `None` at any time, unless the network tells that it is direct.
+/// A network that copies each datagram to every other member. It may lose, repeat, delay and reorder copies, and
+/// `take` may return `None` at any time, unless the network is direct. [`start`](Fabric::start) comes first.
 pub trait Fabric {
-    /// What the network tells: its starts, what was offered and what was taken since; whether each datagram
-    /// that is taken was offered by another member (honest); and whether nothing is lost, repeated, delayed or
-    /// reordered (direct).
+    /// The recorded history: the starts, and what was offered and taken since the last one. It also says if the
+    /// network is honest (each datagram that is taken was offered by another member), and if it is direct (none is
+    /// lost, repeated, delayed or reordered).
     ghost told: { Self → Network };
 
-    /// How often a call failed.
+    /// How many calls failed, at most `u64::MAX`. Running out of memory is not counted.
     ghost fault_count: { Self → ℕ };
 
-    /// Begins a session of these members. Nothing is offered and nothing was taken then.
+    /// Begins a session of the profile's members. The lists of offered and taken datagrams are then empty.
     fn start(&mut self, profile: &Profile, local: Local) -> Result<(), FabricFault>
         ensures ok { OnOk result (Starts (told self.old) (told self.new) profile.now local) }
         ensures err { OnErr result (told self.new ≡ told self.old) }
         ensures cause { Counts (fault_count self.old) (fault_count self.new) (network_failed result) };
 
-    /// Offers a member's datagram of at most 1,500 octets to the others.
+    /// Offers a member's datagram to all other members.
     fn offer(&mut self, from: NodeId, bytes: &[u8]) -> Result<(), FabricFault>
         requires { length bytes.now ≤ datagram_room }
         ensures ok { OnOk result (told self.new ≡ with_offer (told self.old) from bytes.now) }
         ensures err { OnErr result (told self.new ≡ told self.old) }
         ensures cause { Counts (fault_count self.old) (fault_count self.new) (network_failed result) };
 
-    /// Takes the next datagram for a member, if one is ready, and says for whom it is. Without one the
-    /// datagram that is lent is empty.
+    /// Takes the next datagram that is ready, if there is one, and returns the member it is for. `into` is
+    /// empty if none was ready or the call failed.
     fn take(&mut self, into: &mut Datagram) -> Result<Option<NodeId>, FabricFault>
         ensures ok { IfOk result (λ node. told self.new ≡ with_answer (told self.old) (answer_of node into.new)) }
         ensures none { IfOk result (λ node. IfNone node (into.new ≡ [])) }
@@ -45,7 +45,7 @@ pub trait Fabric {
         ensures err { OnErr result ((told self.new ≡ told self.old) × (into.new ≡ [])) }
         ensures cause { Counts (fault_count self.old) (fault_count self.new) (network_failed result) };
 
-    /// How often a call failed. The count never falls.
+    /// Returns how many calls failed. The count never falls.
     fn faults(&self) -> u64
         ensures { result ≡ fault_count self.now };
 }

@@ -1,4 +1,4 @@
-//! How a call of the outside, or one that takes memory, fails.
+//! The errors of calls of the outside, and of calls that take memory.
 
 ghost use Rattle.std.specs.Prelude.{◌≡◌};
 ghost use Rattle.norm_base.specs.declared.fault.FabricFault.TheVariants as fabric;
@@ -9,11 +9,11 @@ use std::alloc::{AllocError, AllocFailed};
 #[derive(Clone, Copy, Debug, PartialEq, Eq)]
 pub struct Memory;
 
-/// The outside failed, and the object's count of faults says so.
+/// The outside failed. The object raised its count of faults by one.
 #[derive(Clone, Copy, Debug, PartialEq, Eq)]
 pub struct Failed;
 
-/// Why a call of `Files` gave nothing.
+/// Why a call of `Files` failed.
 #[derive(Clone, Copy, Debug, PartialEq, Eq)]
 pub enum FileFault {
     /// No file has that name.

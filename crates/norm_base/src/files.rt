@@ -1,4 +1,4 @@
-//! Named files.
+//! The trait of the files that are sent and stored. `norm_host` implements it for a folder, `norm_memory` for a list.
 
 ghost use Rattle.std.specs.Prelude.{◌≡◌, ◌<◌, ◌≤◌, ◌↔◌, ℕ, List, Option, length, take, drop, is_err, IfOk, OnOk, IfSome, IsNone, IsErrOf};
 ghost use Rattle.norm_base.specs.Faults.{Counts, file_failed};
@@ -8,13 +8,13 @@ use crate::fault::{Failed, FileFault};
 
 /// Files by their names.
 pub trait Files {
-    /// The names with their contents, where the files tell them. `put` alone changes them.
+    /// The names with their contents, or `None` if the files do not record them. Only `put` changes them.
     ghost contents: { Self → Option (List (List ℕ × List ℕ)) };
 
-    /// How often a call failed.
+    /// How many calls failed, at most `u64::MAX`. An absent name is no failure.
     ghost fault_count: { Self → ℕ };
 
-    /// The octets of a file. `Absent` exactly where the name is not there.
+    /// Returns the length of a file in octets, or `Absent` if there is no such name.
     fn length(&mut self, name: &str) -> Result<u64, FileFault>
         ensures same { contents self.new ≡ contents self.old }
         ensures value { IfOk result (λ n. IfSome (contents self.old) (λ files.
@@ -23,7 +23,8 @@ pub trait Files {
             IsErrOf result FileFault.Absent ↔ IsNone (content_of files name.now)) }
         ensures cause { Counts (fault_count self.old) (fault_count self.new) (file_failed result) };
 
-    /// Reads at least one octet from `offset` on into the front of the buffer, and says how many.
+    /// Reads at least one octet from `offset` on into a prefix of the buffer and returns how many.
+    /// `offset` is below the file's length.
     fn read_at(&mut self, name: &str, offset: u64, buf: &mut [u8]) -> Result<usize, FileFault>
         requires room { 0 < length buf.old }
         requires within { IfSome (contents self.old) (λ files.
@@ -36,13 +37,13 @@ pub trait Files {
             IsErrOf result FileFault.Absent ↔ IsNone (content_of files name.now)) }
         ensures cause { Counts (fault_count self.old) (fault_count self.new) (file_failed result) };
 
-    /// Makes the octets a file's contents. Only that name's contents change, also where it fails.
+    /// Replaces or creates a file with these octets. No other file changes, even if the call fails.
     fn put(&mut self, name: &str, bytes: &[u8]) -> Result<(), Failed>
         ensures ok { OnOk result (IfSome (contents self.new) (λ files. content_of files name.now ≡ Some bytes.now)) }
         ensures others { ChangesOnly (contents self.old) (contents self.new) name.now }
         ensures cause { Counts (fault_count self.old) (fault_count self.new) (is_err result) };
 
-    /// How often a call failed. The count never falls.
+    /// Returns how many calls failed. The count never falls.
     fn faults(&self) -> u64
         ensures { result ≡ fault_count self.now };
 }

@@ -1,4 +1,4 @@
-//! The values that are given to the keys of a profile.
+//! Collects the values that a script or a profile file sets, until [`Profile::of`](crate::profile::Profile::of) takes them.
 
 ghost use Rattle.std.specs.Prelude.{◌≡◌, IsTrue, true, is_some, unwrap_or};
 ghost use Rattle.norm_base.specs.Given.{nothing_given, given_at, give, default_beside, value_in, are_values, meets_rules, are_in_range};
@@ -8,8 +8,8 @@ ghost use Rattle.norm_base.specs.Settings.{InRange, settings_with};
 use crate::key::{KEYS, Key};
 use std::marker::Model;
 
-/// Values for some keys of a profile. `set` is called for each line that sets a key, after `has` said that
-/// the key has none yet, and then `Profile::of` makes the profile.
+/// Values for some keys of a profile. To refuse a second value for a key, call [`has`](Given::has)
+/// before [`set`](Given::set). [`Profile::of`](crate::profile::Profile::of) checks all values together.
 #[derive(Clone, Copy, Debug, PartialEq, Eq)]
 pub struct Given {
     values: [Option<u32>; 26],
@@ -33,21 +33,21 @@ impl Given {
         Given { values: [None; 26] }
     }
 
-    /// Whether a key's value is given.
+    /// Whether the key was set.
     pub fn has(&self, key: Key) -> bool
         ensures { result ≡ is_some (given_at self.now key) }
     {
         self.values[key.place()].is_some()
     }
 
-    /// Gives a key this value.
+    /// Sets the key, without a check of the value. An earlier value of it is replaced.
     pub fn set(&mut self, key: Key, value: u32)
         ensures { self.new ≡ give self.old key value }
     {
         self.values[key.place()] = Some(value);
     }
 
-    /// A key's value: what is given, or its default. The default of `max_n` follows `b`.
+    /// Returns the value that was set, or the default. The default of `max_n` is one and a half times `b`, at most 255.
     pub fn value(&self, key: Key) -> u32
         ensures { result ≡ value_in self.now key }
     {
@@ -57,7 +57,7 @@ impl Given {
         }
     }
 
-    /// A key's value where none is given.
+    /// Returns the default of a key.
     fn default_of(&self, key: Key) -> u32
         ensures { result ≡ default_beside (unwrap_or (given_at self.now Key.B) (row_of Key.B).default) key }
     {
@@ -69,7 +69,7 @@ impl Given {
         key.row().default
     }
 
-    /// Whether each value is one of its key's, and the two rules across keys hold.
+    /// Whether each value is in its key's range, and the two rules across keys hold.
     pub(crate) fn are_in_range(&self) -> bool
         ensures value { result ≡ are_in_range (value_in self.now) }
         ensures range { IsTrue result → InRange (settings_with (value_in self.now)) }
@@ -77,7 +77,7 @@ impl Given {
         self.are_values(&KEYS) && self.meets_rules()
     }
 
-    /// Whether the two rules across keys hold.
+    /// Whether `b <= max_n`, and `blocks * b * e` is at most 16,777,216.
     fn meets_rules(&self) -> bool
         requires { are_values (value_in self.now) keys ≡ true }
         ensures { result ≡ meets_rules (value_in self.now) }
@@ -88,14 +88,14 @@ impl Given {
         b <= self.value(Key::MaxN) && buffer <= 16_777_216
     }
 
-    /// Whether each of these keys' values is one of its values.
+    /// Whether each of these keys has a value in its range.
     fn are_values(&self, keys: &[Key]) -> bool
         ensures { result ≡ are_values (value_in self.now) keys.now }
     {
         keys.iter().all(|key| self.is_value(*key))
     }
 
-    /// Whether a key's value is one of its values.
+    /// Whether the key's value is in its range.
     fn is_value(&self, key: Key) -> bool
         ensures { result ≡ is_value key (value_in self.now key) }
     {

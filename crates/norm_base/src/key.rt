@@ -1,9 +1,9 @@
-//! The keys of a profile, in one table: each key's name, its values and its default.
+//! The keys of a profile, in one table. [`Key::row`] has each key's name, range and default. Scripts, profile files and options are read by it.
 
 ghost use Rattle.std.specs.Prelude.{◌≡◌, ◌≤◌, ◌-◌, map, length, ℕ, List, []};
 ghost use Rattle.norm_base.specs.Keys.{row_of, keys, key_named, place_of_word};
 
-/// A key of a profile, in the order of the table. `Profile` says what each is for.
+/// A key of a profile. `Profile` says what each is for.
 #[derive(Clone, Copy, Debug, PartialEq, Eq)]
 pub enum Key {
     Instance,
@@ -65,18 +65,18 @@ pub const KEYS: [Key; 26] = [
     Key::Port,
 ];
 
-/// What the table says of a key.
+/// A key's row of the table.
 #[derive(Clone, Copy, Debug)]
 pub struct KeyRow {
-    /// The key's name.
+    /// The name in a script and in a profile file.
     pub name: &'static str,
     /// The least value.
     pub least: u32,
     /// The greatest value.
     pub greatest: u32,
-    /// The value where none is set.
+    /// The value if none is set. `max_n` has this default only if `b` has its own: see `Given::value`.
     pub default: u32,
-    /// The words that the values are written as, from 0 on. Where there are none, a value is a number.
+    /// The words for the values 0, 1, .. If there are none, a value is written as a number.
     pub words: &'static [&'static str],
 }
 
@@ -98,7 +98,7 @@ fn numbers(name: &'static str, least: u32, greatest: u32, default: u32) -> KeyRo
     }
 }
 
-/// The row of a key whose values are words, of which the first is its default.
+/// The row of a key whose values are words. The first word is the default.
 fn words(name: &'static str, words: &'static [&'static str]) -> KeyRow
     requires some { 1 ≤ length words.now }
     requires few { length words.now ≤ 3 }
@@ -119,14 +119,14 @@ fn words(name: &'static str, words: &'static [&'static str]) -> KeyRow
 }
 
 impl Key {
-    /// The key's place in the table.
+    /// Returns the key's index in the table.
     pub fn place(self) -> usize
         ensures { result ≡ (row_of self).place }
     {
         self as usize
     }
 
-    /// What the table says of the key.
+    /// Returns the key's row of the table.
     // A function and not a constant table: a constant cannot call `numbers` here, and 26 rows written in full would stand beside the 26 names.
     pub fn row(self) -> KeyRow
         ensures name { result.name.now ≡ (row_of self).name }
@@ -176,14 +176,14 @@ impl Key {
         }
     }
 
-    /// The key with this name.
+    /// Returns the key with this name, if there is one.
     pub fn named(name: &[u8]) -> Option<Key>
         ensures { result ≡ key_named name.now keys }
     {
         first_named(&KEYS, name)
     }
 
-    /// The value that a word stands for. `None` where the key's values are numbers, or it is another word.
+    /// Returns the value that a word stands for, or `None` if this key has no such word.
     pub fn value_of(self, word: &[u8]) -> Option<u32>
         ensures { result ≡ place_of_word word.now (row_of self).words }
     {
@@ -191,7 +191,7 @@ impl Key {
     }
 }
 
-/// The first of these keys that has this name.
+/// Returns the first of these keys with this name.
 fn first_named(keys: &[Key], name: &[u8]) -> Option<Key>
     ensures { result ≡ key_named name.now keys.now }
 {
@@ -203,7 +203,7 @@ fn first_named(keys: &[Key], name: &[u8]) -> Option<Key>
     None
 }
 
-/// The place of a word among these.
+/// Returns the index of a word among these.
 fn place_of(words: &[&str], word: &[u8]) -> Option<u32>
     requires { length words.now ≤ 3 }
     ensures { result ≡ place_of_word word.now (map (λ w. w.now) words.now) }

@@ -1,31 +1,31 @@
-//! The small choices that messages, profiles and calls are made of.
+//! Small enums that messages, profiles and calls share.
 
 use crate::node::NodeId;
 
-/// What the sender does where its window is full.
+/// What the sender may drop when its window is full.
 #[derive(Clone, Copy, Debug, PartialEq, Eq)]
 pub enum Mode {
-    /// It keeps an object until every receiver has confirmed it.
+    /// Only what was sent and every member has confirmed.
     Hold,
-    /// It drops the oldest object that was sent.
+    /// What was sent, even if it was not confirmed. The oldest goes first.
     Drop,
 }
 
-/// What an object is.
+/// What the user sent as an object: octets of a command, or a file.
 #[derive(Clone, Copy, Debug, PartialEq, Eq)]
 pub enum Kind {
     Data,
     File,
 }
 
-/// What a tick gave.
+/// What a tick wrote into the caller's datagram.
 #[derive(Clone, Copy, Debug, PartialEq, Eq)]
 pub enum Sent {
     Nothing,
     Datagram,
 }
 
-/// Which network a run is over.
+/// The network that a session uses: in memory without loss, in memory with faults drawn from a seed, or sockets of this machine.
 #[derive(Clone, Copy, Debug, PartialEq, Eq)]
 pub enum FabricKind {
     Direct,
@@ -33,7 +33,7 @@ pub enum FabricKind {
     Udp,
 }
 
-/// Which members of the session are in this process.
+/// Which members of the session are in this process. `Hub` is the process that copies datagrams between them, and has none.
 #[derive(Clone, Copy, Debug, PartialEq, Eq)]
 pub enum Local {
     All,

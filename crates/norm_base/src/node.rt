@@ -1,4 +1,4 @@
-//! Who a message is from, and when (RFC 5740 section 4.1).
+//! Ids of nodes, sender instances and commands, and moments (RFC 5740 section 4.1).
 
 ghost use Rattle.std.specs.Prelude.{◌≡◌, ◌≢◌, ◌<◌, ◌≤◌, ◌↔◌, ℕ, IsSome, IfSome};
 ghost use Rattle.norm_base.specs.Member.{IsMember};
@@ -21,7 +21,7 @@ impl Model for NodeId {
 }
 
 impl NodeId {
-    /// The id with this number. `None` exactly where the number names no member.
+    /// Returns the id with this number, or `None` if it is 0 or 4294967295.
     pub fn of(n: u32) -> Option<NodeId>
         ensures found { IsSome result ↔ IsMember n }
         ensures value { IfSome result (λ id. id ≡ n) }
@@ -33,7 +33,7 @@ impl NodeId {
         Some(NodeId(n))
     }
 
-    /// The id's number.
+    /// Returns the number, which is neither 0 nor 4294967295.
     pub fn number(&self) -> u32
         ensures value { result ≡ self.now }
         ensures member { IsMember result }
@@ -42,11 +42,11 @@ impl NodeId {
     }
 }
 
-/// How many numbers have 16 bits: object transport ids, instances and sequence numbers count in these.
+/// How many values 16 bits have. Object transport ids, instances and sequence numbers are modulo this.
 // 2^16, by the fields of RFC 5740 sections 4.1 and 4.2.1. Whatever counts in ids goes round there.
 pub const ID_COUNT: u32 = 65_536;
 
-/// Which life of a sender a message belongs to.
+/// The sender's instance (RFC 5740 section 4.2). A sender that restarts takes a new one.
 #[derive(Clone, Copy, Debug, PartialEq, Eq, PartialOrd, Ord, Hash)]
 pub struct InstanceId(pub u16);
 
@@ -70,7 +70,7 @@ impl Model for Moment {
     ghost inverse = { λ n. record { 0 = n } };
 }
 
-/// A command's name: its producer, and that producer's number of it (1, 2, ..).
+/// Identifies a command: its producer, and the number that the producer gave it (1, 2, ..).
 #[derive(Clone, Copy, Debug, PartialEq, Eq, PartialOrd, Ord, Hash)]
 pub struct Origin {
     pub producer: u32,

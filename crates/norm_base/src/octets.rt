@@ -1,4 +1,4 @@
-//! Octets and text that the caller keeps, seen by contracts as the list of their octets.
+//! Owned octets and text. Contracts see both as a list of octets.
 
 ghost use Rattle.std.specs.Prelude.{◌≡◌, ◌==◌, ℕ, List, string_bytes};
 ghost use Rattle.std.specs.Cmp.Lexicographic.{pointwise};
@@ -19,21 +19,21 @@ impl Model for Octets {
 }
 
 impl Octets {
-    /// These octets. It takes no memory.
+    /// Wraps a vector. Takes no memory.
     pub fn of(inner: Vec<u8>) -> Octets
         ensures { result ≡ inner.items }
     {
         Octets(inner)
     }
 
-    /// The octets, lent.
+    /// Borrows the octets.
     pub fn bytes(&self) -> &[u8]
         ensures { result.now ≡ self.now }
     {
         self.0.as_slice()
     }
 
-    /// The vector back. It takes no memory.
+    /// Returns the vector. Takes no memory.
     pub fn into_inner(self) -> Vec<u8>
         ensures { result.items ≡ self }
     {
@@ -55,7 +55,7 @@ impl Eq for Octets {
     ghost laws = { Prim.search (comparing, rules) };
 }
 
-/// A string, seen as its octets.
+/// A string. Contracts see its UTF-8 octets.
 #[derive(Clone, Debug, Drop)]
 pub struct Text(String);
 
@@ -66,21 +66,21 @@ impl Model for Text {
 }
 
 impl Text {
-    /// This text. It takes no memory.
+    /// Wraps a string. Takes no memory.
     pub fn of(inner: String) -> Text
         ensures { result ≡ string_bytes inner }
     {
         Text(inner)
     }
 
-    /// The text's octets, lent.
+    /// Borrows the UTF-8 octets.
     pub fn bytes(&self) -> &[u8]
         ensures { result.now ≡ self.now }
     {
         self.0.as_bytes()
     }
 
-    /// The string back. It takes no memory.
+    /// Returns the string. Takes no memory.
     pub fn into_inner(self) -> String
         ensures { string_bytes result ≡ self }
     {

@@ -1,4 +1,4 @@
-//! What all nodes of a session agree on.
+//! The settings of a session, which are the same in all its nodes. [`Profile::of`] makes them, and nearly every crate reads them.
 
 ghost use Rattle.std.specs.Prelude.{◌≡◌, ◌+◌, ◌<◌};
 ghost use Rattle.norm_base.specs.Settings.{mode_at, fabric_at};
@@ -11,7 +11,7 @@ use crate::kinds::{FabricKind, Mode};
 use crate::node::NodeId;
 use std::marker::Model;
 
-/// A session's profile: one field for each key of a script, within that key's range. Besides, `max_n`
+/// The settings of a session: one field for each [`Key`], within that key's range. Also, `max_n`
 /// is at least `b`, and `blocks * b * e` is at most 16,777,216.
 // Every value is in its key's range. The ranges are what rules out overflow and want of room all over the code.
 #[derive(Clone, Copy, Debug, PartialEq, Eq)]
@@ -20,47 +20,47 @@ pub struct Profile {
     pub instance: u16,
     /// The object transport id of an instance's first object.
     pub first: u16,
-    /// The sender's node id; the receivers' follow it.
+    /// The sender's node id. The receivers' ids follow it.
     pub sender: u32,
     pub receivers: u8,
     pub producers: u8,
-    /// Octets of a symbol.
+    /// The octets of a symbol.
     pub e: u16,
     /// The most source symbols of a block.
     pub b: u8,
     /// The encoding symbols of a block with `b` source symbols.
     pub max_n: u8,
-    /// Parity symbols that are sent unasked, for each block.
+    /// How many parity symbols of each block are sent unasked.
     pub auto: u8,
-    /// Objects that the sender keeps at most.
+    /// The most objects that the sender keeps.
     pub window: u16,
-    /// Octets that the sender keeps at most, and those of one object.
+    /// The most octets that the sender keeps, and that one object has.
     pub octets: u32,
-    /// Blocks of a stream's buffer.
+    /// The blocks of a stream's buffer.
     pub blocks: u16,
     pub mode: Mode,
     /// Microseconds from one datagram of the sender to the next.
     pub gap: u32,
     /// The group's round trip time in microseconds.
     pub grtt: u32,
-    /// What messages say of the round trip time.
+    /// The round trip time as messages encode it (RFC 5740 section 4.2). Nothing decides by it.
     pub grtt_code: u8,
-    /// What messages say of the group's size.
+    /// The group's size as messages encode it (RFC 5740 section 4.2).
     pub gsize_code: u8,
-    /// The back-off factor K.
+    /// The back-off factor (K in RFC 5740).
     pub k: u8,
-    /// Microseconds from turn to turn, or 0 where the clock gives them.
+    /// Microseconds from turn to turn. If it is 0, the clock gives the moments.
     pub step: u32,
-    /// The turns of a run at most.
+    /// The most turns of a run.
     pub turns: u32,
     pub fabric: FabricKind,
-    /// The seed of the network's choices.
+    /// The seed of the network's and the receivers' random draws.
     pub chance: u32,
-    /// Datagrams of 1,000 that are lost.
+    /// How many of 1,000 copies the network loses.
     pub loss: u16,
-    /// Datagrams of 1,000 that come twice.
+    /// How many of 1,000 copies arrive twice.
     pub repeat: u16,
-    /// Offers that a copy is late by, at most.
+    /// The most offers that a copy is late by.
     pub late: u8,
     pub port: u16,
 }
@@ -80,7 +80,7 @@ impl Model for Profile {
     ghost inverse = { profile_of };
 }
 
-/// What the value of `mode` stands for.
+/// Returns the mode for a value of the key `mode`.
 // The value is the place of the key's word, so it is in range here, and the last word needs no number of its own.
 fn mode_at(value: u32) -> Mode
     ensures { result ≡ mode_at value }
@@ -91,7 +91,7 @@ fn mode_at(value: u32) -> Mode
     }
 }
 
-/// What the value of `fabric` stands for.
+/// Returns the network for a value of the key `fabric`.
 fn fabric_at(value: u32) -> FabricKind
     ensures { result ≡ fabric_at value }
 {
@@ -103,8 +103,8 @@ fn fabric_at(value: u32) -> FabricKind
 }
 
 impl Profile {
-    /// The profile with the given values, and all other keys at their defaults. `None` exactly where a value is
-    /// outside its key's range, or one of the two rules across keys does not hold.
+    /// Returns the profile with the given values, and defaults for all other keys. Returns `None` if a value is
+    /// outside its key's range, or if one of the two rules across keys does not hold.
     pub fn of(given: &Given) -> Option<Profile>
         ensures { result ≡ profile_given given.now }
     {
@@ -141,7 +141,7 @@ impl Profile {
         })
     }
 
-    /// The id of receiver `i`, from 0.
+    /// Returns the id of receiver `i`, counted from 0.
     pub fn receiver(&self, i: u32) -> NodeId
         requires { i < self.now.receivers }
         ensures { result ≡ self.now.sender + 1 + i }
@@ -150,7 +150,7 @@ impl Profile {
         NodeId::of(self.sender + 1 + i).unwrap()
     }
 
-    /// Whether a node is a receiver of the session.
+    /// Whether this node is one of the session's receivers.
     pub fn is_receiver(&self, node: NodeId) -> bool
         ensures { result ≡ is_receiver self.now node }
     {
@@ -165,7 +165,7 @@ impl Default for Profile {
 
     ghost is_default = { λ p. p ≡ defaults };
 
-    /// Each key at its default.
+    /// Returns the profile with every key at its default.
     fn default() -> Profile {
         // It does not fail: the defaults are in their ranges, and meet both rules.
         Profile::of(&Given::new()).unwrap()

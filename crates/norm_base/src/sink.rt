@@ -1,4 +1,4 @@
-//! Where octets go to.
+//! The trait of an output. `norm_host` implements it for standard output, `norm_memory` for a list of octets.
 
 ghost use Rattle.std.specs.Prelude.{◌≡◌, ℕ, [], ◌∷◌, is_err, OnOk, OnErr};
 ghost use Rattle.norm_base.specs.Faults.{Counts};
@@ -6,22 +6,22 @@ ghost use Rattle.norm_base.specs.Told.{Pieces, gained, GainsFront};
 
 use crate::fault::Failed;
 
-/// A sink of octets, written at its end. What was written is its pieces, one after the other.
+/// An output, appended to. Its contents are the pieces that were written, in order.
 pub trait Sink {
-    /// The pieces that were written, one for each call, where the sink tells them.
+    /// The pieces that were written, one for each call, or `None` if the sink does not record them.
     ghost pieces: { Self → Pieces };
 
-    /// How often it failed.
+    /// How many writes failed, at most `u64::MAX`.
     ghost fault_count: { Self → ℕ };
 
-    /// Writes all of the octets as one piece. After a failed write a front of
-    /// them is the last piece, if it is not empty.
+    /// Writes all of the octets as one piece. If the write fails, a prefix of them may
+    /// have been written; that prefix is then the last piece.
     fn write(&mut self, bytes: &[u8]) -> Result<(), Failed>
         ensures ok { OnOk result (pieces self.new ≡ gained (pieces self.old) (bytes.now ∷ [])) }
         ensures err { OnErr result (GainsFront (pieces self.old) (pieces self.new) bytes.now) }
         ensures cause { Counts (fault_count self.old) (fault_count self.new) (is_err result) };
 
-    /// How often it failed. The count never falls.
+    /// Returns how many writes failed. The count never falls.
     fn faults(&self) -> u64
         ensures { result ≡ fault_count self.now };
 }

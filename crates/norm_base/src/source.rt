@@ -1,4 +1,4 @@
-//! Where octets come from.
+//! The trait of an input. `norm_host` implements it for standard input, `norm_memory` for a list of octets.
 
 ghost use Rattle.std.specs.Prelude.{◌≡◌, ◌+◌, ◌^◌, ◌<◌, ◌≤◌, ℕ, List, [], Option, length, take, is_err, IfOk, OnOk, OnErr, IfSome};
 ghost use Rattle.norm_base.specs.Faults.{Counts};
@@ -6,19 +6,19 @@ ghost use Rattle.norm_base.specs.Told.{before_taking};
 
 use crate::fault::Failed;
 
-/// A source of octets, read from its front.
+/// An input, read from its beginning to its end.
 pub trait Source {
-    /// The octets left, where the source tells them.
+    /// The octets left, or `None` if the source does not record them.
     ghost left: { Self → Option (List ℕ) };
 
-    /// How many octets it gave so far: fewer than 2^63 in all.
+    /// How many octets were read so far. A successful read leaves this below 2^63.
     ghost given: { Self → ℕ };
 
-    /// How often it failed.
+    /// How many reads failed, at most `u64::MAX`.
     ghost fault_count: { Self → ℕ };
 
-    /// Reads octets into the front of the buffer, and says how many. 0 at a buffer that is not empty is
-    /// the end. A failed read leaves what is left as it was.
+    /// Reads octets into a prefix of the buffer and returns how many. If the buffer is not empty, 0 means
+    /// the end of the input. A failed read takes no octets from the input.
     fn read(&mut self, buf: &mut [u8]) -> Result<usize, Failed>
         ensures count { IfOk result (λ n. n ≤ length buf.old) }
         ensures octets { IfOk result (λ n. left self.old ≡ before_taking (take n buf.new) (left self.new)) }
@@ -28,7 +28,7 @@ pub trait Source {
         ensures err { OnErr result ((left self.new ≡ left self.old) × (given self.new ≡ given self.old)) }
         ensures cause { Counts (fault_count self.old) (fault_count self.new) (is_err result) };
 
-    /// How often it failed. The count never falls.
+    /// Returns how many reads failed. The count never falls.
     fn faults(&self) -> u64
         ensures { result ≡ fault_count self.now };
 }

@@ -1,4 +1,4 @@
-//! Why not all of an input was shown.
+//! The errors that end [`show`](crate::show) before the end of its input.
 
 ghost use Rattle.std.specs.Prelude.{◌≡◌};
 ghost use Rattle.norm_show.specs.declared.fault.ShowFault.TheVariants as fault;
@@ -8,12 +8,12 @@ use norm_script::Why;
 use std::alloc::AllocError;
 use std::fmt;
 
-/// Why a line spells no datagram.
+/// Why a line of the input is no datagram. `Display` gives the sentence for the user.
 #[derive(Clone, Copy, Debug, PartialEq, Eq)]
 pub enum NoDatagram {
     /// It has more than 3,000 octets.
     Long,
-    /// It is spelt as no line is, as by an editor.
+    /// An editor spelt it so: with a byte order mark, in UTF-16, or with a carriage return or spaces that do not belong.
     Spelt { why: Why },
     /// It has an odd number of octets.
     Odd,
@@ -37,16 +37,16 @@ impl fmt::Display for NoDatagram {
     }
 }
 
-/// What ended it before the input's end.
+/// What ended [`show`](crate::show) before the input's end.
 #[derive(Clone, Copy, Debug, PartialEq, Eq)]
 pub enum ShowFault {
-    /// The line of this number, from 1, spells no datagram.
+    /// The line with this number, counted from 1, is no datagram.
     Line { number: u64, why: NoDatagram },
     /// A read failed.
     Read,
     /// A write failed.
     Write,
-    /// There was no memory.
+    /// Memory ran out.
     Memory,
 }
 

@@ -1,6 +1,6 @@
-//! Datagrams as lines of words. `show_line` decodes octets, and gives the words of the message that they spell, or why they
-//! are refused: words of lists are made in `lists`, those that messages share in `words`, and lines in `lines`. `show`
-//! (in `stream`) reads datagrams in hexadecimal, line by line as they come, and writes the line of each.
+//! Shows datagrams as lines of words. [`show_line`] decodes one datagram and returns the words of its message, or why it is
+//! refused. `words` makes the words that messages share, `lists` those of lists, and `lines` whole lines. [`show`] reads
+//! datagrams in hexadecimal, one a line, and writes the line of each. `norm_program` calls it for `normd show`.
 #![tactic(auto)]
 
 mod fault;

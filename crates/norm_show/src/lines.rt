@@ -1,4 +1,5 @@
-//! The line of each message, and of each refusal.
+//! Makes the line of each message and of each refusal. `show_line` calls [`message_text`] and [`refused_text`]. All fail only if
+//! memory runs out.
 
 ghost use Rattle.std.specs.Prelude.{◌≡◌, ◌∷◌, [], ◌++◌, codes, decimal, map, IfOk, OnOk};
 ghost use Rattle.norm_ext.specs.Lists.{nodes_of, objects_of};
@@ -25,7 +26,7 @@ use norm_objmsg::{DataMsg, InfoMsg};
 use norm_text::Line;
 use std::alloc::{AllocError, Global};
 
-/// The line of INFO.
+/// Returns the line of INFO.
 fn info_text(alloc: Global, msg: &InfoMsg<'_>) -> Result<Vec<u8>, AllocError>
     requires { IsChecked msg.now.exts.now }
     ensures { IfOk result (λ text. text.items ≡ message_line (info_of msg.now)) }
@@ -37,7 +38,7 @@ fn info_text(alloc: Global, msg: &InfoMsg<'_>) -> Result<Vec<u8>, AllocError>
     line.end()
 }
 
-/// The line of DATA.
+/// Returns the line of DATA.
 fn data_text(alloc: Global, msg: &DataMsg<'_>) -> Result<Vec<u8>, AllocError>
     requires { IsChecked msg.now.exts.now }
     ensures { IfOk result (λ text. text.items ≡ message_line (data_of msg.now)) }
@@ -51,7 +52,7 @@ fn data_text(alloc: Global, msg: &DataMsg<'_>) -> Result<Vec<u8>, AllocError>
     line.end()
 }
 
-/// The beginning of a command's line, with room for a list of so many octets.
+/// Returns the beginning of a command's line, with room for a list of this many octets.
 fn begin_command(
     alloc: Global,
     name: &[u8],
@@ -65,7 +66,7 @@ fn begin_command(
     Ok(line)
 }
 
-/// The line of FLUSH.
+/// Returns the line of FLUSH.
 fn flush_text(
     alloc: Global,
     head: &CmdHead,
@@ -81,7 +82,7 @@ fn flush_text(
     line.end()
 }
 
-/// The line of SQUELCH.
+/// Returns the line of SQUELCH.
 fn squelch_text(
     alloc: Global,
     head: &CmdHead,
@@ -97,7 +98,7 @@ fn squelch_text(
     line.end()
 }
 
-/// The line of REPAIR_ADV.
+/// Returns the line of REPAIR_ADV.
 fn adv_text(
     alloc: Global,
     head: &CmdHead,
@@ -114,7 +115,7 @@ fn adv_text(
     line.end()
 }
 
-/// The line of ACK_REQ.
+/// Returns the line of ACK_REQ.
 fn ackreq_text(
     alloc: Global,
     head: &CmdHead,
@@ -132,14 +133,14 @@ fn ackreq_text(
     line.end()
 }
 
-/// The line of EOT.
+/// Returns the line of EOT.
 fn eot_text(alloc: Global, head: &CmdHead) -> Result<Vec<u8>, AllocError>
     ensures { IfOk result (λ text. text.items ≡ line (codes "eot") (command_words head.now)) }
 {
     begin_command(alloc, b"eot", head, 0)?.end()
 }
 
-/// The line of a command that is not read.
+/// Returns the line of a command that `norm_codec` does not read: its head and its sub-type.
 fn opaque_text(alloc: Global, head: &CmdHead, sub_type: u8) -> Result<Vec<u8>, AllocError>
     ensures { IfOk result (λ text. text.items ≡ line (codes "opaque") (command_words head.now ++ decimal sub_type ∷ [])) }
 {
@@ -148,7 +149,7 @@ fn opaque_text(alloc: Global, head: &CmdHead, sub_type: u8) -> Result<Vec<u8>, A
     line.end()
 }
 
-/// The line of a command.
+/// Returns the line of a command.
 fn command_text(alloc: Global, msg: &CommandMsg<'_>) -> Result<Vec<u8>, AllocError>
     requires { IsWholeCommand msg.now }
     ensures { IfOk result (λ text. text.items ≡ message_line (command_of msg.now)) }
@@ -198,7 +199,7 @@ fn command_text(alloc: Global, msg: &CommandMsg<'_>) -> Result<Vec<u8>, AllocErr
     }
 }
 
-/// The line of NACK.
+/// Returns the line of NACK.
 fn nack_text(alloc: Global, msg: &NackMsg<'_>) -> Result<Vec<u8>, AllocError>
     requires { IsWholeNack msg.now }
     ensures { IfOk result (λ text. text.items ≡ message_line (nack_of msg.now)) }
@@ -215,7 +216,7 @@ fn nack_text(alloc: Global, msg: &NackMsg<'_>) -> Result<Vec<u8>, AllocError>
     line.end()
 }
 
-/// Puts what an acknowledgement holds.
+/// Adds the position that an ACK of a flush confirms. Of any other ACK, adds `opaque` and the length of its content.
 fn put_body(line: &mut Line, body: &AckBody<'_>) -> Result<(), AllocError>
     ensures { OnOk result (line.new ≡ with_words line.old (ack_words (content_of body.now))) }
 {
@@ -228,7 +229,7 @@ fn put_body(line: &mut Line, body: &AckBody<'_>) -> Result<(), AllocError>
     }
 }
 
-/// The line of ACK.
+/// Returns the line of ACK.
 fn ack_text(alloc: Global, msg: &AckMsg<'_>) -> Result<Vec<u8>, AllocError>
     ensures { IfOk result (λ text. text.items ≡ message_line (ack_of msg.now)) }
 {
@@ -246,7 +247,7 @@ fn ack_text(alloc: Global, msg: &AckMsg<'_>) -> Result<Vec<u8>, AllocError>
     line.end()
 }
 
-/// The line of REPORT.
+/// Returns the line of REPORT.
 fn report_text(alloc: Global, source: u32, sequence: u16) -> Result<Vec<u8>, AllocError>
     ensures { IfOk result (λ text. text.items ≡ line (codes "report") (decimal source ∷ decimal sequence ∷ [])) }
 {
@@ -256,7 +257,7 @@ fn report_text(alloc: Global, source: u32, sequence: u16) -> Result<Vec<u8>, All
     line.end()
 }
 
-/// The line of a message.
+/// Returns the line of a message that was decoded.
 pub(crate) fn message_text(alloc: Global, msg: &Message<'_>) -> Result<Vec<u8>, AllocError>
     requires { IsWhole msg.now }
     ensures { IfOk result (λ text. text.items ≡ message_line (message_of msg.now)) }
@@ -275,7 +276,7 @@ pub(crate) fn message_text(alloc: Global, msg: &Message<'_>) -> Result<Vec<u8>, 
     }
 }
 
-/// The line of a datagram that is refused for this reason, with its place or number.
+/// Returns the line of a refused datagram: the reason, and the offset or the numbers that go with it.
 fn reason_text(alloc: Global, reason: &[u8], numbers: &[u64]) -> Result<Vec<u8>, AllocError>
     ensures { IfOk result (λ text. text.items ≡ line (codes "refused") (reason.now ∷ map decimal numbers.now)) }
 {
@@ -285,7 +286,7 @@ fn reason_text(alloc: Global, reason: &[u8], numbers: &[u64]) -> Result<Vec<u8>,
     line.end()
 }
 
-/// The line of a datagram that is refused.
+/// Returns the line of a refused datagram.
 pub(crate) fn refused_text(alloc: Global, refusal: Refusal) -> Result<Vec<u8>, AllocError>
     ensures { IfOk result (λ text. text.items ≡ refused_line refusal) }
 {

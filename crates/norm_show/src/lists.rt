@@ -1,4 +1,4 @@
-//! The words of lists: node ids, objects, repair requests and their items.
+//! Adds the words of lists to a line: node ids, objects and repair requests. `lines` calls them.
 
 ghost use Rattle.std.specs.Prelude.{◌≡◌, OnOk, map};
 ghost use Rattle.norm_ext.specs.Lists.{nodes_of, objects_of};
@@ -13,7 +13,7 @@ use norm_ext::{Item, Request, read_16, read_32, requests_of};
 use norm_text::Line;
 use std::alloc::AllocError;
 
-/// Puts node ids joined by commas, or a dash.
+/// Adds node ids, separated by commas, or a dash if there are none.
 pub(crate) fn put_nodes(line: &mut Line, list: &[u8]) -> Result<(), AllocError>
     ensures { OnOk result (line.new ≡ with_word line.old (numbers_word (nodes_of list.now))) }
 {
@@ -30,7 +30,7 @@ pub(crate) fn put_nodes(line: &mut Line, list: &[u8]) -> Result<(), AllocError>
     Ok(())
 }
 
-/// Puts object transport ids joined by commas, or a dash.
+/// Adds object transport ids, separated by commas, or a dash if there are none.
 pub(crate) fn put_objects(line: &mut Line, list: &[u8]) -> Result<(), AllocError>
     ensures { OnOk result (line.new ≡ with_word line.old (numbers_word (objects_of list.now))) }
 {
@@ -47,7 +47,7 @@ pub(crate) fn put_objects(line: &mut Line, list: &[u8]) -> Result<(), AllocError
     Ok(())
 }
 
-/// Puts an item of a request behind a separator.
+/// Adds a separator and an item of a request: object, block and symbol, with points between them.
 fn put_item(line: &mut Line, by: u8, item: Item) -> Result<(), AllocError>
     ensures { OnOk result (line.new ≡ with_piece by line.old (item_word item)) }
 {
@@ -59,7 +59,7 @@ fn put_item(line: &mut Line, by: u8, item: Item) -> Result<(), AllocError>
     )
 }
 
-/// Puts the items of a request behind a colon, joined by plus signs.
+/// Adds a colon and the items of a request, separated by plus signs.
 fn put_items(line: &mut Line, items: &[u8]) -> Result<(), AllocError>
     ensures { OnOk result (line.new ≡ with_piece 58 line.old (joined 43 (map item_word (items_named items.now)))) }
 {
@@ -76,7 +76,7 @@ fn put_items(line: &mut Line, items: &[u8]) -> Result<(), AllocError>
     Ok(())
 }
 
-/// Puts a request behind a separator: its form, its flags and its items.
+/// Adds a separator and a request: its form, its flags and its items, with colons between them.
 fn put_request(line: &mut Line, by: u8, request: &Request<'_>) -> Result<(), AllocError>
     ensures { OnOk result (line.new ≡ with_piece by line.old (request_word (request_of request.now))) }
 {
@@ -86,7 +86,7 @@ fn put_request(line: &mut Line, by: u8, request: &Request<'_>) -> Result<(), All
     Ok(())
 }
 
-/// Puts the words of a list of whole requests, joined by commas, or a dash.
+/// Adds repair requests, separated by commas, or a dash if there are none. The list was checked already.
 pub(crate) fn put_requests(line: &mut Line, list: &[u8]) -> Result<(), AllocError>
     requires { IsRequests list.now }
     ensures { OnOk result (line.new ≡ with_word line.old (requests_word (all_requests list.now))) }

@@ -1,4 +1,4 @@
-//! The line that shows a datagram.
+//! Shows one datagram as a line. `stream` calls [`show_line`] for each line of its input.
 
 ghost use Rattle.std.specs.Prelude.{◌≡◌, IfOk, is_err};
 ghost use Rattle.norm_ext.specs.Reading.{decoded};
@@ -9,16 +9,20 @@ use norm_base::{Memory, Octets};
 use norm_codec::decode;
 use std::alloc::Global;
 
-/// What is shown of a datagram.
+/// The line of a datagram, and whether the datagram is refused.
 #[derive(Debug, Drop)]
 pub struct Shown {
     /// The line, with its line feed.
     pub line: Octets,
-    /// The octets spell no message.
+    /// Whether the octets are no message.
     pub is_refused: bool,
 }
 
-/// The line of a datagram: the words of the message that the octets spell, or why they are refused.
+/// Returns the line of a datagram: the words of its message, or why it is refused.
+///
+/// # Errors
+///
+/// `Memory` if the line does not fit.
 pub fn show_line(alloc: Global, octets: &[u8]) -> Result<Shown, Memory>
     ensures line { IfOk result (λ shown. shown.line ≡ line_of (decoded octets.now)) }
     ensures refused { IfOk result (λ shown. shown.is_refused ≡ is_err (decoded octets.now)) }

@@ -1,4 +1,5 @@
-//! An input that is shown as it comes: of the next line what came of it is kept, and a line that ended is shown at once.
+//! Shows an input while it arrives. [`show`] writes the line of each datagram as soon as its line of the input ends, and keeps only
+//! the beginning of the next one. `norm_program` calls it.
 
 ghost use Rattle.std.specs.Prelude.{◌≡◌, ◌+◌, ◌≤◌, ◌<◌, ◌^◌, ◌||◌, ℕ, List, [], ◌∷◌, ◌++◌, IfOk, IfErr, OnOk, None, length};
 ghost use Rattle.norm_base.specs.Told.{Pieces};
@@ -18,13 +19,13 @@ use std::marker::Model;
 /// The most digits of a line.
 // Two digits for each of the 1,500 octets that a datagram has at most. A longer line ends the show as soon as it is too long.
 const MOST_DIGITS: usize = 3000;
-/// The octets of a read.
+/// The most octets of a read.
 // Our own choice: some lines of full size in one read, and still on the stack.
 const PIECE: usize = 16_384;
 /// What ends a line.
 const LINE_FEED: u8 = b'\n';
 
-/// The datagram that a line spells. `None` where it spells none.
+/// Returns the datagram that a line spells, or `None` if it spells none.
 fn datagram_in(alloc: Global, line: &[u8]) -> Result<Option<Octets>, Memory>
     ensures { IfOk result (λ datagram. datagram ≡ datagram_in line.now) }
 {
@@ -38,7 +39,7 @@ fn datagram_in(alloc: Global, line: &[u8]) -> Result<Option<Octets>, Memory>
     }
 }
 
-/// Why a line that spells no datagram spells none.
+/// Returns why a line that is not empty is no datagram. Call it if `datagram_in` returned `None`.
 fn why_none(line: &[u8]) -> NoDatagram
     requires { 1 ≤ length line.now }
     ensures { result ≡ why_none line.now }
@@ -55,7 +56,7 @@ fn why_none(line: &[u8]) -> NoDatagram
     NoDatagram::NoDigit
 }
 
-/// Shows line n. Answers whether its datagram was refused.
+/// Shows a line and returns whether its datagram was refused. `number` is the line's, counted from 1. An empty line shows nothing.
 fn show_text<K: Sink>(
     alloc: Global,
     number: u64,
@@ -82,14 +83,14 @@ fn show_text<K: Sink>(
     }
 }
 
-/// Whether one of them holds.
 fn either(a: bool, b: bool) -> bool
     ensures { result ≡ (a || b) }
 {
     a || b
 }
 
-/// What came of the next line, its number, and whether a datagram was refused before it.
+/// The beginning of the next line, its number, and whether a datagram before it was refused. In order: [`show_piece`](Reader::show_piece)
+/// for each piece of the input, and [`finish`](Reader::finish) at its end.
 // `rest` has no line feed: a line that ended is shown at once, and what is kept is the beginning of one line.
 #[derive(Debug, Drop)]
 struct Reader {
@@ -111,7 +112,7 @@ impl Model for Reader {
 }
 
 impl Reader {
-    /// Nothing came yet.
+    /// Returns a reader before the first line. Takes no memory.
     fn new(alloc: Global) -> Reader
         ensures { result ≡ progress_opening }
     {
@@ -122,7 +123,7 @@ impl Reader {
         }
     }
 
-    /// Adds to the next line. It is refused as soon as it is too long, whatever follows.
+    /// Adds octets to the next line. Fails as soon as the line is longer than 3,000 octets, or if memory runs out.
     fn add(&mut self, front: &[u8]) -> Result<(), ShowFault>
         requires { split_at_first 10 front.now ≡ None }
         ensures shown { OnOk result ((u : Pieces) → Shows self.old front.now self.new [] u u) }
@@ -140,7 +141,7 @@ impl Reader {
         Ok(())
     }
 
-    /// Ends the next line, and shows it.
+    /// Shows the next line, which has ended, and begins the line after it.
     fn end_line<K: Sink>(&mut self, alloc: Global, output: &mut K) -> Result<(), ShowFault>
         requires { self.old.number + 1 < 2 ^ 64 }
         ensures shown { OnOk result (Shows self.old (10 ∷ []) self.new [] (K.pieces output.old) (K.pieces output.new)) }
@@ -155,7 +156,7 @@ impl Reader {
         Ok(())
     }
 
-    /// Shows the lines that end in a piece of the input, and keeps what came of the next.
+    /// Shows the lines that end in a piece of the input, and keeps the rest of the piece.
     // Proof: Shows speaks of every input that may follow, so no list of lines is cut at an index. shows-on joins two pieces, leaves-behind carries
     // a fault back.
     fn show_piece<K: Sink>(
@@ -180,7 +181,7 @@ impl Reader {
         self.add(rest)
     }
 
-    /// Shows the last line, which lacks its end, where there is one. Answers whether a datagram was refused.
+    /// Shows the last line if it has no line feed. Returns whether any datagram was refused.
     fn finish<K: Sink>(&self, alloc: Global, output: &mut K) -> Result<bool, ShowFault>
         ensures shown { IfOk result (λ refused. ShowsEnd self.now refused (K.pieces output.old) (K.pieces output.new)) }
         ensures left { IfErr result (λ why. Leaves why (K.pieces output.old) (K.pieces output.new) (shown_from self.now [])) }
@@ -191,8 +192,13 @@ impl Reader {
     }
 }
 
-/// Shows the datagrams of an input, line by line as it comes: each line of output is one write. Answers whether one was
-/// refused. An empty line is passed over; the first line that spells no datagram ends it.
+/// Shows the datagrams of an input, one a line, while it arrives. Each line of output is one write. Skips empty lines.
+/// Returns whether any datagram was refused.
+///
+/// # Errors
+///
+/// `Line` for the first line that is no datagram, `Read` or `Write` if a call failed, `Memory` if memory ran out. The lines
+/// before the fault were written. If a write failed, a prefix of the next line may be there too.
 // Over any source and sink, and apart from the program: what is said of the input and the output needs no words and no network.
 pub fn show<S: Source, K: Sink>(
     alloc: Global,

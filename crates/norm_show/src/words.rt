@@ -1,4 +1,4 @@
-//! The words that messages share.
+//! Adds the words that several messages share to a line: heads, positions and transmission information. `lines` calls them.
 
 ghost use Rattle.std.specs.Prelude.{◌≡◌, ◌∷◌, [], decimal, OnOk};
 ghost use Rattle.norm_ext.specs.Extensions.{extensions_of, IsChecked};
@@ -10,7 +10,7 @@ use norm_ext::{CmdHead, Extensions, Fti, Item, ObjHead, read_fti};
 use norm_text::Line;
 use std::alloc::AllocError;
 
-/// Puts the source, the sequence number and the instance.
+/// Adds the source, the sequence number and the instance.
 fn put_source(
     line: &mut Line,
     source: NodeId,
@@ -24,7 +24,7 @@ fn put_source(
     line.number(u64::from(instance.0))
 }
 
-/// Puts the round trip time, the back-off factor and the group's size.
+/// Adds the round trip time, the back-off factor and the group's size as one word, such as `64.4.1`. All are as encoded.
 fn put_sizes(line: &mut Line, grtt: u8, backoff: u8, gsize: u8) -> Result<(), AllocError>
     ensures { OnOk result (line.new ≡ with_word line.old (sizes_word grtt backoff gsize)) }
 {
@@ -36,7 +36,7 @@ fn put_sizes(line: &mut Line, grtt: u8, backoff: u8, gsize: u8) -> Result<(), Al
     )
 }
 
-/// Puts what a command begins with.
+/// Adds the head of a command of the sender.
 pub(crate) fn put_command(line: &mut Line, head: &CmdHead) -> Result<(), AllocError>
     ensures { OnOk result (line.new ≡ with_words line.old (command_words head.now)) }
 {
@@ -44,7 +44,7 @@ pub(crate) fn put_command(line: &mut Line, head: &CmdHead) -> Result<(), AllocEr
     put_sizes(line, head.grtt, head.backoff, head.gsize)
 }
 
-/// Puts what INFO and DATA begin with.
+/// Adds the head of INFO and DATA.
 pub(crate) fn put_object(line: &mut Line, head: &ObjHead) -> Result<(), AllocError>
     ensures { OnOk result (line.new ≡ with_words line.old (object_words head.now)) }
 {
@@ -54,7 +54,7 @@ pub(crate) fn put_object(line: &mut Line, head: &ObjHead) -> Result<(), AllocErr
     line.number(u64::from(head.object))
 }
 
-/// Puts what a message of a receiver begins with.
+/// Adds the head of NACK and ACK: the source, the sequence number, and the sender and instance that it is for.
 pub(crate) fn put_receiver(
     line: &mut Line,
     source: NodeId,
@@ -70,7 +70,7 @@ pub(crate) fn put_receiver(
     line.number(u64::from(instance.0))
 }
 
-/// Puts an object and a symbol of it.
+/// Adds an object, a block and a symbol.
 pub(crate) fn put_symbol(line: &mut Line, item: Item) -> Result<(), AllocError>
     ensures { OnOk result (line.new ≡ with_words line.old (symbol_words item.object item.id.block item.id.symbol)) }
 {
@@ -79,7 +79,7 @@ pub(crate) fn put_symbol(line: &mut Line, item: Item) -> Result<(), AllocError>
     line.number(u64::from(item.id.symbol))
 }
 
-/// Puts what the transmission information says.
+/// Adds the transmission information as one word: `l`, `e`, `b` and `max_n`, separated by commas.
 fn put_plan(line: &mut Line, fti: Fti) -> Result<(), AllocError>
     ensures { OnOk result (line.new ≡ with_word line.old (plan_word fti)) }
 {
@@ -92,7 +92,7 @@ fn put_plan(line: &mut Line, fti: Fti) -> Result<(), AllocError>
     )
 }
 
-/// The extensions of a list of whole ones.
+/// Returns the extensions of a list that was checked already.
 fn extensions_in(exts: &[u8]) -> Extensions<'_>
     requires { IsChecked exts.now }
     ensures { result ≡ extensions_of exts.now }
@@ -101,7 +101,7 @@ fn extensions_in(exts: &[u8]) -> Extensions<'_>
     Extensions::check(exts).unwrap()
 }
 
-/// Puts what the transmission information among a message's whole extensions says, or a dash.
+/// Adds the transmission information among a message's extensions, or a dash if there is none.
 pub(crate) fn put_fti(line: &mut Line, exts: &[u8]) -> Result<(), AllocError>
     requires { IsChecked exts.now }
     ensures { OnOk result (line.new ≡ with_word line.old (fti_word (extensions_of exts.now))) }

@@ -1,5 +1,5 @@
-//! Octets as lower-case hexadecimal digits, 64 of them at a time: both halves of each are looked up in a table of sixteen
-//! digits.
+//! Writes octets in lower-case hexadecimal, 64 octets at a time: both halves of each octet are looked up in a table of sixteen
+//! digits. `Line` writes its contents with [`push_digits`].
 
 ghost use Rattle.std.specs.Prelude.{◌≡◌, ◌+◌, ◌*◌, ◌/◌, ◌%◌, ◌<◌, ◌≤◌, ◌++◌, length, map, replicate, slice_index, OnOk, OnErr, ◌-◌};
 ghost use Rattle.std.specs.Vec.{vec_len, vec_capacity};
@@ -8,15 +8,15 @@ ghost use Rattle.hex.specs.Hex.{encode_lower, lower_digits};
 use std::alloc::AllocError;
 use std::simd::prelude::*;
 
-/// How many octets are turned at a time.
+/// How many octets are converted at once.
 // Our own choice: 64 octets are one vector of the widest machines, and the compiler splits it for others.
 const LANES: usize = 64;
 
-/// The sixteen digits, four times over.
+/// The sixteen digits, repeated four times.
 // The look-up stays within sixteen lanes, so each of the four groups of lanes needs the table.
 const DIGITS: [u8; 64] = *b"0123456789abcdef0123456789abcdef0123456789abcdef0123456789abcdef";
 
-/// The digit of the high half of each lane.
+/// Returns the digit of the high half of each lane.
 #[inline(always)]
 fn high_digits(lanes: u8x64) -> u8x64
     ensures { result ≡ map (λ x. slice_index lower_digits (x / 16)) lanes }
@@ -24,7 +24,7 @@ fn high_digits(lanes: u8x64) -> u8x64
     u8x64::from_array(DIGITS).swizzle_dyn_within::<16>(lanes >> u8x64::splat(4))
 }
 
-/// The digit of the low half of each lane.
+/// Returns the digit of the low half of each lane.
 #[inline(always)]
 fn low_digits(lanes: u8x64) -> u8x64
     ensures { result ≡ map (λ x. slice_index lower_digits (x % 16)) lanes }
@@ -32,7 +32,7 @@ fn low_digits(lanes: u8x64) -> u8x64
     u8x64::from_array(DIGITS).swizzle_dyn_within::<16>(lanes & u8x64::splat(15))
 }
 
-/// The digits of each lane, in two halves.
+/// Returns the two digits of each lane in order: first those of lanes 0 to 31, then those of lanes 32 to 63.
 // Proof: interleaved lanes are one map over the indexes 0, 64, 1, 65, .., which computes to the digits of each lane in turn.
 #[inline(always)]
 fn halves_of(lanes: u8x64) -> (u8x64, u8x64)
@@ -43,7 +43,7 @@ fn halves_of(lanes: u8x64) -> (u8x64, u8x64)
     high_digits(lanes).interleave(low_digits(lanes))
 }
 
-/// The digits of each lane.
+/// Returns the two digits of each lane, in order.
 #[inline(always)]
 fn digits_of(lanes: u8x64) -> [u8; 128]
     ensures { result ≡ encode_lower lanes }
@@ -55,7 +55,7 @@ fn digits_of(lanes: u8x64) -> [u8; 128]
     digits
 }
 
-/// Fewer than 64 octets, and zeros behind them.
+/// Returns fewer than 64 octets, padded with zeros.
 fn padded(octets: &[u8]) -> u8x64
     requires { length octets.now < 64 }
     ensures { result ≡ octets.now ++ replicate (64 - length octets.now) 0 }
@@ -65,7 +65,7 @@ fn padded(octets: &[u8]) -> u8x64
     u8x64::from_array(lanes)
 }
 
-/// Puts the digits of fewer than 64 octets behind a text that has room for them.
+/// Appends the digits of fewer than 64 octets to a text that has room for them.
 // No form of its own for few octets: time counts where contents are long, and there this does only their end.
 fn put_few(text: &mut Vec<u8>, octets: &[u8])
     requires few { length octets.now < 64 }
@@ -80,7 +80,7 @@ fn put_few(text: &mut Vec<u8>, octets: &[u8])
     text.extend_from_slice(&digits[..2 * octets.len()]).unwrap();
 }
 
-/// Puts the digits of 64 octets behind a text that has room for them.
+/// Appends the digits of 64 octets to a text that has room for them.
 #[inline(always)]
 fn put_lanes(text: &mut Vec<u8>, octets: &[u8])
     requires whole { length octets.now ≡ 64 }
@@ -93,7 +93,7 @@ fn put_lanes(text: &mut Vec<u8>, octets: &[u8])
         .unwrap();
 }
 
-/// Puts octets behind a text that has room for them, each as two lower-case hexadecimal digits.
+/// Appends the digits of octets, two lower-case ones for each, to a text that has room for them. Takes no memory.
 pub fn put_digits(text: &mut Vec<u8>, octets: &[u8])
     requires { vec_len text.old + 2 * length octets.now ≤ vec_capacity text.old }
     ensures { text.new.items ≡ text.old.items ++ encode_lower octets.now }
@@ -108,7 +108,7 @@ pub fn put_digits(text: &mut Vec<u8>, octets: &[u8])
     put_few(text, rest);
 }
 
-/// Puts octets behind a text, each as two lower-case hexadecimal digits. Where there is no memory the text stays.
+/// Appends the digits of octets to a text, two lower-case ones for each. If memory runs out, the text is unchanged.
 pub fn push_digits(text: &mut Vec<u8>, octets: &[u8]) -> Result<(), AllocError>
     ensures digits { OnOk result (text.new.items ≡ text.old.items ++ encode_lower octets.now) }
     ensures refused { OnErr result (text.new.items ≡ text.old.items) }

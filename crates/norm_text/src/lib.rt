@@ -1,4 +1,5 @@
-//! The words of printed lines.
+//! Makes printed lines. [`Line`] builds a line word by word, and [`push_digits`] writes octets in hexadecimal. Scripts, `normd show` and
+//! journals print with it.
 #![tactic(auto)]
 
 mod digits;

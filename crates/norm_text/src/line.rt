@@ -1,4 +1,4 @@
-//! A printed line, written word by word.
+//! Builds a printed line word by word. [`Line`] is the type that callers use.
 
 ghost use Rattle.std.specs.Prelude.{◌≡◌, ◌++◌, ◌∷◌, [], codes, decimal, map, IfOk, OnOk};
 ghost use Rattle.hex.specs.Hex.{encode_lower};
@@ -10,16 +10,18 @@ use norm_base::Octets;
 use std::alloc::{AllocError, Global};
 use std::marker::Model;
 
-/// The room of a line's words but for contents.
+/// The room that is reserved for the words of a line, except its contents.
 // Our own choice: a guess of the room, so that most lines take memory once. A longer line takes more as it grows.
 const WORDS: usize = 128;
 
-/// What stands between words.
+/// The separator between words.
 const SPACE: u8 = b' ';
 
-/// A line without its line feed, seen as its octets. It is begun with its first word, then words and pieces of words are put
-/// behind it, and `end` gives it with its line feed. Where a call answers that there is no memory, a front of what it puts may
-/// stand.
+/// A line without its line feed. Contracts see its octets. Order of calls: [`begin`](Line::begin) with the first word, then words and
+/// pieces of words, then [`end`](Line::end). To keep the memory for the next line: [`new`](Line::new) once, then for each line
+/// [`restart`](Line::restart), words, [`finish`](Line::finish) and [`bytes`](Line::bytes).
+///
+/// A call fails only if memory runs out. A prefix of what it adds may then be in the line.
 // One buffer, to which words are put one by one. Its value is then a fold of words onto a text, and no word needs a string of its own.
 #[derive(Debug, Drop)]
 pub struct Line {
@@ -35,7 +37,7 @@ impl Model for Line {
 }
 
 impl Line {
-    /// A line without octets, which is begun by `restart`. It takes no memory.
+    /// Returns an empty line for [`restart`](Line::restart). Takes no memory.
     pub fn new(alloc: Global) -> Line
         ensures { result ≡ [] }
     {
@@ -44,7 +46,7 @@ impl Line {
         }
     }
 
-    /// A line with its first word, and room for so many octets of contents as digits.
+    /// Returns a line with its first word, and room for this many octets of contents in hexadecimal.
     pub fn begin(alloc: Global, first: &[u8], contents: usize) -> Result<Line, AllocError>
         ensures { IfOk result (λ line. line ≡ first.now) }
     {
@@ -54,7 +56,7 @@ impl Line {
         Ok(Line { octets })
     }
 
-    /// Begins another line in the same memory, with its first word, and room for so many octets of contents as digits.
+    /// Begins another line in the same memory, with its first word, and room for this many octets of contents in hexadecimal.
     pub fn restart(&mut self, first: &[u8], contents: usize) -> Result<(), AllocError>
         ensures { OnOk result (self.new ≡ first.now) }
     {
@@ -64,21 +66,21 @@ impl Line {
         self.octets.extend_from_slice(first)
     }
 
-    /// The octets, lent.
+    /// Borrows the octets of the line.
     pub fn bytes(&self) -> &[u8]
         ensures { result.now ≡ self.now }
     {
         self.octets.as_slice()
     }
 
-    /// Takes away all octets. The memory stays.
+    /// Removes all octets. Keeps the memory.
     pub fn clear(&mut self)
         ensures { self.new ≡ [] }
     {
         self.octets.clear();
     }
 
-    /// Puts a piece behind a separator.
+    /// Adds a separator and a piece of a word.
     pub fn piece(&mut self, by: u8, piece: &[u8]) -> Result<(), AllocError>
         ensures { OnOk result (self.new ≡ with_piece by self.old piece.now) }
     {
@@ -86,7 +88,7 @@ impl Line {
         self.octets.extend_from_slice(piece)
     }
 
-    /// Puts a number behind a separator.
+    /// Adds a separator and a decimal number.
     pub fn number_piece(&mut self, by: u8, n: u64) -> Result<(), AllocError>
         ensures { OnOk result (self.new ≡ with_piece by self.old (decimal n)) }
     {
@@ -94,7 +96,7 @@ impl Line {
         self.piece(by, buffer.format(n).as_bytes())
     }
 
-    /// Puts numbers, each behind the separator.
+    /// Adds decimal numbers, with the separator before each.
     fn number_pieces(&mut self, by: u8, numbers: &[u64]) -> Result<(), AllocError>
         ensures { OnOk result (self.new ≡ with_pieces by self.old (map decimal numbers.now)) }
     {
@@ -104,7 +106,7 @@ impl Line {
         Ok(())
     }
 
-    /// Puts behind a separator a piece of numbers, such as `64.4.1`, which another one separates.
+    /// Adds the separator `by`, and numbers with the separator `within` between them, such as `64.4.1`.
     #[tactic(auto, using(crate::proofs::WordLemmas::joined_put))]
     pub fn joined_piece(
         &mut self,
@@ -120,28 +122,28 @@ impl Line {
         Ok(())
     }
 
-    /// Puts one more word.
+    /// Adds a space and a word.
     pub fn word(&mut self, word: &[u8]) -> Result<(), AllocError>
         ensures { OnOk result (self.new ≡ with_word self.old word.now) }
     {
         self.piece(SPACE, word)
     }
 
-    /// Puts a number.
+    /// Adds a space and a decimal number.
     pub fn number(&mut self, n: u64) -> Result<(), AllocError>
         ensures { OnOk result (self.new ≡ with_word self.old (decimal n)) }
     {
         self.number_piece(SPACE, n)
     }
 
-    /// Puts numbers.
+    /// Adds decimal numbers, with a space before each.
     pub fn numbers(&mut self, numbers: &[u64]) -> Result<(), AllocError>
         ensures { OnOk result (self.new ≡ with_words self.old (map decimal numbers.now)) }
     {
         self.number_pieces(SPACE, numbers)
     }
 
-    /// Puts contents as lower-case hexadecimal digits.
+    /// Adds a space and the octets in lower-case hexadecimal. If there are no octets, only the space is added.
     pub fn contents(&mut self, octets: &[u8]) -> Result<(), AllocError>
         ensures { OnOk result (self.new ≡ with_word self.old (encode_lower octets.now)) }
     {
@@ -149,7 +151,7 @@ impl Line {
         push_digits(&mut self.octets, octets)
     }
 
-    /// Puts contents as digits, or a dash where there are none.
+    /// Adds a space and the octets in lower-case hexadecimal, or a dash if there are none.
     pub fn contents_or_dash(&mut self, octets: &[u8]) -> Result<(), AllocError>
         ensures { OnOk result (self.new ≡ with_word self.old (contents_word octets.now)) }
     {
@@ -159,7 +161,7 @@ impl Line {
         self.contents(octets)
     }
 
-    /// Puts an info as digits, or a dash where there is none.
+    /// Adds a space and an info in lower-case hexadecimal, or a dash if there is no info.
     pub fn info(&mut self, info: &Option<Octets>) -> Result<(), AllocError>
         ensures { OnOk result (self.new ≡ with_word self.old (info_word info.now)) }
     {
@@ -169,14 +171,14 @@ impl Line {
         }
     }
 
-    /// Puts the line feed at its end.
+    /// Adds the line feed.
     pub fn finish(&mut self) -> Result<(), AllocError>
         ensures { OnOk result (self.new ≡ self.old ++ codes "\n") }
     {
         self.octets.extend_from_slice(b"\n")
     }
 
-    /// The line with its line feed.
+    /// Returns the line with its line feed.
     pub fn end(self) -> Result<Vec<u8>, AllocError>
         ensures { IfOk result (λ line. line.items ≡ self ++ codes "\n") }
     {

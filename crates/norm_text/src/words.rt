@@ -1,11 +1,11 @@
-//! The words for what is printed of several things.
+//! Words that several printed lines share. `norm_journal` prints them.
 
 ghost use Rattle.std.specs.Prelude.{◌≡◌};
 ghost use Rattle.norm_text.specs.Words.{kind_word};
 
 use norm_base::Kind;
 
-/// The word for what an object is.
+/// Returns the word for an object's kind.
 pub fn kind_word(kind: Kind) -> &'static str
     ensures { result.now ≡ kind_word kind }
 {

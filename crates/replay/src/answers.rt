@@ -1,4 +1,4 @@
-//! What a call gave, as a line.
+//! Makes the lines that a replay prints. `receiving` and `sending` call one function for each kind of answer.
 
 use crate::fault::Fault;
 use norm_base::{Datagram, InstanceId, Sent, Sink};
@@ -9,26 +9,30 @@ use norm_send_rules::{
 use norm_text::{Line, kind_word};
 use std::alloc::Global;
 
-/// One word.
+/// Begins a line with one word.
 pub(crate) fn said(alloc: Global, word: &str) -> Result<Line, Fault> {
     Ok(Line::begin(alloc, word.as_bytes(), 0)?)
 }
 
-/// Prints an answer.
+/// Ends a line and writes it.
+///
+/// # Errors
+///
+/// `Write` if the write fails, and `Memory` if memory runs out.
 pub(crate) fn print<K: Sink>(answer: Line, output: &mut K) -> Result<(), Fault> {
     let answer = answer.end()?;
     output.write(&answer)?;
     Ok(())
 }
 
-/// A word and numbers.
+/// Begins a line with a word and numbers.
 pub(crate) fn counted(alloc: Global, word: &str, numbers: &[u64]) -> Result<Line, Fault> {
     let mut line = said(alloc, word)?;
     line.numbers(numbers)?;
     Ok(line)
 }
 
-/// Why a command was refused.
+/// Begins a line for a refused command: the reason and its numbers.
 fn refused(alloc: Global, word: &str, numbers: &[u64]) -> Result<Line, Fault> {
     let mut line = said(alloc, "refused")?;
     line.word(word.as_bytes())?;
@@ -36,7 +40,7 @@ fn refused(alloc: Global, word: &str, numbers: &[u64]) -> Result<Line, Fault> {
     Ok(line)
 }
 
-/// What a tick gave.
+/// Returns the line of a tick: the datagram in hexadecimal, or `nothing`.
 pub(crate) fn sent(alloc: Global, sent: Sent, datagram: &Datagram) -> Result<Line, Fault> {
     match sent {
         Sent::Nothing => said(alloc, "nothing"),
@@ -49,7 +53,7 @@ pub(crate) fn sent(alloc: Global, sent: Sent, datagram: &Datagram) -> Result<Lin
     }
 }
 
-/// An instance, or a dash where there is none.
+/// Adds an instance, or a dash if there is none.
 pub(crate) fn instance(line: &mut Line, instance: Option<InstanceId>) -> Result<(), Fault> {
     match instance {
         Some(instance) => line.number(u64::from(instance.0))?,
@@ -58,14 +62,14 @@ pub(crate) fn instance(line: &mut Line, instance: Option<InstanceId>) -> Result<
     Ok(())
 }
 
-/// Yes or no.
+/// Adds `yes` or `no`.
 pub(crate) fn decided(line: &mut Line, is_so: bool) -> Result<(), Fault> {
     let word = if is_so { "yes" } else { "no" };
     line.word(word.as_bytes())?;
     Ok(())
 }
 
-/// A hand-up that was taken.
+/// Returns the line of a hand-up.
 pub(crate) fn taken(alloc: Global, up: &Up) -> Result<Line, Fault> {
     match up {
         Up::Object {
@@ -99,7 +103,7 @@ pub(crate) fn taken(alloc: Global, up: &Up) -> Result<Line, Fault> {
     }
 }
 
-/// How a watermark ended.
+/// Returns the line of a watermark's outcome.
 fn ended(alloc: Global, mark: u32, outcome: Outcome) -> Result<Line, Fault> {
     let mut line = counted(alloc, "done", &[u64::from(mark)])?;
     match outcome {
@@ -117,7 +121,7 @@ fn ended(alloc: Global, mark: u32, outcome: Outcome) -> Result<Line, Fault> {
     Ok(line)
 }
 
-/// News that were told.
+/// Returns the line of a sender's news.
 pub(crate) fn told(alloc: Global, news: News) -> Result<Line, Fault> {
     match news {
         News::Past { node, at } => counted(
@@ -134,7 +138,7 @@ pub(crate) fn told(alloc: Global, news: News) -> Result<Line, Fault> {
     }
 }
 
-/// What a command did.
+/// Returns the line of an accepted command.
 fn received(alloc: Global, receipt: Receipt) -> Result<Line, Fault> {
     match receipt {
         Receipt::Object { index, len } => counted(alloc, "object", &[u64::from(index), len]),
@@ -158,7 +162,7 @@ fn received(alloc: Global, receipt: Receipt) -> Result<Line, Fault> {
     }
 }
 
-/// Why a stream took no more.
+/// Returns the line of a stream's refusal.
 fn stream_refused(alloc: Global, fault: StreamFault) -> Result<Line, Fault> {
     match fault {
         StreamFault::Closed => refused(alloc, "closed", &[]),
@@ -167,7 +171,7 @@ fn stream_refused(alloc: Global, fault: StreamFault) -> Result<Line, Fault> {
     }
 }
 
-/// Why nothing was enqueued.
+/// Returns the line of a command that enqueued nothing.
 fn enqueue_refused(alloc: Global, fault: EnqueueFault) -> Result<Line, Fault> {
     match fault {
         EnqueueFault::Empty => refused(alloc, "empty", &[]),
@@ -182,7 +186,7 @@ fn enqueue_refused(alloc: Global, fault: EnqueueFault) -> Result<Line, Fault> {
     }
 }
 
-/// Why no watermark was made.
+/// Returns the line of a refused mark.
 fn mark_refused(alloc: Global, fault: MarkFault) -> Result<Line, Fault> {
     match fault {
         MarkFault::Quorum { q } => refused(alloc, "quorum", &[u64::from(q)]),
@@ -192,7 +196,7 @@ fn mark_refused(alloc: Global, fault: MarkFault) -> Result<Line, Fault> {
     }
 }
 
-/// Why no node was struck.
+/// Returns the line of a refused strike.
 fn strike_refused(alloc: Global, fault: StrikeFault) -> Result<Line, Fault> {
     match fault {
         StrikeFault::NotMember { node } => {
@@ -204,7 +208,7 @@ fn strike_refused(alloc: Global, fault: StrikeFault) -> Result<Line, Fault> {
     }
 }
 
-/// Why a command was refused.
+/// Returns the line of a refused command.
 fn command_refused(alloc: Global, fault: SendFault) -> Result<Line, Fault> {
     match fault {
         SendFault::Enqueue(fault) => enqueue_refused(alloc, fault),

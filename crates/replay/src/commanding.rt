@@ -1,4 +1,4 @@
-//! The commands of a sender, as events spell them.
+//! Reads the commands of a sender from the words of an event. `sending` calls [`job_of`].
 
 use crate::fault::Fault;
 use crate::words::Words;
@@ -6,7 +6,7 @@ use norm_base::{InstanceId, NodeId, Octets};
 use norm_send_rules::Job;
 use std::alloc::Global;
 
-/// Data, with info or without.
+/// Reads data and, if there is one more word, its info.
 fn data(alloc: Global, words: &mut Words<'_>) -> Result<Option<Job>, Fault> {
     let Some(bytes) = words.octets(alloc)? else {
         return Ok(None);
@@ -23,7 +23,7 @@ fn data(alloc: Global, words: &mut Words<'_>) -> Result<Option<Job>, Fault> {
     }
 }
 
-/// A file, by its name and its octets.
+/// Reads a file: its name and its octets, both in hexadecimal.
 fn file(alloc: Global, words: &mut Words<'_>) -> Result<Option<Job>, Fault> {
     let Some(name) = words.octets(alloc)? else {
         return Ok(None);
@@ -34,12 +34,12 @@ fn file(alloc: Global, words: &mut Words<'_>) -> Result<Option<Job>, Fault> {
     Ok(Some(Job::File { name, bytes }))
 }
 
-/// Octets for the open stream.
+/// Makes the command that writes these octets to the open stream.
 fn write(bytes: Option<Octets>) -> Option<Job> {
     Some(Job::Write { bytes: bytes? })
 }
 
-/// A mark, of all members or of so many.
+/// Reads a mark. Its quorum is a number of members, or all members if there is no word for it.
 fn mark(words: &mut Words<'_>) -> Option<Job> {
     let Some(word) = words.word() else {
         return Some(Job::Mark { quorum: None });
@@ -49,21 +49,25 @@ fn mark(words: &mut Words<'_>) -> Option<Job> {
     })
 }
 
-/// Another instance.
+/// Reads the instance that a restart begins.
 fn restart(words: &mut Words<'_>) -> Option<Job> {
     Some(Job::Restart {
         instance: InstanceId(words.number16()?),
     })
 }
 
-/// A strike.
+/// Reads the node that is struck.
 fn strike(words: &mut Words<'_>) -> Option<Job> {
     Some(Job::Strike {
         node: NodeId::of(words.number32()?)?,
     })
 }
 
-/// The command that words spell. `None` where they spell none.
+/// Returns the command that the words spell, or `None` if they spell none.
+///
+/// # Errors
+///
+/// `Memory` if the octets of the command do not fit.
 pub(crate) fn job_of(alloc: Global, words: &mut Words<'_>) -> Result<Option<Job>, Fault> {
     let Some(verb) = words.word() else {
         return Ok(None);

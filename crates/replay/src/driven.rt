@@ -1,4 +1,4 @@
-//! A sender that events drive.
+//! The sender as a replay drives it: without the calls that send a file in pieces.
 
 use norm_base::{Datagram, InstanceId, Memory, Moment, Origin, Profile, Sent};
 use norm_send_rules::{Job, News, Receipt, SendFault};
@@ -6,7 +6,7 @@ use norm_sender::Sender;
 use std::alloc::Global;
 use std::marker::Model;
 
-/// A sender of which no file is begun, so that each of its calls may come next.
+/// A sender whose calls may come in any order, because no call here begins a file in pieces.
 // A type of its own for one fact: no call here begins a file, so each call's condition holds of itself.
 #[derive(Drop)]
 pub(crate) struct Driven {
@@ -25,7 +25,7 @@ impl Model for Driven {
 }
 
 impl Driven {
-    /// A sender as it begins.
+    /// Returns a new sender. Fails with `Memory` if memory runs out.
     pub(crate) fn new(
         alloc: Global,
         profile: &Profile,
@@ -35,17 +35,17 @@ impl Driven {
         Ok(Driven { sender })
     }
 
-    /// Hands it a datagram.
+    /// Hands the sender a datagram.
     pub(crate) fn deliver(&mut self, bytes: &[u8], now: Moment) {
         self.sender.deliver(bytes, now);
     }
 
-    /// Lets it tick.
+    /// Lets the sender write its next datagram, if one is due.
     pub(crate) fn tick(&mut self, now: Moment, out: &mut Datagram) -> Sent {
         self.sender.tick(now, out)
     }
 
-    /// Gives it a command.
+    /// Gives the sender a command. If the sender refuses it, its octets are dropped.
     pub(crate) fn command(
         &mut self,
         by: Origin,
@@ -58,12 +58,12 @@ impl Driven {
         }
     }
 
-    /// Takes its next news.
+    /// Takes the sender's next news, if there are any.
     pub(crate) fn news(&mut self) -> Option<News> {
         self.sender.news()
     }
 
-    /// The sender, to be looked at.
+    /// Borrows the sender to read its state.
     pub(crate) fn sender(&self) -> &Sender {
         &self.sender
     }

@@ -1,4 +1,4 @@
-//! The events of an input, line by line.
+//! Reads the lines of an input as events. [`Events::next`] returns them one by one to `run` and `node`.
 
 ghost use Rattle.std.specs.Prelude.{IfOk};
 ghost use Rattle.replay.specs.Left.{GoesOn};
@@ -8,7 +8,7 @@ use crate::words::Words;
 use norm_base::{InstanceId, Key, NodeId};
 use std::str::Lines;
 
-/// What a node is asked to do.
+/// A call of a node.
 #[derive(Drop)]
 pub(crate) enum Verb {
     Deliver,
@@ -19,22 +19,22 @@ pub(crate) enum Verb {
     Tell,
 }
 
-/// What a line says.
+/// A line of the input.
 #[derive(Drop)]
 pub(crate) enum Event {
-    /// A key of the profile of the next node.
+    /// Sets a key of the next node's profile.
     Set { key: Key, value: u32 },
-    /// A receiver with this node id begins.
+    /// Begins a receiver with this node id.
     Receiver { node: NodeId },
-    /// A sender begins in this instance.
+    /// Begins a sender with this instance.
     Sender { instance: InstanceId },
-    /// A name for the lines that follow. It was not read yet.
+    /// Names the lines that follow. The name is still unread.
     Row,
-    /// A call of the node that runs. Its words were not read yet.
+    /// Calls the node that runs. The arguments are still unread.
     Call(Verb),
 }
 
-/// A key of a profile, and its value.
+/// Reads a key and its value. The value is a word of the key, or a number below 2^32, in its range or not.
 fn set(words: &mut Words<'_>) -> Option<Event> {
     let key = Key::named(words.word()?.as_bytes())?;
     let word = words.word()?;
@@ -45,24 +45,24 @@ fn set(words: &mut Words<'_>) -> Option<Event> {
     Some(Event::Set { key, value })
 }
 
-/// The node of a receiver that begins.
+/// Reads the node id of a receiver.
 fn receiver(words: &mut Words<'_>) -> Option<Event> {
     let node = NodeId::of(words.number32()?)?;
     Some(Event::Receiver { node })
 }
 
-/// The instance of a sender that begins.
+/// Reads the instance of a sender.
 fn sender(words: &mut Words<'_>) -> Option<Event> {
     let instance = InstanceId(words.number16()?);
     Some(Event::Sender { instance })
 }
 
-/// An event with no words behind it. `None` where there are some.
+/// Returns the event, or `None` if words are left.
 fn alone(event: Event, words: &mut Words<'_>) -> Option<Event> {
     if words.are_done() { Some(event) } else { None }
 }
 
-/// The event that begins with this word. `None` where the words spell none.
+/// Reads the event that begins with this word. Returns `None` if the words spell no event.
 fn event_of(word: &str, words: &mut Words<'_>) -> Option<Event> {
     match word {
         "set" => alone(set(words)?, words),
@@ -79,18 +79,19 @@ fn event_of(word: &str, words: &mut Words<'_>) -> Option<Event> {
     }
 }
 
-/// The events of an input that were not read yet.
+/// The events of an input that were not read yet. [`next`](Events::next) reads one. If it is a `Row` or a `Call`, its other
+/// words are then in `words`.
 #[derive(Drop)]
 pub(crate) struct Events<'a> {
     lines: Lines<'a>,
-    /// The number of the last line that was read, from 1 on.
+    /// The number of the last line that was read, counted from 1.
     number: usize,
-    /// The words of that line that were not read yet.
+    /// The words of that line that are still unread.
     pub(crate) words: Words<'a>,
 }
 
 impl<'a> Events<'a> {
-    /// All events of a text.
+    /// Returns the events of a text, none of them read.
     pub(crate) fn of(text: &'a str) -> Events<'a> {
         Events {
             lines: text.lines(),
@@ -99,11 +100,11 @@ impl<'a> Events<'a> {
         }
     }
 
-    /// The next event. Empty lines are passed over.
+    /// Returns the next event, or `None` after the last one. It skips empty lines.
     ///
     /// # Errors
     ///
-    /// A line that is no event of any node.
+    /// `Line` if the line is no event of any node.
     pub(crate) fn next(&mut self) -> Result<Option<Event>, Fault>
         ensures fewer { IfOk result (GoesOn self.old self.new) }
     {
@@ -121,7 +122,7 @@ impl<'a> Events<'a> {
         Ok(None)
     }
 
-    /// That the last line is no event of the node that runs.
+    /// Returns the fault for a line that is no event of the node that runs: the line that was read last.
     pub(crate) fn fault(&self) -> Fault {
         Fault::Line {
             number: self.number,

@@ -1,4 +1,4 @@
-//! Why a replay ends before its input does.
+//! The errors that end a replay before the end of its input, and the exit status of each.
 
 use norm_base::{Failed, Memory};
 use std::alloc::{AllocError, AllocFailed};
@@ -8,7 +8,7 @@ use std::fmt;
 /// Why a replay ends before its input does.
 #[derive(Clone, Copy, Debug, PartialEq, Eq, Drop)]
 pub enum Fault {
-    /// This line, from 1 on, is no event, or none of the node that runs.
+    /// This line, counted from 1, is no event, or the node that runs has no such call.
     Line { number: usize },
     /// The input is not UTF-8.
     NotText,
@@ -16,12 +16,12 @@ pub enum Fault {
     Read,
     /// A write failed.
     Write,
-    /// Memory ran out where no node wanted it.
+    /// Memory ran out outside a call of a node. If it runs out in one, the replay prints `memory` and goes on.
     Memory,
 }
 
 impl Fault {
-    /// The exit status.
+    /// Returns the exit status of the program.
     pub fn status(self) -> u8 {
         match self {
             Fault::Memory => 1,

@@ -1,10 +1,14 @@
-//! The input, read whole.
+//! Reads the whole input before any of it is replayed.
 
 use crate::fault::Fault;
 use norm_base::Source;
 use std::alloc::Global;
 
-/// All of the input's octets.
+/// Returns all octets of the input.
+///
+/// # Errors
+///
+/// `Read` if a read fails, and `Memory` if the octets do not fit.
 pub(crate) fn read_all<S: Source>(alloc: Global, input: &mut S) -> Result<Vec<u8>, Fault> {
     let mut text = Vec::new(alloc);
     let mut buffer = [0u8; 4096];

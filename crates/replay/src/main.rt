@@ -1,4 +1,5 @@
-//! replay: drives a sender or a receiver by events, a line each, and prints what each call gave.
+//! replay: drives one sender or receiver by lines of standard input, and prints one line for each. The README lists the lines. Tests of
+//! the nodes and `checks/nodes.py` run it. Start at `run.rt`, which follows the lines, and at `node.rt`, which calls the node.
 #![tactic(auto)]
 
 mod answers;
@@ -19,7 +20,7 @@ use norm_host::{StdSink, StdSource};
 use std::io;
 use std::process::ExitCode;
 
-/// Replays the events of the standard input.
+/// Replays standard input onto standard output. `Fault::status` has the exit status.
 fn main(rt: HostRuntime) -> ExitCode {
     let alloc = rt.alloc();
     let mut input = StdSource::of(rt.reader());

@@ -1,4 +1,4 @@
-//! A node that events drive.
+//! The calls that a sender and a receiver share, and the loop that makes them. `run_sender` and `run_receiver` call [`drive`].
 
 ghost use Rattle.std.specs.Prelude.{◌≡◌, IfOk};
 ghost use Rattle.replay.specs.Left.{GoesOn};
@@ -11,9 +11,10 @@ use norm_base::{Datagram, Sink};
 use norm_text::Line;
 use std::alloc::Global;
 
-/// What a sender and a receiver have in common.
+/// A sender or a receiver that events drive.
 pub(crate) trait Node {
-    /// What a call of this verb gave. `None` where it is none of this node's.
+    /// Calls the node and returns the line to print. Returns `None` if this node has no such call, or the words do not
+    /// spell its arguments.
     fn call(
         &mut self,
         alloc: Global,
@@ -23,7 +24,7 @@ pub(crate) trait Node {
     ) -> Result<Option<Line>, Fault>;
 }
 
-/// Calls a node, and prints what that gave.
+/// Calls a node and prints the answer. Fails if words are left after the arguments.
 fn answer<N: Node, K: Sink>(
     alloc: Global,
     node: &mut N,
@@ -43,7 +44,7 @@ fn answer<N: Node, K: Sink>(
     print(answer, output)
 }
 
-/// Prints the name of a row, which touches no node and no key.
+/// Prints the name of a row. It changes no node and no key.
 pub(crate) fn name_row<K: Sink>(
     alloc: Global,
     events: &mut Events<'_>,
@@ -62,7 +63,7 @@ pub(crate) fn name_row<K: Sink>(
     print(line, output)
 }
 
-/// Drives a node that began, call by call, and gives the first event that is no call.
+/// Prints `begun`, then follows calls and names of rows. Returns the first other event, or `None` at the end of the input.
 pub(crate) fn drive<N: Node, K: Sink>(
     alloc: Global,
     node: &mut N,

@@ -1,4 +1,4 @@
-//! The calls of a receiver.
+//! Makes the calls of a receiver from the words of an event. `run` calls [`run_receiver`].
 
 ghost use Rattle.std.specs.Prelude.{IfOk};
 ghost use Rattle.replay.specs.Left.{GoesOn};
@@ -13,7 +13,7 @@ use norm_receiver::Receiver;
 use norm_text::Line;
 use std::alloc::Global;
 
-/// A datagram comes.
+/// Reads a moment, a draw and a datagram, and delivers the datagram. The draw decides a back-off.
 fn deliver(
     alloc: Global,
     receiver: &mut Receiver,
@@ -32,7 +32,7 @@ fn deliver(
     Ok(Some(said(alloc, word)?))
 }
 
-/// A tick. There is none while a hand-up isn't taken.
+/// Reads a moment and ticks. If a hand-up was not taken yet, the receiver does not tick.
 fn tick(
     alloc: Global,
     receiver: &mut Receiver,
@@ -50,7 +50,7 @@ fn tick(
     Ok(Some(sent(alloc, given, out)?))
 }
 
-/// A hand-up is taken.
+/// Takes the next hand-up.
 fn take(alloc: Global, receiver: &mut Receiver) -> Result<Option<Line>, Fault> {
     match receiver.take_up() {
         Some(up) => Ok(Some(taken(alloc, &up)?)),
@@ -58,7 +58,7 @@ fn take(alloc: Global, receiver: &mut Receiver) -> Result<Option<Line>, Fault> {
     }
 }
 
-/// The position of the acknowledgement that is due, or a dash.
+/// Writes the position of the acknowledgement that is due, or a dash if none is.
 fn due(line: &mut Line, receiver: &Receiver) -> Result<(), Fault> {
     match receiver.due() {
         Some(at) => {
@@ -73,7 +73,7 @@ fn due(line: &mut Line, receiver: &Receiver) -> Result<(), Fault> {
     Ok(())
 }
 
-/// What the receiver tells of itself.
+/// Returns the line of the receiver's state: instance, hand-ups not yet taken, whether it lost an object, and what is due.
 fn tell(alloc: Global, receiver: &Receiver) -> Result<Option<Line>, Fault> {
     let mut line = counted(alloc, "receiver", &[])?;
     instance(&mut line, receiver.instance())?;
@@ -101,7 +101,7 @@ impl Node for Receiver {
     }
 }
 
-/// Runs a receiver by the calls that come, and gives the event behind them.
+/// Begins a receiver and follows the calls of it. Returns the first event after them.
 pub(crate) fn run_receiver<K: Sink>(
     alloc: Global,
     profile: &Profile,

@@ -1,4 +1,4 @@
-//! A replay, node by node.
+//! The loop of a replay. [`replay`] reads the input, sets keys and runs one node after another. `main` calls it.
 
 ghost use Rattle.std.specs.Prelude.{IfOk};
 ghost use Rattle.replay.specs.Left.{GoesOn};
@@ -13,16 +13,16 @@ use crate::sending::run_sender;
 use norm_base::{Given, Key, Profile, Sink, Source};
 use std::alloc::Global;
 
-/// The keys of the profile of the next node.
+/// The keys that were set for the next node.
 #[derive(Drop)]
 struct Keys {
     given: Given,
-    /// Whether a node began under them.
+    /// Whether a node began with these keys.
     are_used: bool,
 }
 
 impl Keys {
-    /// Sets a key. The first one behind a node begins a new profile.
+    /// Sets a key. If a node began since the last `set`, all other keys return to their defaults.
     fn set(&mut self, key: Key, value: u32) {
         if self.are_used {
             self.given = Given::new();
@@ -31,14 +31,15 @@ impl Keys {
         self.given.set(key, value);
     }
 
-    /// The profile of a node that begins. `None` where the keys make none.
+    /// Returns the profile for a node that begins, or `None` if the keys are out of range.
     fn profile(&mut self) -> Option<Profile> {
         self.are_used = true;
         Profile::of(&self.given)
     }
 }
 
-/// Does what an event says while no node runs, and gives the event behind that.
+/// Follows an event while no node runs, and returns the next event to follow. A `receiver` or `sender` runs that node
+/// until an event that is not a call of it.
 fn follow<K: Sink>(
     alloc: Global,
     event: Event,
@@ -70,7 +71,7 @@ fn follow<K: Sink>(
     }
 }
 
-/// Replays a text.
+/// Replays a text, event by event.
 fn replay_text<K: Sink>(alloc: Global, text: &str, output: &mut K) -> Result<(), Fault> {
     let mut events = Events::of(text);
     let mut keys = Keys {
@@ -84,12 +85,12 @@ fn replay_text<K: Sink>(alloc: Global, text: &str, output: &mut K) -> Result<(),
     Ok(())
 }
 
-/// Replays an input, a line after the other, and prints a line for each that isn't empty.
+/// Replays an input line by line, and prints one line for each line that is not empty.
 ///
 /// # Errors
 ///
-/// The first line that is no event of the node that runs, an input that can't be read, an output that can't be written, and
-/// want of memory where no node wants it.
+/// `Line` with the first line that is no event of the node that runs, `NotText` if the input is not UTF-8, `Read` or `Write` if
+/// a call of the input or output failed, and `Memory` if memory ran out outside a call of a node.
 pub(crate) fn replay<S: Source, K: Sink>(
     alloc: Global,
     input: &mut S,

@@ -1,4 +1,4 @@
-//! The calls of a sender.
+//! Makes the calls of a sender from the words of an event. `run` calls [`run_sender`].
 
 ghost use Rattle.std.specs.Prelude.{IfOk};
 ghost use Rattle.replay.specs.Left.{GoesOn};
@@ -15,7 +15,7 @@ use norm_sender::Sender;
 use norm_text::Line;
 use std::alloc::Global;
 
-/// A datagram comes. Its draw means nothing to a sender.
+/// Reads a datagram and delivers it. A sender ignores the draw.
 fn deliver(
     alloc: Global,
     sender: &mut Driven,
@@ -31,7 +31,7 @@ fn deliver(
     Ok(Some(said(alloc, "done")?))
 }
 
-/// A tick.
+/// Reads a moment and ticks.
 fn tick(
     alloc: Global,
     sender: &mut Driven,
@@ -45,7 +45,7 @@ fn tick(
     Ok(Some(sent(alloc, given, out)?))
 }
 
-/// Whose command it is, and the number that its producer gave it.
+/// Reads the producer of a command, and the number that the producer gave it.
 fn origin(words: &mut Words<'_>) -> Option<Origin> {
     Some(Origin {
         producer: words.number32()?,
@@ -53,7 +53,7 @@ fn origin(words: &mut Words<'_>) -> Option<Origin> {
     })
 }
 
-/// A command.
+/// Reads a command, its origin and its moment, and gives it to the sender.
 fn command(
     alloc: Global,
     sender: &mut Driven,
@@ -69,7 +69,7 @@ fn command(
     Ok(Some(commanded(alloc, gave)?))
 }
 
-/// The next news.
+/// Takes the sender's next news.
 fn news(alloc: Global, sender: &mut Driven) -> Result<Option<Line>, Fault> {
     match sender.news() {
         Some(news) => Ok(Some(told(alloc, news)?)),
@@ -77,7 +77,7 @@ fn news(alloc: Global, sender: &mut Driven) -> Result<Option<Line>, Fault> {
     }
 }
 
-/// What the sender tells of itself.
+/// Returns the line of the sender's state: instance, open watermarks, news not yet taken, and whether it is idle.
 fn tell(alloc: Global, sender: &Sender) -> Result<Option<Line>, Fault> {
     let mut line = counted(alloc, "sender", &[])?;
     instance(&mut line, Some(sender.instance()))?;
@@ -106,7 +106,7 @@ impl Node for Driven {
     }
 }
 
-/// Runs a sender by the calls that come, and gives the event behind them.
+/// Begins a sender and follows the calls of it. Returns the first event after them.
 pub(crate) fn run_sender<K: Sink>(
     alloc: Global,
     profile: &Profile,

@@ -1,49 +1,54 @@
-//! The words of an event.
+//! The words of one line of the input. Each call of [`Words`] reads the next word.
 
 use hex::FromHexError;
 use norm_base::{Memory, Octets};
 use std::alloc::Global;
 use std::str::SplitWhitespace;
 
-/// What stands for no octets, and for no info.
+/// The word for no octets.
 // Empty octets have no digits, and a word that is empty would be none.
 const DASH: &str = "-";
 
-/// The words of a line that were not read yet.
+/// The words of a line that were not read yet. After the last word, call [`are_done`](Words::are_done): further words make
+/// the line a fault.
 #[derive(Drop)]
 pub(crate) struct Words<'a> {
     rest: SplitWhitespace<'a>,
 }
 
 impl<'a> Words<'a> {
-    /// All words of a line.
+    /// Returns the words of a line, none of them read.
     pub(crate) fn of(line: &'a str) -> Words<'a> {
         Words {
             rest: line.split_whitespace(),
         }
     }
 
-    /// The next word, as it stands.
+    /// Returns the next word as it is, or `None` if there is none.
     pub(crate) fn word(&mut self) -> Option<&'a str> {
         self.rest.next()
     }
 
-    /// The next word, as a number of 64 bits.
+    /// Returns the next word as a decimal number, or `None` if it is none below 2^64.
     pub(crate) fn number(&mut self) -> Option<u64> {
         self.rest.next()?.parse::<u64>().ok()
     }
 
-    /// The next word, as a number of 32 bits.
+    /// Returns the next word as a decimal number, or `None` if it is none below 2^32.
     pub(crate) fn number32(&mut self) -> Option<u32> {
         self.rest.next()?.parse::<u32>().ok()
     }
 
-    /// The next word, as a number of 16 bits.
+    /// Returns the next word as a decimal number, or `None` if it is none below 2^16.
     pub(crate) fn number16(&mut self) -> Option<u16> {
         self.rest.next()?.parse::<u16>().ok()
     }
 
-    /// The next word, as octets in hexadecimal; a dash is none of them.
+    /// Returns the octets that the next word spells in hexadecimal. A dash spells no octets. Returns `None` if there is no such word.
+    ///
+    /// # Errors
+    ///
+    /// `Memory` if the octets do not fit.
     pub(crate) fn octets(&mut self, alloc: Global) -> Result<Option<Octets>, Memory> {
         let Some(word) = self.rest.next() else {
             return Ok(None);
@@ -56,7 +61,7 @@ impl<'a> Words<'a> {
         }
     }
 
-    /// Whether no word is left.
+    /// Whether no word is left. If one is left, this reads it.
     pub(crate) fn are_done(&mut self) -> bool {
         self.rest.next().is_none()
     }

@@ -1,4 +1,4 @@
-//! A runtime whose sockets for datagrams fail, so that each call of one does in its turn.
+//! A runtime whose UDP sockets fail. `causes` and `failures` use it to make each call of a socket fail.
 
 use std::io;
 use std::net::{Ipv4Addr, Net, SocketAddr, SocketAddrV4, UdpSocket};
@@ -6,21 +6,21 @@ use std::sync::Wait;
 use std::thread::Threads;
 use std::time::{Clock, Duration};
 
-/// What is wrong with each socket for datagrams.
+/// What is wrong with each UDP socket.
 #[derive(Clone, Copy)]
 pub(crate) enum Wrong {
-    /// It is to be bound to an address that is not this machine's.
+    /// It is bound to an address of another machine, which fails.
     Address,
-    /// It is one of the Unix kind for streams, which can be connected, sent to and received at by no address of the internet.
+    /// It is a Unix stream socket, which can neither connect to, send to nor receive from an internet address.
     Kind,
 }
 
-/// An address for documents alone (RFC 5737), and so no machine's.
+/// Returns an address that no machine has: it is reserved for documents (RFC 5737).
 fn elsewhere(port: u16) -> SocketAddr {
     SocketAddr::V4(SocketAddrV4::new(Ipv4Addr::new(192, 0, 2, 1), port))
 }
 
-/// A runtime, and what is wrong with its sockets for datagrams. All else is as it is.
+/// A runtime whose UDP sockets have this fault. All other calls go to `rt`.
 #[derive(Clone, Copy, Drop)]
 pub(crate) struct Broken<R> {
     pub(crate) rt: R,

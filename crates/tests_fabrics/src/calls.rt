@@ -1,5 +1,5 @@
-//! Networks, driven through their trait by a table of steps, and what they answered as a text, which is compared with the wanted one: so a network's
-//! own contract leads to no goal here.
+//! Drives three networks by a table of steps, and compares their answers as text. The other modules call [`Networks::compare`]. The calls go
+//! through the trait, so that no contract of one network has to be proved here.
 
 use norm_base::{
     DATAGRAM_ROOM, Datagram, Fabric, FabricFault, FabricKind, Given, Key, Local, NodeId, Profile,
@@ -7,28 +7,28 @@ use norm_base::{
 use std::alloc::Global;
 use std::test::Fail;
 
-/// The lowest port. All are below those that the system gives to a socket that asks for none.
+/// The lowest port. All ports of tests are below those that the system gives to a socket that asks for none.
 const LOWEST: u32 = 20_000;
 
-/// How many numbers of tests a process has, and how many ports go with each: the hub's, and its three members'. A test of more members takes the
-/// numbers after its own too.
+/// How many test numbers a process has. Each has `PORTS` ports: the hub's and three members'. A test with more members also takes the
+/// numbers after its own.
 const TESTS: u32 = 32;
 
 const PORTS: u32 = 4;
 
-/// How many processes in a row have ports of their own.
+/// How many processes with consecutive ids have ports of their own.
 const PROCESSES: u32 = 99;
 
-/// How many receivers a session of a table of steps has.
+/// The receivers of a session that a table of steps drives.
 const RECEIVERS: u32 = 2;
 
-/// The most looks for datagrams that are to come, and the looks after them for one that is not to come.
+/// The most takes until all expected datagrams have arrived. `GLANCES` takes after them look for one that should not arrive.
 // A look that finds nothing sleeps for a millisecond, if nothing came in the last ten. So a machine that does much else has seconds to deliver.
 const PATIENCE: u32 = 4_000;
 
 const GLANCES: u32 = 16;
 
-/// Octets of the longest datagram, of which a text has one letter.
+/// The octets of the longest datagram. An answer has the letter `L` for it.
 pub(crate) const LONGEST: usize = 1_500;
 
 /// One of the three networks of a test.
@@ -39,8 +39,8 @@ pub(crate) enum At {
     Receiver,
 }
 
-/// What is done with a network: it is started with all members, with one or as the hub, or with all by a profile that names a network in
-/// memory; a member offers octets; or what came is taken, once so many datagrams did.
+/// A step of a network: it starts with all members, with one, as the hub, or with all members and a profile that names memory; a member
+/// offers octets; or the network takes until this many datagrams have arrived.
 #[derive(Clone, Copy)]
 pub(crate) enum Step {
     StartAll,
@@ -51,12 +51,12 @@ pub(crate) enum Step {
     Take(u32),
 }
 
-/// The hub's port in a test of a process.
+/// Returns the hub's port for a process's id and the number of a test.
 pub(crate) fn port_of(process: u32, test: u32) -> u16 {
     (LOWEST + PORTS * (process % PROCESSES * TESTS + test % TESTS)) as u16
 }
 
-/// The profile with these keys.
+/// Returns the profile with these values, or `None` if one is out of range.
 // Each key comes through the loop: a call of `set` that names its key costs much to prove.
 fn profile_with(keys: &[(Key, u32)]) -> Option<Profile> {
     let mut given = Given::new();
@@ -66,7 +66,7 @@ fn profile_with(keys: &[(Key, u32)]) -> Option<Profile> {
     Profile::of(&given)
 }
 
-/// A profile of so many receivers over a network of this kind, with the hub at this port.
+/// Returns a profile with this many receivers, this kind of network, and the hub at this port.
 pub(crate) fn profile_of(port: u16, kind: FabricKind, receivers: u32) -> Option<Profile> {
     profile_with(&[
         (Key::Receivers, receivers),
@@ -75,7 +75,7 @@ pub(crate) fn profile_of(port: u16, kind: FabricKind, receivers: u32) -> Option<
     ])
 }
 
-/// `.` for a call that was Ok, and `!` for one that failed.
+/// Returns `.` for a call that was `Ok`, and `!` for one that failed.
 fn mark(done: Result<(), FabricFault>) -> u8 {
     match done {
         Ok(()) => b'.',
@@ -83,7 +83,7 @@ fn mark(done: Result<(), FabricFault>) -> u8 {
     }
 }
 
-/// A number below ten as its digit.
+/// Returns the digit of a number, or `?` if it is above 9.
 fn digit(number: u64) -> u8 {
     match u8::try_from(number) {
         Ok(small) if small < 10 => b'0' + small,
@@ -91,7 +91,7 @@ fn digit(number: u64) -> u8 {
     }
 }
 
-/// What a start of these members answered. `?` stands for a number that names no member, and for no profile.
+/// Starts a network with these members and returns the answer, or `?` if there is no such profile or member.
 fn started<F: Fabric>(fabric: &mut F, port: u16, kind: FabricKind, local: Option<Local>) -> u8 {
     let (Some(profile), Some(local)) = (profile_of(port, kind, RECEIVERS), local) else {
         return b'?';
@@ -99,7 +99,7 @@ fn started<F: Fabric>(fabric: &mut F, port: u16, kind: FabricKind, local: Option
     mark(fabric.start(&profile, local))
 }
 
-/// What an offer answered. `?` stands for a number that names no member, and for too many octets.
+/// Offers octets and returns the answer, or `?` if there is no such member or there are too many octets.
 fn offered<F: Fabric>(fabric: &mut F, number: u32, octets: &[u8]) -> u8 {
     match NodeId::of(number) {
         Some(node) if octets.len() <= DATAGRAM_ROOM => mark(fabric.offer(node, octets)),
@@ -107,7 +107,7 @@ fn offered<F: Fabric>(fabric: &mut F, number: u32, octets: &[u8]) -> u8 {
     }
 }
 
-/// Adds a datagram: the digit of the node and the octets, or `L` for the longest ones.
+/// Adds the digit of the node and the octets of its datagram, or `L` if it is a longest one.
 fn add_datagram(node: NodeId, octets: &[u8], all: &mut Vec<u8>) -> Result<(), FabricFault> {
     all.push(digit(u64::from(node.number())))?;
     if octets.len() == LONGEST {
@@ -118,7 +118,7 @@ fn add_datagram(node: NodeId, octets: &[u8], all: &mut Vec<u8>) -> Result<(), Fa
     Ok(())
 }
 
-/// Adds what a take gives: a datagram, nothing, or `!` where it failed. Returns how many datagrams it gave.
+/// Takes once. Adds the datagram, or `!` if the call failed. Returns how many datagrams were taken, 0 or 1.
 fn take<F: Fabric>(
     fabric: &mut F,
     into: &mut Datagram,
@@ -137,7 +137,7 @@ fn take<F: Fabric>(
     }
 }
 
-/// Adds what is taken until so many datagrams came, what comes in a few looks after them, and `;`.
+/// Takes until `count` datagrams have arrived, and a few times more. Adds what was taken, and `;`.
 fn taken<F: Fabric>(
     alloc: Global,
     fabric: &mut F,
@@ -159,7 +159,7 @@ fn taken<F: Fabric>(
     Ok(())
 }
 
-/// What a step that takes nothing answered.
+/// Makes a step that is no take, and returns the answer.
 fn called<F: Fabric>(fabric: &mut F, port: u16, step: Step) -> u8 {
     match step {
         Step::StartAll => started(fabric, port, FabricKind::Udp, Some(Local::All)),
@@ -174,7 +174,7 @@ fn called<F: Fabric>(fabric: &mut F, port: u16, step: Step) -> u8 {
     }
 }
 
-/// Adds what a step answered.
+/// Makes a step and adds the answer.
 fn take_step<F: Fabric>(
     alloc: Global,
     fabric: &mut F,
@@ -189,7 +189,7 @@ fn take_step<F: Fabric>(
     Ok(())
 }
 
-/// The networks of a test, at ports from the hub's on.
+/// The three networks of a test. `port` is the hub's, and the members have the ports after it.
 #[derive(Drop)]
 pub(crate) struct Networks<F> {
     pub(crate) port: u16,
@@ -199,7 +199,7 @@ pub(crate) struct Networks<F> {
 }
 
 impl<F: Fabric> Networks<F> {
-    /// Adds what a step at one of them answered.
+    /// Makes a step of one network and adds the answer.
     fn take_step_at(
         &mut self,
         alloc: Global,
@@ -214,7 +214,7 @@ impl<F: Fabric> Networks<F> {
         }
     }
 
-    /// Adds what these steps answered.
+    /// Makes these steps and adds the answers.
     pub(crate) fn take_steps(
         &mut self,
         alloc: Global,
@@ -227,7 +227,7 @@ impl<F: Fabric> Networks<F> {
         Ok(())
     }
 
-    /// Adds a blank, and how many calls of each failed.
+    /// Adds a blank, and a digit for each network: how many of its calls failed.
     fn add_faults(&self, all: &mut Vec<u8>) -> Result<(), FabricFault> {
         all.push(b' ')?;
         all.push(digit(self.sender.faults()))?;
@@ -236,7 +236,7 @@ impl<F: Fabric> Networks<F> {
         Ok(())
     }
 
-    /// What these steps answered, a blank, and how many calls of each failed until then.
+    /// Makes these steps and returns the answers, with the counts of failed calls after them.
     fn answers(&mut self, alloc: Global, steps: &[(At, Step)]) -> Result<Vec<u8>, FabricFault> {
         let mut all = Vec::new(alloc);
         self.take_steps(alloc, steps, &mut all)?;
@@ -244,11 +244,11 @@ impl<F: Fabric> Networks<F> {
         Ok(all)
     }
 
-    /// Compares what these steps answered, and how many calls of each failed until then, with what is wanted.
+    /// Makes these steps and compares the answers, a blank, and how many calls of each network failed so far, with `wanted`.
     ///
     /// # Errors
     ///
-    /// What they answered, where that is something else.
+    /// The answers, if they differ.
     pub(crate) fn compare(
         &mut self,
         alloc: Global,

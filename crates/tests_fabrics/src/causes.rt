@@ -1,4 +1,5 @@
-//! What a network of sockets says of a call that failed: what was bound, connected to, sent to or received at, and why.
+//! Tests the cause that a network of sockets keeps of a failed call: whether it bound, connected, sent or received, at which address, and
+//! the system's words.
 
 use crate::broken::{Broken, Wrong};
 use crate::calls::{At, Networks, Step, port_of};
@@ -13,11 +14,11 @@ use std::sync::Wait;
 use std::test::Fail;
 use std::time::Clock;
 
-/// A network that says what its last failed call was about.
+/// A network that keeps the cause of its last failed call.
 pub(crate) trait Says: Fabric {
     fn last_cause(&self) -> Option<&SocketCause>;
 
-    /// What a thread that sends failed at, if no call told it, once all was sent.
+    /// Waits some seconds at most until all is sent. Returns the cause of a thread's failed send, if no call reported it.
     fn left(&self) -> Option<SocketCause>;
 }
 
@@ -41,23 +42,23 @@ impl<R: Net + Wait + Clock + Drop> Says for HostFabric<R> {
     }
 }
 
-/// A call of the receiver's network that fails, and what is said of it: what stands before the address, the address's port, counted from
-/// the hub's, and why.
+/// A call of the receiver's network that fails, and its sentence: the text before the address, the port minus the hub's port, and the
+/// reason.
 type Row = (Step, &'static str, u16, &'static str);
 
-/// The system's words for an address that another socket has (EADDRINUSE).
+/// The system's words if another socket has the address (EADDRINUSE).
 const IN_USE: &str = "Address already in use (os error 98)";
 
-/// Those for an address of another machine (EADDRNOTAVAIL).
+/// The system's words if another machine has the address (EADDRNOTAVAIL).
 const ELSEWHERE: &str = "Cannot assign requested address (os error 99)";
 
-/// Those for a call with what it does not take (EINVAL).
+/// The system's words if an argument is invalid (EINVAL).
 const INVALID: &str = "Invalid argument (os error 22)";
 
-/// Those for a call that a socket does not know (EOPNOTSUPP).
+/// The system's words if the socket has no such call (EOPNOTSUPP).
 pub(crate) const UNKNOWN: &str = "Operation not supported (os error 95)";
 
-/// Where other networks have all ports. The profile's members are 1, 2 and 3.
+/// Starts that fail if other networks have all ports. The profile's members are 1, 2 and 3.
 const TAKEN: [Row; 4] = [
     (Step::StartAll, "cannot bind", 1, IN_USE),
     (Step::StartHub, "cannot bind", 0, IN_USE),
@@ -65,23 +66,23 @@ const TAKEN: [Row; 4] = [
     (Step::StartOne(4), "cannot bind", 0, "address not available"),
 ];
 
-/// Where the address is not this machine's.
+/// Starts that fail if the address is not this machine's.
 const FOREIGN: [Row; 3] = [
     (Step::StartAll, "cannot bind", 1, ELSEWHERE),
     (Step::StartHub, "cannot bind", 0, ELSEWHERE),
     (Step::StartOne(3), "cannot bind", 3, ELSEWHERE),
 ];
 
-/// Where a hub's sockets are of another kind.
+/// A start that fails if the hub's sockets are of another kind.
 const UNCONNECTED: [Row; 1] = [(Step::StartHub, "cannot connect to", 2, INVALID)];
 
-/// Where those of receiver 2 are.
+/// Calls that fail if the socket of receiver 2 is of another kind.
 const UNSENT: [Row; 2] = [
     (Step::Offer(2, b"lost"), "cannot send to", 0, UNKNOWN),
     (Step::Take(0), "cannot receive at", 2, INVALID),
 ];
 
-/// What is said of a call: what stands before the address, the address's port, and why.
+/// Returns the sentence of a failed call: the text before the address, the address with this port, and the reason.
 pub(crate) fn sentence(
     alloc: Global,
     what: &str,
@@ -91,7 +92,7 @@ pub(crate) fn sentence(
     format!(in alloc; "{what} 127.0.0.1:{port}: {why}")
 }
 
-/// Fails, with what is said, where that is not the sentence of the row.
+/// Fails with the cause's sentence unless that is the sentence of the row.
 fn compare_said(
     alloc: Global,
     port: u16,
@@ -110,7 +111,7 @@ fn compare_said(
     Err(Fail::new(said))
 }
 
-/// Compares what the receiver's network says of each of these calls, which come behind these steps.
+/// Makes these steps, and then the call of each row at the receiver's network. Fails unless each call has its sentence.
 fn compare<F: Says + Drop>(
     alloc: Global,
     networks: Networks<F>,
@@ -127,7 +128,7 @@ fn compare<F: Says + Drop>(
     Ok(())
 }
 
-/// Compares what networks of sockets say.
+/// Does the same with new networks of sockets.
 fn compare_sockets<R: Net + Wait + Clock + Copy + Drop>(
     alloc: Global,
     rt: R,
@@ -138,7 +139,7 @@ fn compare_sockets<R: Net + Wait + Clock + Copy + Drop>(
     compare(alloc, sockets::networks(alloc, rt, port)?, steps, rows)
 }
 
-/// Compares what the networks of profiles say.
+/// Does the same with new networks of `HostFabric`.
 fn compare_hosted<R: Net + Wait + Clock + Copy + Drop>(
     alloc: Global,
     rt: R,

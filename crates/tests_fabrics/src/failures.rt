@@ -1,5 +1,5 @@
-//! What a thread failed at that sends for a node: the next call of the network fails with its cause, and `drain` returns a cause that no call
-//! reported.
+//! Tests that a failed send of a thread is reported: the next call of the network fails with its cause, and `drain` returns a cause that no
+//! call reported.
 
 use crate::broken::{Broken, Wrong};
 use crate::calls::{port_of, profile_of};
@@ -15,7 +15,7 @@ use std::thread::Threads;
 use std::time::{Clock, Duration};
 use std::{process, thread};
 
-/// How a network is asked what a thread failed at.
+/// The call by which a test asks for the cause.
 #[derive(Clone, Copy)]
 enum Ask {
     Offer,
@@ -29,13 +29,13 @@ const ASKS: [(&str, Ask); 3] = [
     ("drain", Ask::Drain),
 ];
 
-/// How often it is asked at most, a millisecond apart. The thread has failed long before.
+/// The most times that a test asks, a millisecond apart. The thread fails long before.
 const PATIENCE: u32 = 2_000;
 
-/// The node of the sender, for which a thread sends.
+/// The id of the sender. A thread sends its datagrams.
 const SENDER: u32 = 1;
 
-/// Asks once. Returns what `drain` does.
+/// Asks once. Returns the cause if the call is `drain`; the other calls leave it in the network.
 fn ask_once<F: Says>(
     fabric: &mut F,
     node: NodeId,
@@ -55,7 +55,7 @@ fn ask_once<F: Says>(
     }
 }
 
-/// Prints a cause, if there is one.
+/// Returns the sentence of a cause, or nothing if there is none.
 fn said_by(alloc: Global, cause: Option<&SocketCause>) -> Result<String, AllocError> {
     match cause {
         Some(cause) => format!(in alloc; "{cause}"),
@@ -63,7 +63,7 @@ fn said_by(alloc: Global, cause: Option<&SocketCause>) -> Result<String, AllocEr
     }
 }
 
-/// Asks until the network says what is wanted.
+/// Asks until the network reports the wanted sentence. Fails if it never does.
 fn compare_told<F: Says, C: Clock>(
     alloc: Global,
     clock: &C,
@@ -86,8 +86,8 @@ fn compare_told<F: Says, C: Clock>(
     Err(Fail::new(name))
 }
 
-/// Compares the cause that the network of a sender alone reports of a datagram that its thread cannot send. On a machine with too few processors no
-/// thread sends, and the offer itself fails with that cause.
+/// Offers a datagram that the sender's thread cannot send. Fails unless the network reports the cause. On a machine with too few processors
+/// no thread sends, and the offer itself fails with that cause.
 fn compare_sender<F: Says, C: Clock>(
     alloc: Global,
     clock: &C,
@@ -105,7 +105,7 @@ fn compare_sender<F: Says, C: Clock>(
     compare_told(alloc, clock, fabric, node, row, wanted.as_str())
 }
 
-/// A network of sockets with threads that send.
+/// Returns a network of sockets with threads that send.
 fn sockets<R: Net + Threads + Wait + Clock + Copy + Send + Drop + 'static>(
     alloc: Global,
     rt: R,
@@ -115,7 +115,7 @@ fn sockets<R: Net + Threads + Wait + Clock + Copy + Send + Drop + 'static>(
     Ok(fabric)
 }
 
-/// The network that a profile names, with threads that send.
+/// Returns a `HostFabric` with threads that send.
 fn hosted<R: Net + Threads + Wait + Clock + Copy + Send + Drop + 'static>(
     alloc: Global,
     rt: R,
@@ -125,7 +125,7 @@ fn hosted<R: Net + Threads + Wait + Clock + Copy + Send + Drop + 'static>(
     Ok(fabric)
 }
 
-/// Compares what networks of sockets report, asked in each way.
+/// Fails unless a `UdpFabric` reports the cause in each way of asking.
 fn compare_sockets<R: Net + Threads + Wait + Clock + Copy + Send + Drop + 'static>(
     alloc: Global,
     rt: R,
@@ -138,7 +138,7 @@ fn compare_sockets<R: Net + Threads + Wait + Clock + Copy + Send + Drop + 'stati
     Ok(())
 }
 
-/// Compares what the networks of profiles report, asked in each way.
+/// Fails unless a `HostFabric` reports the cause in each way of asking.
 fn compare_hosted<R: Net + Threads + Wait + Clock + Copy + Send + Drop + 'static>(
     alloc: Global,
     rt: R,

@@ -1,4 +1,4 @@
-//! The network that a profile names, where that is of sockets: what is asked of sockets is asked of it.
+//! Tests `HostFabric` with a profile that names sockets, by the steps of `sockets`.
 
 use crate::calls::{At, Networks, Step, port_of};
 use crate::sockets::{EACH, EACH_ANSWERS};
@@ -11,7 +11,7 @@ use std::sync::Wait;
 use std::test::Fail;
 use std::time::Clock;
 
-/// All members in one process, beside another, which gets their ports once the next profile of the first one names a network in memory.
+/// One network has all members. Another network gets the same ports only after the first one starts with a profile that names memory.
 const ALL_AND_NEXT: [(At, Step); 7] = [
     (At::Sender, Step::StartAll),
     (At::Hub, Step::StartAll),
@@ -22,10 +22,10 @@ const ALL_AND_NEXT: [(At, Step); 7] = [
     (At::Hub, Step::StartAll),
 ];
 
-/// What they answer.
+/// The answers to `ALL_AND_NEXT`.
 const ALL_AND_NEXT_ANSWERS: &[u8] = b".!..1b2a2b3a;.. 010";
 
-/// Three networks that no profile named yet.
+/// Returns three networks that are not started.
 pub(crate) fn networks<R: Net + Wait + Clock + Copy + Drop>(
     alloc: Global,
     rt: R,
@@ -39,7 +39,7 @@ pub(crate) fn networks<R: Net + Wait + Clock + Copy + Drop>(
     })
 }
 
-/// Compares what the networks of profiles answer to these steps with what is wanted.
+/// Fails unless the networks give these answers to these steps.
 fn compare<R: Net + Wait + Clock + Copy + Drop>(
     alloc: Global,
     rt: R,

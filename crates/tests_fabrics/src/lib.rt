@@ -1,5 +1,5 @@
-//! Tests of the network of sockets, and of the one that a profile names where it is of sockets: sockets of this machine, at ports that go by the
-//! process's id, so that tests side by side do not meet. No other code stands here.
+//! Tests of `UdpFabric`, and of `HostFabric` with a profile that names sockets. The ports follow from the process's id and the test, so that
+//! tests may run at the same time. There is no other code here. Run them with `rt test`.
 #![tactic(auto)]
 
 #[cfg(test)]

@@ -1,4 +1,4 @@
-//! What is passed over: at the hub a datagram that came from no member, and anywhere one that is too long.
+//! Tests which datagrams `UdpFabric` ignores: at the hub those of strangers, and at all members those that are too long.
 
 use crate::calls::{At, LONGEST, Networks, Step, port_of};
 use crate::sockets::networks;
@@ -10,40 +10,40 @@ use std::test::Fail;
 use std::time::Clock;
 use std::{io, process};
 
-/// Octets of a datagram that is too long.
+/// The fewest octets of a datagram that is too long.
 const TOO_LONG: usize = 1_501;
 
-/// The hub and the first receiver are there; the sender's port is free.
+/// The hub and the first receiver start. The sender's port stays free, so that the test can send from it.
 const STARTS: [(At, Step); 2] = [(At::Hub, Step::StartHub), (At::Receiver, Step::StartOne(2))];
 
-/// What came is taken at both: one datagram at the hub, and as many at the receiver.
+/// One datagram is taken at the hub and one at the receiver.
 const BOTH: [(At, Step); 2] = [(At::Hub, Step::Take(1)), (At::Receiver, Step::Take(1))];
 
-/// The same, where nothing is to come to the receiver.
+/// One datagram is taken at the hub. Nothing may come to the receiver.
 const HUB_ALONE: [(At, Step); 2] = [(At::Hub, Step::Take(1)), (At::Receiver, Step::Take(0))];
 
-/// A port that a datagram goes from or to.
+/// The port that a datagram is sent from or to.
 #[derive(Clone, Copy)]
 enum Port {
-    /// Any that is free, and so no member's.
+    /// Any free port, which is no member's.
     Any,
     Hub,
     Sender,
     Receiver,
 }
 
-/// What a socket of the test's own sends.
+/// The octets that a socket of the test sends.
 #[derive(Clone, Copy)]
 enum Octets {
     Text(&'static [u8]),
-    /// So many times the same.
+    /// This many equal octets.
     Long(usize),
 }
 
-/// A datagram of a socket of the test's own: from where, to where, and what.
+/// A datagram that the test sends by a socket of its own: from, to, octets.
 type Strange = (Port, Port, Octets);
 
-/// The port, where the hub's is this one.
+/// Returns the number of a port, given the hub's.
 fn port_at(hub: u16, port: Port) -> u16 {
     match port {
         Port::Any => 0,
@@ -53,12 +53,12 @@ fn port_at(hub: u16, port: Port) -> u16 {
     }
 }
 
-/// The address of this machine with a port.
+/// Returns the address of a port of this machine, given the hub's.
 fn address_at(hub: u16, port: Port) -> SocketAddr {
     SocketAddr::V4(SocketAddrV4::new(Ipv4Addr::new(127, 0, 0, 1), port_at(hub, port)))
 }
 
-/// Sends a datagram from a socket that is then closed.
+/// Sends a datagram from a new socket, and closes the socket.
 fn send<R: Net>(alloc: Global, rt: &R, hub: u16, strange: Strange) -> io::Result<()> {
     let (from, to, octets) = strange;
     let socket = rt.bind_udp(address_at(hub, from))?;
@@ -72,7 +72,7 @@ fn send<R: Net>(alloc: Global, rt: &R, hub: u16, strange: Strange) -> io::Result
     Ok(())
 }
 
-/// Compares what networks take with what is wanted, where sockets of the test's own send these datagrams.
+/// Starts the hub and the receiver, and sends these datagrams. Fails unless the takes give these answers.
 fn compare_taken<R: Net, F: Fabric + Drop>(
     alloc: Global,
     rt: &R,
@@ -89,7 +89,7 @@ fn compare_taken<R: Net, F: Fabric + Drop>(
     networks.compare(alloc, takes, wanted)
 }
 
-/// Compares what networks of sockets take.
+/// Does the same with new networks of sockets.
 fn compare<R: Net + Wait + Clock + Copy + Drop>(
     alloc: Global,
     rt: R,

@@ -1,5 +1,5 @@
-//! Sixteen receivers, the most that a session has: what each member sends comes whole to each other member, and never back. It goes by a hub, by one
-//! whose threads send, and with all members in one network.
+//! Tests `UdpFabric` with sixteen receivers, the most that a session has. Each datagram of a member arrives whole at each other member, and
+//! never at the member itself: through a hub, through a hub whose threads send, and with all members in one network.
 
 use crate::calls::{port_of, profile_of};
 use norm_base::{
@@ -14,23 +14,24 @@ use std::test::Fail;
 use std::thread::Threads;
 use std::time::Clock;
 
-/// The receivers, and with the sender all members. The sender is node 1, and their nodes follow.
+/// The receivers. `MEMBERS` counts the sender too. The sender is node 1, and the receivers are the nodes after it.
 const RECEIVERS: u32 = 16;
 
 const MEMBERS: u32 = RECEIVERS + 1;
 
-/// Octets of what each member sends: the fewest, as many as a long NACK has, and more than the longest symbol.
+/// The octets of the datagrams that each member sends: the fewest, as many as a long NACK has, and more than the longest symbol.
 const LENGTHS: [usize; 3] = [1, 1_000, 1_440];
 
-/// How often it is looked for a datagram that is to come, and for one that is not. A look that finds nothing lasts a millisecond at most.
+/// The most takes for a datagram that should arrive. `GLANCES` are those for one that should not. A take that finds nothing lasts a
+/// millisecond at most.
 const PATIENCE: u32 = 2_000;
 
 const GLANCES: u32 = 2;
 
-/// Stands beside a set of members, each a bit, if something came that was not to come.
+/// The bit that a set of members has if something arrived that should not. Each member is one of the lower bits.
 const WRONG: u32 = 1 << 31;
 
-/// All members but the one at this place, as a set.
+/// Returns the set of all members except the one with this index, counted from 0.
 fn others(place: u32) -> u32 {
     let mut all = 0;
     for other in 0..MEMBERS {
@@ -41,7 +42,7 @@ fn others(place: u32) -> u32 {
     all
 }
 
-/// The bit of the node that got what was sent. `WRONG` for a node that is no member, for other octets, and for what came twice.
+/// Returns the bit of the node that got a datagram, or `WRONG` if it is no member, got other octets, or got the datagram before.
 fn bit_of(node: NodeId, is_same: bool, got: u32) -> u32 {
     let place = node.number().wrapping_sub(1);
     if !is_same || place >= MEMBERS {
@@ -51,7 +52,7 @@ fn bit_of(node: NodeId, is_same: bool, got: u32) -> u32 {
     if got & bit == 0 { bit } else { WRONG }
 }
 
-/// Takes a datagram, if one is there, and adds its member to those that got what was sent.
+/// Takes once. Returns the set with the member that got a datagram, if one was there.
 fn take<F: Fabric>(
     fabric: &mut F,
     into: &mut Datagram,
@@ -64,7 +65,7 @@ fn take<F: Fabric>(
     }
 }
 
-/// Looks for a datagram this often at most.
+/// Takes until a datagram arrives, at most `looks` times.
 fn look<F: Fabric>(
     fabric: &mut F,
     into: &mut Datagram,
@@ -81,7 +82,7 @@ fn look<F: Fabric>(
     Ok(got)
 }
 
-/// Has the member at this place offer octets.
+/// Offers octets of the member with this index.
 fn offer<F: Fabric>(fabric: &mut F, place: u32, octets: &[u8]) -> Result<(), FabricFault> {
     match NodeId::of(place.wrapping_add(1)) {
         Some(node) if octets.len() <= DATAGRAM_ROOM => fabric.offer(node, octets),
@@ -89,7 +90,7 @@ fn offer<F: Fabric>(fabric: &mut F, place: u32, octets: &[u8]) -> Result<(), Fab
     }
 }
 
-/// Has the hub offer what comes to it next, as from whom it says that it came.
+/// Takes the next datagram at the hub and offers it to the members, as one of the member that the take names.
 fn pass_on<F: Fabric>(hub: &mut F, into: &mut Datagram) -> Result<(), FabricFault> {
     for _ in 0..PATIENCE {
         if let Some(from) = hub.take(into)? {
@@ -99,7 +100,7 @@ fn pass_on<F: Fabric>(hub: &mut F, into: &mut Datagram) -> Result<(), FabricFaul
     Ok(())
 }
 
-/// Has the member at this place offer octets to its hub.
+/// Offers octets of the member with this index, in its own network.
 fn offer_at<F: Fabric>(members: &mut [F], place: u32, octets: &[u8]) -> Result<(), FabricFault> {
     match members.get_mut(place as usize) {
         Some(member) => offer(member, place, octets),
@@ -107,7 +108,7 @@ fn offer_at<F: Fabric>(members: &mut [F], place: u32, octets: &[u8]) -> Result<(
     }
 }
 
-/// The members that get what the one at this place sends by a hub.
+/// Sends octets of the member with this index through a hub. Returns the set of members that got them.
 fn heard_by_hub<F: Fabric>(
     alloc: Global,
     hub: &mut F,
@@ -128,7 +129,7 @@ fn heard_by_hub<F: Fabric>(
     Ok(got)
 }
 
-/// The members that get what the one at this place sends, if all are in one network.
+/// Sends octets of the member with this index in a network of all members. Returns the set of members that got them.
 fn heard_in_one<F: Fabric>(
     alloc: Global,
     fabric: &mut F,
@@ -144,7 +145,7 @@ fn heard_in_one<F: Fabric>(
     Ok(got)
 }
 
-/// So many octets of the member at this place.
+/// Returns this many octets, a letter that depends on the member's index.
 fn octets_of(alloc: Global, place: u32, length: usize) -> Result<Vec<u8>, Memory> {
     let mut octets = Vec::new(alloc);
     for _ in 0..length {
@@ -153,7 +154,7 @@ fn octets_of(alloc: Global, place: u32, length: usize) -> Result<Vec<u8>, Memory
     Ok(octets)
 }
 
-/// Fails, with the members that got what the one at this place sent, unless those are all others.
+/// Fails unless all other members, and no more, got what the member with this index sent.
 fn check(place: u32, length: usize, got: u32) -> Result<(), Fail> {
     if got == others(place) {
         return Ok(());
@@ -161,7 +162,7 @@ fn check(place: u32, length: usize, got: u32) -> Result<(), Fail> {
     Err(Fail::new(format_args!("{length} octets of member {place}: {got:x}")))
 }
 
-/// Starts the hub, and each member alone.
+/// Starts the hub, and a network for each member.
 fn start_each<F: Fabric>(
     hub: &mut F,
     members: &mut [F],
@@ -179,7 +180,7 @@ fn start_each<F: Fabric>(
     Ok(())
 }
 
-/// Compares who gets what each member sends by a hub with who is to get it.
+/// Sends datagrams of each member and length through a hub. Fails unless all other members get each of them.
 fn compare_by_hub<F: Fabric>(
     alloc: Global,
     hub: &mut F,
@@ -200,7 +201,7 @@ fn compare_by_hub<F: Fabric>(
     Ok(())
 }
 
-/// Compares who gets what each member of one network sends with who is to get it.
+/// Sends datagrams of each member and length in one network. Fails unless all other members get each of them.
 fn compare_in_one<F: Fabric>(alloc: Global, fabric: &mut F, port: u16) -> Result<(), Fail> {
     let Some(profile) = profile_of(port, FabricKind::Udp, RECEIVERS) else {
         return Err(Fail::new("no profile"));
@@ -216,7 +217,7 @@ fn compare_in_one<F: Fabric>(alloc: Global, fabric: &mut F, port: u16) -> Result
     Ok(())
 }
 
-/// A network for each member, not yet started.
+/// Returns a network for each member, none of them started.
 fn networks<R: Net + Wait + Clock + Copy + Drop>(
     alloc: Global,
     rt: R,
@@ -228,7 +229,7 @@ fn networks<R: Net + Wait + Clock + Copy + Drop>(
     Ok(members)
 }
 
-/// Compares what goes by this hub.
+/// Runs the test with this hub and new networks for the members.
 fn compare_hub<R: Net + Wait + Clock + Copy + Drop>(
     alloc: Global,
     rt: R,
@@ -240,7 +241,7 @@ fn compare_hub<R: Net + Wait + Clock + Copy + Drop>(
     compare_by_hub(alloc, &mut hub, &mut members, port)
 }
 
-/// A hub whose threads send.
+/// Returns a hub whose threads send.
 fn hub_with_threads<R: Net + Threads + Wait + Clock + Copy + Send + Drop + 'static>(
     alloc: Global,
     rt: R,
@@ -250,7 +251,7 @@ fn hub_with_threads<R: Net + Threads + Wait + Clock + Copy + Send + Drop + 'stat
     Ok(hub)
 }
 
-/// Compares what goes within one network.
+/// Runs the test with one network for all members.
 fn compare_one<R: Net + Wait + Clock + Copy + Drop>(
     alloc: Global,
     rt: R,

@@ -1,4 +1,4 @@
-//! Sockets of members, in one process and one for each.
+//! Tests `UdpFabric` with all members in one network, and with a network for each member and a hub.
 
 use crate::calls::{At, Networks, Step, port_of};
 use norm_base::Memory;
@@ -11,7 +11,7 @@ use std::test::Fail;
 use std::thread::Threads;
 use std::time::Clock;
 
-/// All members in one process, beside another that comes too late for their ports.
+/// One network has all members. Another network asks for the same ports and fails.
 const ALL: [(At, Step); 5] = [
     (At::Sender, Step::StartAll),
     (At::Hub, Step::StartAll),
@@ -20,10 +20,10 @@ const ALL: [(At, Step); 5] = [
     (At::Sender, Step::Take(4)),
 ];
 
-/// What they answer.
+/// The answers to `ALL`.
 const ALL_ANSWERS: &[u8] = b".!..1b2a2b3a; 010";
 
-/// A sender, the hub and a receiver; the other receiver is not there.
+/// A sender, the hub and one receiver have a network each. The other receiver is missing.
 pub(crate) const EACH: [(At, Step); 13] = [
     (At::Sender, Step::StartOne(1)),
     (At::Sender, Step::Offer(1, b"early")),
@@ -40,10 +40,10 @@ pub(crate) const EACH: [(At, Step); 13] = [
     (At::Sender, Step::Take(1)),
 ];
 
-/// What they answer.
+/// The answers to `EACH`.
 pub(crate) const EACH_ANSWERS: &[u8] = b"..;...1hello;.2hello;;.;1back; 000";
 
-/// Three networks of sockets, not yet started.
+/// Returns three networks of sockets that are not started.
 pub(crate) fn networks<R: Net + Wait + Clock + Copy + Drop>(
     alloc: Global,
     rt: R,
@@ -57,7 +57,7 @@ pub(crate) fn networks<R: Net + Wait + Clock + Copy + Drop>(
     })
 }
 
-/// Compares what sockets answer to these steps with what is wanted.
+/// Fails unless the networks give these answers to these steps.
 fn compare<R: Net + Wait + Clock + Copy + Drop>(
     alloc: Global,
     rt: R,
@@ -69,7 +69,7 @@ fn compare<R: Net + Wait + Clock + Copy + Drop>(
     networks.compare(alloc, steps, wanted)
 }
 
-/// Compares the same where threads send for the hub, and for the sender.
+/// Does the same with threads that send for the hub and for the sender.
 fn compare_with_threads<R: Net + Threads + Wait + Clock + Copy + Send + Drop + 'static>(
     alloc: Global,
     rt: R,

@@ -1,4 +1,4 @@
-//! How long a take waits, by a clock that adds up what is slept.
+//! Tests how long a take of `UdpFabric` waits, with a clock that adds up the sleeps.
 
 use crate::calls::{port_of, profile_of};
 use norm_base::{Datagram, Fabric, FabricFault, FabricKind, Local, NodeId};
@@ -11,20 +11,20 @@ use std::test::Fail;
 use std::time::{Clock, Duration};
 use std::{io, process};
 
-/// Microseconds of the longest take: a millisecond, and the reading before a sleep. A node to which nothing comes sleeps as long.
+/// Microseconds of the longest take: a sleep of a millisecond, and the reading of the clock before it.
 const LONGEST: u64 = 1_001;
 
-/// How many takes follow one another.
+/// How many takes are measured in a row.
 const TAKES: u32 = 3;
 
-/// A runtime whose clock goes on by each sleep, and by a microsecond with each reading; no other time passes in it.
+/// A runtime whose clock advances by each sleep, and by a microsecond with each reading. No other time passes.
 #[derive(Clone, Copy, Drop)]
 struct Timed<'a, R> {
     rt: R,
     moment: &'a Cell<u64>,
 }
 
-/// Lets so many microseconds pass.
+/// Lets this many microseconds pass.
 fn pass(moment: &Cell<u64>, micros: u64) {
     moment.set(moment.get().saturating_add(micros));
 }
@@ -67,7 +67,7 @@ impl<R> Clock for Timed<'_, R> {
     }
 }
 
-/// Which members of a session of two receivers a network is started with.
+/// The members that a network is started with. The session has two receivers.
 #[derive(Clone, Copy)]
 enum With {
     All,
@@ -75,7 +75,7 @@ enum With {
     Hub,
 }
 
-/// What a network is started with, and which member offers after some takes.
+/// The members of a network, and the member that offers between the takes.
 const ROWS: [(With, u32); 4] = [
     (With::All, 1),
     (With::One(1), 1),
@@ -91,7 +91,7 @@ fn local_of(with: With) -> Option<Local> {
     }
 }
 
-/// Microseconds of the longest of a few takes.
+/// Takes `TAKES` times. Returns the microseconds of the longest take.
 fn longest_take<F: Fabric>(
     alloc: Global,
     fabric: &mut F,
@@ -107,7 +107,7 @@ fn longest_take<F: Fabric>(
     Ok(longest)
 }
 
-/// Microseconds of the longest take before and after an offer.
+/// Takes before and after an offer. Returns the microseconds of the longest take.
 fn longest_of<F: Fabric>(
     alloc: Global,
     fabric: &mut F,
@@ -128,7 +128,7 @@ fn longest_of<F: Fabric>(
     Ok(before.max(after))
 }
 
-/// Compares the longest take of each row with how long one is to take.
+/// Fails unless the longest take of each row is `LONGEST`.
 fn compare_takes<R: Net + Wait + Clock + Copy + Drop>(
     alloc: Global,
     rt: R,

@@ -1,18 +1,18 @@
-//! Calls of objects of the outside, and what they answered as a text, which a test compares. An object is driven through its
-//! trait, so that its own contract leads to no goal here.
+//! Calls objects of the outside and returns their answers as text, for `memory` and `host` to compare. The calls go through
+//! the traits, so that no contract of one object has to be proved here.
 
 use norm_base::{
     Clock, Datagram, Fabric, FabricFault, Failed, FileFault, Files, Moment, NodeId, Sink, Source,
 };
 use std::alloc::{AllocError, Global};
 
-/// The digit of a number, or `9` where it has no digit of its own.
+/// Returns the digit of a number, or `9` if it is above 9.
 pub(crate) fn digit(n: u64) -> u8 {
     b'0'.wrapping_add(u8::try_from(n.min(9)).unwrap_or(9))
 }
 
-/// What this many reads into three octets gave: for each its count and the whole buffer, or `!` where it failed. Behind
-/// them stands how many failed.
+/// Reads `times` times into the same three octets. Returns for each read its count and the whole buffer, or `!` if it failed.
+/// The last digit is how many failed.
 pub(crate) fn reads<S: Source>(
     alloc: Global,
     source: &mut S,
@@ -33,7 +33,7 @@ pub(crate) fn reads<S: Source>(
     Ok(all)
 }
 
-/// What writes of these octets, one each, answered: `.`, or `!` where it failed. Behind them stands how many failed.
+/// Writes these octets one by one. Returns `.` for each, or `!` if the write failed. The last digit is how many failed.
 pub(crate) fn writes<K: Sink>(
     alloc: Global,
     sink: &mut K,
@@ -51,14 +51,14 @@ pub(crate) fn writes<K: Sink>(
     Ok(all)
 }
 
-/// A call of files but a read: the length of a name, or its new contents.
+/// A call of files, except a read: the length of a name, or new contents for it.
 #[derive(Clone, Copy)]
 pub(crate) enum Call {
     Length(&'static str),
     Put(&'static str, &'static [u8]),
 }
 
-/// What a call answered: a length, `.`, `-` where the name is not there, or `!` where it failed.
+/// Returns the answer of a call: a length, `.` for a put, `-` if the name is absent, or `!` if the call failed.
 fn answer<D: Files>(files: &mut D, call: Call) -> u8 {
     match call {
         Call::Length(name) => match files.length(name) {
@@ -73,7 +73,7 @@ fn answer<D: Files>(files: &mut D, call: Call) -> u8 {
     }
 }
 
-/// What these calls answered, and behind them how many failed.
+/// Makes these calls and returns their answers. The last digit is how many failed.
 pub(crate) fn answers<D: Files>(
     alloc: Global,
     files: &mut D,
@@ -87,7 +87,7 @@ pub(crate) fn answers<D: Files>(
     Ok(all)
 }
 
-/// The next moments of a clock.
+/// Returns the next `times` moments of a clock.
 pub(crate) fn moments<C: Clock>(
     alloc: Global,
     clock: &mut C,
@@ -101,8 +101,8 @@ pub(crate) fn moments<C: Clock>(
     Ok(all)
 }
 
-/// Adds what a take gives: the digit of the node and the octets, or `?` where it failed and left the datagram
-/// empty. Says whether it gave nothing.
+/// Takes once. Adds the digit of the node and the octets, or `?` if the call failed and left the datagram empty.
+/// Returns whether nothing was ready.
 fn take<F: Fabric>(
     fabric: &mut F,
     into: &mut Datagram,
@@ -123,7 +123,7 @@ fn take<F: Fabric>(
     }
 }
 
-/// Adds what is taken up to where nothing is ready.
+/// Takes until nothing is ready, at most 16 times, and adds what was taken.
 pub(crate) fn takes<F: Fabric>(
     alloc: Global,
     fabric: &mut F,
@@ -138,8 +138,8 @@ pub(crate) fn takes<F: Fabric>(
     Ok(())
 }
 
-/// What comes of these offers of one octet, each by its node: `!` where one failed, then what is taken, and a point. Behind
-/// them stands how many calls failed.
+/// Offers one octet for each node in turn. Returns for each offer `!` if it failed, what was then taken, and a point. The last
+/// digit is how many calls failed.
 pub(crate) fn offers<F: Fabric>(
     alloc: Global,
     fabric: &mut F,

@@ -1,4 +1,4 @@
-//! Files of a folder that others change while it is read, and the largest file.
+//! Tests `FolderFiles` with files that others change between two calls, and with the largest file.
 
 use norm_base::{FileFault, Files};
 use norm_host::FolderFiles;
@@ -6,25 +6,25 @@ use std::alloc::Global;
 use std::fs;
 use std::test::Fail;
 
-/// The name of the file of each test.
+/// The name of the file in each test's folder.
 const NAME: &str = "a.txt";
 
-/// Octets of a read.
+/// The most octets of a read.
 const PIECE: usize = 65_536;
 
 /// The most reads of a file: the largest takes 256 if none is cut short.
 const MOST_READS: u32 = 4_096;
 
-/// Octets of the largest object.
+/// The octets of the largest object.
 const LARGEST: usize = 16_777_216;
 
-/// What a file holds, one after the other. Two are of one length, so that the length alone does not tell them apart.
+/// The contents of a file, one after the other. Two have the same length, so that a change cannot be seen by the length alone.
 const CONTENTS: [&[u8]; 4] = [b"first", b"other", b"a longer one", b"end"];
 
-/// How often the length of a file that grew is asked for: more often than it is answered from memory.
+/// How often the length of a changed file is asked for. The files answer fewer questions than this from memory.
 const QUESTIONS: u32 = 70;
 
-/// Adds the octets of a file up to this length.
+/// Reads the file and appends its octets, until there are `length` of them.
 fn add_octets<F: fs::Files + Drop>(
     files: &mut FolderFiles<F>,
     length: u64,
@@ -42,7 +42,7 @@ fn add_octets<F: fs::Files + Drop>(
     Ok(())
 }
 
-/// The octets of the file, as many as its length is said to be.
+/// Returns the octets of the file, as many as `length` reports.
 fn whole<F: fs::Files + Drop>(alloc: Global, files: &mut FolderFiles<F>) -> Result<Vec<u8>, Fail> {
     let length = files.length(NAME)?;
     let mut piece = vec![in alloc; 0u8; PIECE]?;
@@ -51,7 +51,7 @@ fn whole<F: fs::Files + Drop>(alloc: Global, files: &mut FolderFiles<F>) -> Resu
     Ok(all)
 }
 
-/// Compares the file with what it is to hold.
+/// Fails unless the file has these contents.
 fn compare<F: fs::Files + Drop>(
     alloc: Global,
     files: &mut FolderFiles<F>,
@@ -64,7 +64,7 @@ fn compare<F: fs::Files + Drop>(
     Err(Fail::new(all.len()))
 }
 
-/// The files of a new folder.
+/// Makes an empty folder and returns its files.
 fn new_folder<F: fs::Files + Alloc + Copy + Drop>(
     alloc: Global,
     rt: F,
@@ -75,7 +75,7 @@ fn new_folder<F: fs::Files + Alloc + Copy + Drop>(
     Ok(FolderFiles::of(alloc, rt, folder)?)
 }
 
-/// Compares a file with what it holds, which is written anew by others between two questions for its length.
+/// Fails unless each new version of a file is read whole. The test rewrites the file between the reads.
 fn compare_rewritten<F: fs::Files + Alloc + Copy + Drop>(
     alloc: Global,
     rt: F,
@@ -91,7 +91,7 @@ fn compare_rewritten<F: fs::Files + Alloc + Copy + Drop>(
     Ok(())
 }
 
-/// The last of so many answers to what a file's length is.
+/// Asks `QUESTIONS` times for the file's length, and returns the last answer.
 fn last_length<D: Files>(files: &mut D) -> Result<u64, FileFault> {
     let mut length = 0;
     for _ in 0..QUESTIONS {
@@ -100,7 +100,7 @@ fn last_length<D: Files>(files: &mut D) -> Result<u64, FileFault> {
     Ok(length)
 }
 
-/// Compares the last length of a file that grew with what it holds then.
+/// Fails unless the last answer to how long a rewritten file is, is its new length.
 fn compare_grown<F: fs::Files + Alloc + Copy + Drop>(
     alloc: Global,
     rt: F,
@@ -119,7 +119,7 @@ fn compare_grown<F: fs::Files + Alloc + Copy + Drop>(
     Ok(())
 }
 
-/// The octets of the largest file: pieces that are read one after the other, each with a last octet of its own.
+/// Returns the octets of the largest file. Each piece that is read ends with an octet other than that of the piece before it.
 fn largest(alloc: Global) -> Result<Vec<u8>, Fail> {
     let mut piece = vec![in alloc; b'x'; PIECE]?;
     let mut octets = Vec::with_capacity(alloc, LARGEST)?;
@@ -131,7 +131,7 @@ fn largest(alloc: Global) -> Result<Vec<u8>, Fail> {
     Ok(octets)
 }
 
-/// Puts the largest file, and compares it with what is read back.
+/// Fails unless the largest file is read back as it was put.
 fn compare_put<F: fs::Files + Alloc + Copy + Drop>(
     alloc: Global,
     rt: F,

@@ -1,4 +1,4 @@
-//! Each adapter over the process once, over a reader and a writer that fail in mid-stream too.
+//! Tests `norm_host`: each adapter once, and with readers, writers and clocks that fail in the middle.
 
 use crate::calls::{Call, answers, moments, reads, writes};
 use norm_base::{FileFault, Files};
@@ -13,7 +13,7 @@ use std::time::{Clock, Duration};
 /// The folder of the test.
 const FOLDER: &str = "norm_host_test";
 
-/// Gives its octets, but fails at the second read.
+/// A reader of these octets that fails at its second read.
 #[derive(Drop)]
 struct FailingReader<'a> {
     octets: &'a [u8],
@@ -30,7 +30,7 @@ impl Read for FailingReader<'_> {
     }
 }
 
-/// Takes octets, but fails at every flush.
+/// A writer that takes octets, but fails at every flush.
 #[derive(Drop)]
 struct UnflushedWriter;
 
@@ -44,7 +44,7 @@ impl Write for UnflushedWriter {
     }
 }
 
-/// The readings of a clock in nanoseconds, one for each question; after them it fails.
+/// A clock with these readings in nanoseconds. It fails after the last one.
 #[derive(Drop)]
 struct Readings<'a> {
     nanos: &'a [u64],
@@ -66,8 +66,8 @@ impl Clock for Readings<'_> {
     }
 }
 
-/// The readings of a clock in nanoseconds, and the moments that it is to tell: one that goes back and then fails, and one that is read after
-/// 601 seconds and after three hours.
+/// Readings of a clock in nanoseconds, and the moments that are expected. The first clock goes back and then fails. The second is read
+/// after 601 seconds and after three hours.
 const READINGS: [(&[u64], &[u64]); 2] = [
     (
         &[5_000_999, 7_000_000, 6_500_000],
@@ -79,7 +79,7 @@ const READINGS: [(&[u64], &[u64]); 2] = [
     ),
 ];
 
-/// Compares the moments of a clock with those that it is to tell.
+/// Fails unless a clock with these readings gives these moments.
 fn compare_moments(alloc: Global, nanos: &[u64], wanted: &[u64]) -> Result<(), Fail> {
     let mut clock = HostClock::of(Readings {
         nanos,
@@ -93,7 +93,7 @@ fn compare_moments(alloc: Global, nanos: &[u64], wanted: &[u64]) -> Result<(), F
     Err(Fail::new(format_args!("{all:?}")))
 }
 
-/// Takes octets, but fails at the second write.
+/// A writer that takes octets, but fails at its second write.
 #[derive(Drop)]
 struct FailingWriter {
     octets: Vec<u8>,
@@ -165,7 +165,7 @@ fn a_clock_begins_at_nothing(rt: HostRuntime) -> Result<(), Fail> {
     Ok(())
 }
 
-/// What the calls of a folder answer: names within it, names that are none of a file in it, and a put outside of it.
+/// Calls of a folder: files in it, names that are no file in it, and a put outside of it.
 const CALLS: [Call; 9] = [
     Call::Put("a.txt", b"a longer one"),
     Call::Put("a.txt", b"hello"),

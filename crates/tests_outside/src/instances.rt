@@ -1,4 +1,5 @@
-//! Which instances a sender's file gives and keeps, by what it holds and by the minute. The answers are worked out by hand.
+//! Tests `InstanceFile`: which instances a sender draws and keeps, given the file's contents and the minute. The answers are worked out by
+//! hand.
 
 use norm_base::{InstanceId, Profile};
 use norm_host::InstanceFile;
@@ -7,19 +8,19 @@ use std::fmt::Write;
 use std::fs;
 use std::test::Fail;
 
-/// The folder of the test, and the file in it of a profile with the keys' defaults.
+/// The folder of the test. The file in it is that of a profile of defaults: its name is the port and the sender's node id.
 const FOLDER: &str = "norm_host_instances";
 
 const FILE: &str = "norm_host_instances/40000-1";
 
-/// A call of the file: an instance is drawn in a minute, or one that was given is kept.
+/// A call of the file: draw an instance in this minute, or keep this instance.
 #[derive(Clone, Copy)]
 enum Call {
     Draw(u16),
     Keep(u16),
 }
 
-/// What the file holds, if it is there; the calls, their answers, and what it holds then.
+/// The file's contents or `None` if there is no file, the calls, their answers, and the contents after them.
 #[derive(Clone, Copy)]
 struct Row {
     held: Option<&'static [u8]>,
@@ -105,7 +106,7 @@ const ROWS: [Row; 8] = [
     },
 ];
 
-/// What a file may hold that is no line of a number: both calls are refused, and it goes on to hold it.
+/// Contents that are not one line with a number. Both calls are refused, and the file stays as it is.
 const NO_NUMBERS: [&[u8]; 10] = [
     b"",
     b"\n",
@@ -121,7 +122,7 @@ const NO_NUMBERS: [&[u8]; 10] = [
 
 const BOTH: &[Call] = &[Call::Draw(100), Call::Keep(100)];
 
-/// What a call answers: an instance that was drawn, `kept`, the last instance where one is kept no more, or `refused`.
+/// Adds the answer of a call: the instance that was drawn, `kept`, the file's instance if this one is not above it, or `refused`.
 fn answer(file: &InstanceFile<HostRuntime>, call: Call, answers: &mut String) -> Result<(), Fail> {
     let instance = match call {
         Call::Draw(minute) => file.draw(InstanceId(minute)).map(Some),
@@ -138,7 +139,7 @@ fn answer(file: &InstanceFile<HostRuntime>, call: Call, answers: &mut String) ->
     Ok(())
 }
 
-/// Lays a file of the test, and answers what a row's calls answer.
+/// Writes the file of a row, makes its calls and returns their answers.
 fn answers(rt: HostRuntime, alloc: Global, row: &Row) -> Result<String, Fail> {
     let _ = fs::remove_dir_all(&rt, FOLDER);
     if let Some(held) = row.held {
@@ -154,7 +155,8 @@ fn answers(rt: HostRuntime, alloc: Global, row: &Row) -> Result<String, Fail> {
     Ok(answers)
 }
 
-/// What a row's calls answer, or else what the file holds then, if that is not what the row says. `None` if both are.
+/// Returns the answers of a row's calls if the row expects others, or the file's contents if the row expects others. Returns `None` if
+/// both are as expected.
 fn difference(rt: HostRuntime, alloc: Global, row: &Row) -> Result<Option<String>, Fail> {
     let answers = answers(rt, alloc, row)?;
     if answers.as_str() != row.answers {

@@ -1,4 +1,4 @@
-//! Each call that makes a line once with ample memory, and a line of the largest object.
+//! Tests `norm_journal`: each call that makes a line once, and the line of the largest object.
 
 use fec_plan::Position;
 use norm_base::{InstanceId, Kind, Memory, NodeId, Octets, Origin, Text};
@@ -15,7 +15,7 @@ const BY: Origin = Origin {
     number: 12,
 };
 
-/// Whether the line of what a command gave is this one.
+/// Whether an accepted command has this line.
 fn gives(alloc: Global, verb: &Verb, gave: Receipt, text: &[u8]) -> bool {
     let mut line = Line::new(alloc);
     match gave_line(&mut line, BY, InstanceId(7), verb, &Ok(gave)) {
@@ -24,7 +24,7 @@ fn gives(alloc: Global, verb: &Verb, gave: Receipt, text: &[u8]) -> bool {
     }
 }
 
-/// What the first mark gives.
+/// Returns the receipt of the first mark.
 fn marked() -> Receipt {
     Receipt::Mark {
         mark: 1,
@@ -56,7 +56,7 @@ fn what_is_given_has_its_line(rt: HostRuntime) -> Result<(), Fail> {
     Ok(())
 }
 
-/// Whether the line of a refusal is this one, or none where the text is empty.
+/// Whether a refusal has this line, or no line if the text is empty.
 fn refuses(alloc: Global, fault: SendFault, text: &[u8]) -> bool {
     let mut line = Line::new(alloc);
     match refusal_line(&mut line, BY, &fault) {
@@ -99,7 +99,7 @@ fn refusals_have_their_lines(rt: HostRuntime) -> Result<(), Fail> {
     Ok(())
 }
 
-/// Whether the line of these news is this one.
+/// Whether these news have this line.
 fn tells(alloc: Global, left: &[NodeId], news: &News, text: &[u8]) -> bool {
     let mut line = Line::new(alloc);
     match news_line(&mut line, InstanceId(7), left, news) {
@@ -128,7 +128,7 @@ fn news_have_their_lines(rt: HostRuntime) -> Result<(), Fail> {
     Ok(())
 }
 
-/// The hand-up of a row.
+/// Returns the hand-up of a row.
 fn up_of(alloc: Global, row: u32) -> Result<Up, Memory> {
     match row {
         0 => Ok(Up::Object {
@@ -142,7 +142,7 @@ fn up_of(alloc: Global, row: u32) -> Result<Up, Memory> {
     }
 }
 
-/// Whether this is the line of the hand-up of a row, which node 2 makes of what node 1 sent.
+/// Whether a row's hand-up has this line. Node 2 hands it up, and node 1 sent it.
 fn says_of(alloc: Global, row: u32, text: &[u8]) -> bool {
     let (Some(sender), Some(node), Ok(up)) = (NodeId::of(1), NodeId::of(2), up_of(alloc, row))
     else {
@@ -155,7 +155,7 @@ fn says_of(alloc: Global, row: u32, text: &[u8]) -> bool {
     }
 }
 
-/// The lines of hand-ups where there are several senders, by their rows.
+/// Rows of hand-ups, and their lines for a session with several senders.
 const OF_LINES: [(u32, &[u8]); 3] = [
     (0, b"of 1 up 2 7 0 data 5 - 68656c6c6f\n"),
     (1, b"of 1 up 2 7 1 open\n"),

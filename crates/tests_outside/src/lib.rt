@@ -1,5 +1,5 @@
-//! Tests of what stands beside the program: the outside in memory and of the process, scripts, shown datagrams, journals, the words of the
-//! command line and what a person sees of a node, a module for each crate. No other code stands here.
+//! Tests of the crates around the protocol, a module for each: the outside in memory and of the process, scripts, shown datagrams, journals,
+//! the words of the command line, and what a node tells its user. There is no other code here. Run them with `rt test`.
 #![tactic(auto)]
 
 #[cfg(test)]

@@ -1,4 +1,4 @@
-//! Each object of the outside in memory with ample memory, and each failing call one by one.
+//! Tests `norm_memory`: each object of the outside once, and each of its calls that can be made to fail.
 
 use crate::calls::{Call, answers, moments, offers, reads, writes};
 use norm_base::{Fabric, FabricFault, FileFault, Files, Local, Moment, NodeId, Profile};
@@ -42,7 +42,7 @@ fn an_absent_name_is_no_fault(rt: HostRuntime) -> Result<(), Fail> {
     Ok(())
 }
 
-/// Reads from the second octet on, and says how many came.
+/// Puts five octets and reads them from offset 3 on. Returns how many were read.
 fn read_behind(files: &mut MemFiles, buf: &mut [u8; 3]) -> Result<usize, FileFault> {
     let mut all = Err(FileFault::Absent);
     if files.put("a", b"hello").is_ok() {
@@ -72,8 +72,8 @@ fn a_clock_stays_at_its_last_moment(rt: HostRuntime) -> Result<(), Fail> {
     Ok(())
 }
 
-/// A profile of sender 1 and receivers 2 and 3, where three in ten copies are lost, three in ten of the
-/// others come twice, and each is ready after at most two further offers.
+/// Returns a profile of sender 1 and receivers 2 and 3. Three in ten copies are lost, three in ten of the
+/// others come twice, and each is ready after at most two more offers.
 fn two_receivers() -> Profile {
     Profile {
         receivers: 2,
@@ -85,7 +85,7 @@ fn two_receivers() -> Profile {
     }
 }
 
-/// The member with this id.
+/// Returns the member with this id.
 fn member(n: u8) -> Result<NodeId, Fail> {
     match NodeId::of(u32::from(n)) {
         Some(node) => Ok(node),
@@ -93,7 +93,7 @@ fn member(n: u8) -> Result<NodeId, Fail> {
     }
 }
 
-/// Offers of the members whose digits stand first in each pair, of the octets that stand second.
+/// Reads pairs of a digit and an octet: a member, and the octet that it offers.
 fn by_digits(alloc: Global, text: &[u8]) -> Result<Vec<(NodeId, u8)>, Fail> {
     let mut all = Vec::new(alloc);
     let mut from = None;
@@ -109,11 +109,12 @@ fn by_digits(alloc: Global, text: &[u8]) -> Result<Vec<(NodeId, u8)>, Fail> {
     Ok(all)
 }
 
-/// Begins a session of two receivers, and says what comes of these offers.
+/// Begins a session of two receivers.
 fn begin<F: Fabric>(fabric: &mut F) -> Result<(), FabricFault> {
     fabric.start(&two_receivers(), Local::All)
 }
 
+/// Begins a session and makes these offers. Returns what `offers` does.
 fn play<F: Fabric>(alloc: Global, fabric: &mut F, text: &[u8]) -> Result<Vec<u8>, Fail> {
     let all = by_digits(alloc, text)?;
     if begin(fabric).is_err() {
@@ -146,8 +147,8 @@ fn listed_offers_and_takes_fail(rt: HostRuntime) -> Result<(), Fail> {
     Ok(())
 }
 
-/// Rules for the offers of node 1: the first comes twice to node 2, an offer late, and not to node 3, and a
-/// rule behind these names the same offer and node 2; and from the fourth on all are lost.
+/// Returns rules for the offers of node 1. The first offer comes twice to node 2, one offer late, and not to
+/// node 3. A later rule for that offer and node 2 does not count. From the fourth offer on all are lost.
 fn rules(alloc: Global, nodes: [NodeId; 3]) -> Result<Vec<Rule>, AllocError> {
     let [from, to, other] = nodes;
     let mut rules = Vec::new(alloc);
@@ -173,9 +174,9 @@ fn rules_lose_repeat_and_delay(rt: HostRuntime) -> Result<(), Fail> {
     Ok(())
 }
 
-/// What is taken was computed by a program of its own from the published definitions of PCG32 and of
-/// `seed_from_u64` of `rand_core`, which gives the words 2442223337, 414063806, 2743600285, 3524868804,
-/// 2371632060, 1368306093, .. for the seed 7.
+/// Another program computed the expected text, from the published definitions of PCG32 and of
+/// `seed_from_u64` of `rand_core`. For the seed 7 these give the numbers 2442223337, 414063806, 2743600285,
+/// 3524868804, 2371632060, 1368306093, ..
 #[test]
 fn chance_goes_by_the_words_of_the_seed(rt: HostRuntime) -> Result<(), Fail> {
     let mut fabric = ChanceFabric::new(rt.alloc())?;

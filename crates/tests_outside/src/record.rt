@@ -1,4 +1,4 @@
-//! A journal that keeps each octet once: each call once with ample memory, and with the largest object.
+//! Tests `norm_record`: each call of a journal once, and that the octets of equal datagrams and hand-ups are kept once.
 
 use norm_base::{InstanceId, Kind, Memory, Moment, NodeId, Octets, Origin, Sent};
 use norm_order::Up;
@@ -12,18 +12,18 @@ const BY: Origin = Origin {
     number: 12,
 };
 
-/// The header of datagram 5 of node 1, and an octet.
+/// A datagram of node 1 with sequence number 5: the header and one octet.
 const FIRST: [u8; 9] = [0x12, 0x02, 0, 5, 0, 0, 0, 1, 7];
 
-/// Another datagram with the same number and source.
+/// Another datagram with the same source and sequence number.
 const SECOND: [u8; 9] = [0x12, 0x02, 0, 5, 0, 0, 0, 1, 8];
 
-/// A node of the tests.
+/// Returns the node with this id.
 fn node_of(n: u32) -> Result<NodeId, Memory> {
     NodeId::of(n).ok_or(Memory)
 }
 
-/// An object of five octets that is handed up.
+/// Returns the hand-up of an object of five octets.
 fn hello(alloc: Global) -> Result<Up, Memory> {
     let bytes = Octets::of(Vec::from_slice(alloc, b"hello")?);
     let (index, kind, info) = (2, Kind::Data, None);
@@ -35,47 +35,47 @@ fn hello(alloc: Global) -> Result<Up, Memory> {
     })
 }
 
-/// How many events the journal of the tests has.
+/// How many events `all_kinds` pushes.
 const EVENTS: usize = 14;
 
-/// Pushes that the file was refused.
+/// Pushes the refusal of a file.
 fn push_refusal(alloc: Global, journal: &mut Journal) -> Result<(), Memory> {
     let name = Octets::of(Vec::from_slice(alloc, b"a.txt")?);
     let fault = SendFault::Enqueue(EnqueueFault::TooBig { len: 600 });
     journal.push_length(BY, name, 600, fault)
 }
 
-/// Pushes that a node handed up the object.
+/// Pushes the hand-up of the object by a node.
 fn push_hello(alloc: Global, journal: &mut Journal, n: u32) -> Result<(), Memory> {
     let node = node_of(n)?;
     let up = hello(alloc)?;
     journal.push_up(node, InstanceId(7), up)
 }
 
-/// Pushes that a node took the octets.
+/// Pushes the take of a datagram by a node.
 fn push_take(journal: &mut Journal, n: u32, octets: &[u8]) -> Result<(), Memory> {
     let to = node_of(n)?;
     journal.push_took(to, octets)
 }
 
-/// Pushes that the first node offered the octets.
+/// Pushes the offer of a datagram by node 1.
 fn push_first(journal: &mut Journal, octets: &[u8]) -> Result<(), Memory> {
     let from = node_of(1)?;
     journal.push_offer(from, octets)
 }
 
-/// Pushes that the first node ticked.
+/// Pushes a tick of node 1 that sent a datagram.
 fn push_tick(journal: &mut Journal) -> Result<(), Memory> {
     let node = node_of(1)?;
     journal.push_tick(node, Sent::Datagram)
 }
 
-/// Pushes that the watermark ended.
+/// Pushes the outcome of watermark 6.
 fn push_done(journal: &mut Journal, outcome: Outcome) -> Result<(), Memory> {
     journal.push_news(News::Done { mark: 6, outcome })
 }
 
-/// Pushes the event of a place.
+/// Pushes event `i` of the test.
 fn push_at(alloc: Global, journal: &mut Journal, i: usize) -> Result<(), Memory> {
     match i {
         0 => journal.push_start(),
@@ -95,7 +95,7 @@ fn push_at(alloc: Global, journal: &mut Journal, i: usize) -> Result<(), Memory>
     }
 }
 
-/// A journal with each kind of event.
+/// Returns a journal with each kind of event.
 fn all_kinds(alloc: Global) -> Result<Journal, Memory> {
     let mut journal = Journal::new(alloc);
     for i in 0..EVENTS {
@@ -104,7 +104,7 @@ fn all_kinds(alloc: Global) -> Result<Journal, Memory> {
     Ok(journal)
 }
 
-/// Whether the event at a place is the one that was pushed there.
+/// Whether event `i` is the one that `push_at` pushed.
 fn is_pushed(journal: &Journal, i: usize) -> bool {
     if i >= journal.len() {
         return false;
@@ -125,12 +125,12 @@ fn is_pushed(journal: &Journal, i: usize) -> bool {
     }
 }
 
-/// Whether these news are the ones that were pushed.
+/// Whether these are the news that `push_done` pushed.
 fn is_done(news: &News) -> bool {
     matches!(news, News::Done { mark: 6, .. })
 }
 
-/// Whether a take is the one that was pushed at a place.
+/// Whether this take is the one that `push_at` pushed as event `i`.
 fn is_taken(i: usize, to: NodeId, octets: &[u8]) -> bool {
     if i == 7 {
         return to.number() == 2 && octets == FIRST.as_slice();
@@ -138,7 +138,7 @@ fn is_taken(i: usize, to: NodeId, octets: &[u8]) -> bool {
     i == 8 && to.number() == 3 && octets == SECOND.as_slice()
 }
 
-/// Whether a hand-up is the one that was pushed at a place.
+/// Whether this hand-up is the one that `push_at` pushed as event `i`.
 fn is_hello(i: usize, node: NodeId, up: &Up) -> bool {
     let Up::Object { bytes, .. } = up else {
         return false;
@@ -160,7 +160,7 @@ fn each_push_is_seen(rt: HostRuntime) -> Result<(), Fail> {
     Ok(())
 }
 
-/// The node that handed the object up, by the place of its hand-up: 0 if that is of something else, and `None` if there are no more.
+/// Returns the node of hand-up `i`, 0 if it is not of the object, or `None` if there are fewer hand-ups.
 fn handed_by(journal: &Journal, i: u64) -> Option<u32> {
     let Some((node, up)) = journal.up(i) else {
         return None;
@@ -186,7 +186,7 @@ fn each_hand_up_is_found_by_its_place(rt: HostRuntime) -> Result<(), Fail> {
     Ok(())
 }
 
-/// Pushes that the sender refused the command, or that it has to wait.
+/// Pushes a command that the sender refused, or that has to wait.
 fn push_fault(journal: &mut Journal, fault: SendFault) -> Result<(), Memory> {
     journal.push_job(BY, None, Err(fault))
 }
@@ -206,7 +206,7 @@ fn push_row(alloc: Global, journal: &mut Journal, row: u32) -> Result<(), Memory
     }
 }
 
-/// How many commands were refused, and how many watermarks expired, after the events of these rows.
+/// Pushes the events of these rows. Returns how many commands were refused, and how many watermarks expired.
 fn counts_after(alloc: Global, rows: &[u32]) -> Result<(u64, u64), Memory> {
     let mut journal = Journal::new(alloc);
     for row in rows {
@@ -230,7 +230,7 @@ fn refusals_and_expiries_are_counted(rt: HostRuntime) -> Result<(), Fail> {
     Ok(())
 }
 
-/// How many octets of datagrams are kept after an offer and these takes.
+/// Pushes an offer and these takes. Returns how many octets of datagrams are kept.
 fn kept_after(alloc: Global, takes: &[&[u8]]) -> Result<usize, Memory> {
     let mut journal = Journal::new(alloc);
     push_first(&mut journal, FIRST.as_slice())?;
@@ -254,7 +254,7 @@ fn octets_are_kept_once(rt: HostRuntime) -> Result<(), Fail> {
     Ok(())
 }
 
-/// Pushes that a node handed up the largest object.
+/// Pushes the hand-up of the largest object by a node.
 fn push_largest(alloc: Global, journal: &mut Journal, n: u32) -> Result<(), Memory> {
     let node = node_of(n)?;
     let bytes = Octets::of(vec![in alloc; 0xa5u8; 16_777_216]?);
@@ -268,7 +268,7 @@ fn push_largest(alloc: Global, journal: &mut Journal, n: u32) -> Result<(), Memo
     journal.push_up(node, InstanceId(7), up)
 }
 
-/// How often the largest object is kept, which two receivers hand up.
+/// Pushes hand-ups of the largest object by two receivers. Returns how many copies are kept.
 fn largest(alloc: Global) -> Result<usize, Memory> {
     let mut journal = Journal::new(alloc);
     for n in [2u32, 3] {

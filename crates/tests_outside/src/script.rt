@@ -1,4 +1,4 @@
-//! The ends of each key's range, refused lines, the reasons as people read them, and each call once with ample memory.
+//! Tests `norm_script`: the ends of each key's range, refused lines, the reasons in words, and each call once.
 
 use norm_base::{Failed, Profile, Sink};
 use norm_script::{
@@ -8,7 +8,7 @@ use norm_script::{
 use std::alloc::Global;
 use std::test::Fail;
 
-/// The line of a script that is refused, 0 where it is read, or the last number where there was no memory.
+/// Returns the refused line of a script, 0 if none is refused, or `u32::MAX` if memory ran out.
 fn refused(alloc: Global, text: &[u8]) -> u32 {
     match read_script(alloc, text) {
         Ok(_) => 0,
@@ -17,7 +17,7 @@ fn refused(alloc: Global, text: &[u8]) -> u32 {
     }
 }
 
-/// The first of these lines, as a script of its own, that is refused at another line than this, or nothing.
+/// Reads each of these lines as a script of its own. Returns the first that is refused at another line than `line`, or nothing.
 fn other<'a>(alloc: Global, text: &'a [u8], line: u32) -> &'a [u8] {
     let mut rest = text;
     for _ in 0..100u32 {
@@ -42,7 +42,7 @@ set grtt_code 0\nset grtt_code 255\nset gsize_code 0\nset gsize_code 15\nset k 0
 set turns 1\nset turns 4000000\nset fabric direct\nset fabric chance\nset fabric udp\nset chance 0\nset chance 4294967295\n\
 set loss 0\nset loss 900\nset repeat 0\nset repeat 900\nset late 0\nset late 64\nset port 1024\nset port 65000\n";
 
-/// Each key past its range, and values in other forms.
+/// Each key just outside its range, and values in forms that are refused.
 const PAST: &[u8] =
     b"set instance 65536\nset first 65536\nset sender 0\nset sender 4294967279\nset receivers 0\nset receivers 17\n\
 set producers 0\nset producers 5\nset e 63\nset e 1401\nset b 0\nset b 201\nset max_n 0\nset max_n 256\nset auto 256\n\
@@ -51,7 +51,7 @@ set gap 0\nset gap 1000001\nset grtt 0\nset grtt 10000001\nset grtt_code 256\nse
 set turns 0\nset turns 4000001\nset fabric tcp\nset fabric 1\nset chance 4294967296\nset loss 901\nset repeat 901\nset late 65\n\
 set port 1023\nset port 65001\nset instance -1\nset instance +1\nset instance 01\nset instance\nset instance \nset K 1\n";
 
-/// A text as people read it in a message.
+/// Returns a text for a message, or `?` if it is not UTF-8.
 fn readable(text: &[u8]) -> &str {
     std::str::from_utf8(text).unwrap_or("?")
 }
@@ -64,7 +64,7 @@ fn each_key_takes_the_ends_of_its_range_and_nothing_past_it(rt: HostRuntime) {
     }
 }
 
-/// Scripts and the first line without meaning, or 0.
+/// Scripts, each with its first line without meaning, or 0 if there is none.
 const SCRIPTS: [(&[u8], u32); 8] = [
     (b"set max_n 1\nset b 1", 0),
     (b"set max_n 10\nset b 4\n1 data 61", 0),
@@ -86,7 +86,7 @@ fn the_first_line_without_meaning_is_named(rt: HostRuntime) {
     }
 }
 
-/// A sink that counts what it is given.
+/// A sink that counts writes and octets, and adds the octets up.
 #[derive(Drop)]
 struct Tally {
     pieces: u64,
@@ -128,7 +128,7 @@ fn the_generated_script_is_written_line_by_line(rt: HostRuntime) {
     assert!(rt; tally.sum == 10331059);
 }
 
-/// Why a script is refused, as people read it.
+/// Returns the sentence that says why a script is refused.
 fn said(alloc: Global, text: &[u8]) -> Result<String, Fail> {
     match read(alloc, text) {
         Ok(Err(refusal)) => Ok(format!(in alloc; "{refusal}")?),
@@ -136,7 +136,7 @@ fn said(alloc: Global, text: &[u8]) -> Result<String, Fail> {
     }
 }
 
-/// Refused scripts and the reasons.
+/// Refused scripts, each with the sentence for the user.
 const REASONS: [(&[u8], &str); 5] = [
     (
         b"set e 64\n\nset e 65",
@@ -157,7 +157,7 @@ const REASONS: [(&[u8], &str); 5] = [
     ),
 ];
 
-/// Scripts as editors spell them, and the reasons.
+/// Scripts that an editor spelt otherwise, each with the sentence for the user.
 const SPELLINGS: [(&[u8], &str); 4] = [
     (
         b"\xef\xbb\xbfset e 64",
@@ -190,7 +190,7 @@ fn a_spelling_is_a_reason(rt: HostRuntime) -> Result<(), Fail> {
     Ok(())
 }
 
-/// A command as its producer, its number, and what it does.
+/// Returns a command as text: its producer, its number, and what it does.
 fn told(alloc: Global, line: &Line) -> Result<String, Fail> {
     let (producer, number) = (line.producer, line.number);
     let verb = match &line.verb {
@@ -231,12 +231,12 @@ fn a_script_is_read_with_its_commands(rt: HostRuntime) -> Result<(), Fail> {
     Ok(())
 }
 
-/// Whether these commands of a profile of defaults are refused.
+/// Whether these commands are refused with the default profile.
 fn refused_command(alloc: Global, text: &[u8]) -> bool {
     read_commands(alloc, text, &Profile::default()).is_err()
 }
 
-/// The line that is refused since it has no verb, 0 where none is refused.
+/// Returns the line that is refused because it has no verb, 0 if none is refused, or `u32::MAX` for any other refusal.
 fn without_verb(alloc: Global, text: &[u8]) -> u32 {
     match why_refused(alloc, text) {
         Ok(None) => 0,

@@ -1,9 +1,9 @@
-//! Worked lines of each message, and of refusals.
+//! Tests `norm_show`: datagrams and the lines that show them, worked out by hand. There is one for each message and some refusals.
 
 use norm_show::show_line;
 use std::alloc::Global;
 
-/// Datagrams in hexadecimal, and their lines.
+/// Datagrams in hexadecimal, each with its line.
 const WORKED: [(&str, &str); 14] = [
     (
         "11072e54df000001fb3ee99d8b05cd75400381539f74473bf2fd3731",
@@ -57,7 +57,7 @@ const WORKED: [(&str, &str); 14] = [
     ),
 ];
 
-/// Whether the datagram that is spelled so has this line, and is told as refused where the line says so.
+/// Whether the datagram with these digits has this line, and counts as refused exactly if the line says so.
 fn is_shown(alloc: Global, spelled: &str, line: &str) -> bool {
     let Ok(octets) = hex::decode(alloc, spelled) else {
         return false;

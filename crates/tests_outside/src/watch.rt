@@ -1,5 +1,5 @@
-//! What a person sees of a node at work: rows of calls of a watched network and a watched sink, over a standard error that is kept and a clock
-//! that is set.
+//! Tests `norm_watch`: what a node at work tells its user. Each row is a list of calls of a watched network and a watched sink. Standard
+//! error is kept in memory, and the clock stands until a row sets it.
 
 ghost use Rattle.std.specs.Prelude.{None, false};
 
@@ -17,7 +17,7 @@ use std::io::{self, ErrorKind};
 use std::test::Fail;
 use std::time::{Clock, Duration};
 
-/// Standard error, as far as it was written, and a clock that stands until it is set on.
+/// What was written to standard error, and a clock that stands until it is set.
 #[derive(Drop)]
 struct Seen {
     said: RefCell<String>,
@@ -25,7 +25,7 @@ struct Seen {
 }
 
 impl Seen {
-    /// Adds a value and what ends it.
+    /// Adds a value, and `end` after it.
     fn add<D: Display + Drop>(&self, value: D, end: &str) -> io::Result<()> {
         let Ok(mut said) = self.said.try_borrow_mut() else {
             return Err(io::Error::from(ErrorKind::Other));
@@ -57,7 +57,7 @@ impl Clock for Seen {
     }
 }
 
-/// A network that gives what is laid there, once, and is offered anything. It says that it passed over this many datagrams.
+/// A network that gives the datagram in `next` once, and drops what is offered. It reports that it ignored `passed` datagrams.
 #[derive(Drop)]
 struct Laid<'a> {
     next: &'a Cell<&'static [u8]>,
@@ -78,7 +78,7 @@ impl PassesOver for Laid<'_> {
     }
 }
 
-/// In what a sender differs whose datagrams are passed over.
+/// The difference that `Laid` reports between a sender's sizes and the profile's.
 const MISFIT: Difference = Difference::Sizes {
     theirs: Sizes {
         e: 1400,
@@ -124,7 +124,7 @@ impl Fabric for Laid<'_> {
     }
 }
 
-/// Says the instances with which a sender goes on.
+/// Prints each instance that a sender begins by a restart.
 #[derive(Drop)]
 struct Noted<'a> {
     seen: &'a Seen,
@@ -137,28 +137,28 @@ impl Restarts for Noted<'_> {
     }
 }
 
-/// What happens to a node.
+/// A step of a row.
 #[derive(Clone, Copy)]
 enum Step {
-    /// So many seconds go by.
+    /// This many seconds pass.
     Waits(u64),
-    /// It takes until the clock was read once, and nothing comes.
+    /// The node takes until the clock was read once. Nothing arrives.
     Looks,
-    /// It takes a datagram.
+    /// The node takes this datagram.
     Takes(&'static [u8]),
-    /// Its network passes over a datagram, and it takes nothing.
+    /// The network ignores a datagram, and the node takes nothing.
     PassesOver,
     /// Member 2 offers a datagram.
     Offers(&'static [u8]),
-    /// It writes a line.
+    /// The node writes this line to its output.
     Writes(&'static [u8]),
-    /// Its turns are spent.
+    /// The node's turns are spent.
     Spends,
-    /// It is done.
+    /// The node is done.
     Ends,
 }
 
-/// A node of a profile with this network and step, the hub where its number is 0; what it is to say, what happens to it, and all that it says.
+/// The network and step of the profile, the node or 0 for the hub, the options, the steps, and all that is then on standard error.
 struct Row {
     fabric: FabricKind,
     step: u32,
@@ -168,10 +168,10 @@ struct Row {
     said: &'static str,
 }
 
-/// The hub's port; the sender's is the one behind it, and then come those of the receivers.
+/// The hub's port. The sender has the next one, and the receivers those after it.
 const PORT: u32 = 7_000;
 
-/// The clock is read once in so many takes.
+/// How many takes there are for each reading of the clock.
 const TAKES: u32 = 64;
 
 const NOTHING: Says = Says {
@@ -190,7 +190,7 @@ const PROGRESS: Says = Says {
     ..NOTHING
 };
 
-/// The header of a DATA of an object, with the flag of a repair and without.
+/// The header of DATA, here with the flag of a repair, and in `SOURCE` without.
 const REPAIR: &[u8] = b"\x12\x08\0\0\0\0\0\x01\0\x07\0\x01\x01\x05\0\0";
 
 const SOURCE: &[u8] = b"\x12\x08\0\0\0\0\0\x01\0\x07\0\x01\0\x05\0\0";
@@ -373,7 +373,7 @@ const ROWS: [Row; 11] = [
     },
 ];
 
-/// A FLUSH of sender 1, which begins instance 12, and EOTs (RFC 5740 section 4.2.3): of that instance, of 5 and of 13, and one of sender 9.
+/// A FLUSH of sender 1 in instance 12. Then EOTs (RFC 5740 section 4.2.3): in instance 12, in 5 and in 13, and one of sender 9.
 const FLUSH: &[u8] = b"\x13\x05\0\0\0\0\0\x01\0\x0c\x40\x41\x01\x05\0\0\0\0\0\0";
 
 const EOT: &[u8] = b"\x13\x04\0\0\0\0\0\x01\0\x0c\x40\x41\x02\0\0\0";
@@ -384,7 +384,7 @@ const ABOVE: &[u8] = b"\x13\x04\0\0\0\0\0\x01\0\x0d\x40\x41\x02\0\0\0";
 
 const OTHER: &[u8] = b"\x13\x04\0\0\0\0\0\x09\0\x02\x40\x41\x02\0\0\0";
 
-/// What a node says once, of what it or its network passes over and of its end.
+/// Rows about what is said only once: ignored datagrams, and the end of the turns.
 const ONCE: [Row; 6] = [
     // What comes again within a second may be late. What is above the receiver's instance, or is before it has one, is nothing old.
     Row {
@@ -489,7 +489,7 @@ const ONCE: [Row; 6] = [
     },
 ];
 
-/// A row's profile.
+/// Returns the profile of a row.
 // Each key comes through the loop: a call of `set` that names its key costs much to prove.
 fn profile_of(row: &Row) -> Result<Profile, Fail> {
     let mut given = Given::new();
@@ -504,7 +504,7 @@ fn profile_of(row: &Row) -> Result<Profile, Fail> {
     Ok(Profile::of(&given).ok_or("no profile")?)
 }
 
-/// A node that is watched, and what is seen of it.
+/// A watched node of a row, and the cells by which a row drives it.
 #[derive(Drop)]
 struct Watched<'a> {
     seen: &'a Seen,
@@ -517,13 +517,13 @@ struct Watched<'a> {
 }
 
 impl Watched<'_> {
-    /// A take.
+    /// Takes once.
     fn takes(&mut self) -> Result<(), FabricFault> {
         self.fabric.take(&mut self.into)?;
         Ok(())
     }
 
-    /// An offer of member 2.
+    /// Offers a datagram of member 2, unless it is too long.
     fn offers(&mut self, octets: &[u8]) -> Result<(), FabricFault> {
         match NodeId::of(2) {
             Some(node) if octets.len() <= DATAGRAM_ROOM => self.fabric.offer(node, octets),
@@ -531,7 +531,7 @@ impl Watched<'_> {
         }
     }
 
-    /// Lets something happen to the node.
+    /// Makes one step.
     fn does(&mut self, step: Step) -> Result<(), Fail> {
         match step {
             Step::Waits(seconds) => {
@@ -562,7 +562,7 @@ impl Watched<'_> {
     }
 }
 
-/// All that a row's node says.
+/// Makes the steps of a row, and returns what is then on standard error.
 fn said_by(alloc: Global, row: &Row) -> Result<String, Fail> {
     let seen = Seen {
         said: RefCell::new(String::new(alloc)),

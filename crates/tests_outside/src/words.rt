@@ -1,10 +1,10 @@
-//! The words of the command line, by what they ask for.
+//! Tests `norm_args`: words of the command line, and the task that they ask for.
 
 use norm_args::task_of;
 use std::alloc::Global;
 use std::test::Fail;
 
-/// Words, joined by spaces, and what they ask for.
+/// Words, joined by spaces, and the task. It is `None` if the words ask for none.
 const WORDS: [(&str, &str); 12] = [
     ("", "None"),
     (
@@ -29,7 +29,7 @@ const WORDS: [(&str, &str); 12] = [
     ("generate", "None"),
 ];
 
-/// What words ask for, as a text.
+/// Returns the task that these words ask for, as text.
 fn asked(alloc: Global, line: &str) -> Result<String, Fail> {
     let mut words = Vec::new(alloc);
     for word in line.split(' ') {
