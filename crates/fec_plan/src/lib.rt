@@ -1,8 +1,9 @@
-//! How an object is cut into blocks of symbols (RFC 5052 section 9.1), how a symbol is named (RFC 5510 section 5.1), and
-//! where blocks and symbols stand in a transport order.
+//! How an object is cut into blocks of symbols (RFC 5052 section 9.1), how a message names a symbol (RFC 5510 section 5.1), and in which
+//! order blocks and symbols are sent.
 //!
-//! A [`Plan`] is an object's or a stream's cut, a [`PayloadId`] a symbol's name in a message, a [`Point`] a block of an
-//! object and a [`Position`] a symbol of it; every comparison of points and positions is a call here.
+//! A [`Plan`] says how an object or a stream is cut, and a [`PayloadId`] names a symbol in a message. A [`Point`] is a block of an object
+//! and a [`Position`] a symbol of it. If you compare points or positions, use the calls here. Senders, receivers and the codec of messages
+//! use this crate.
 #![tactic(auto)]
 
 pub mod laws;

@@ -1,12 +1,11 @@
-//! A symbol's name in a message (RFC 5510 section 5.1).
+//! How a message names a symbol (RFC 5510 section 5.1). The codec of messages reads and writes it.
 
 ghost use Rattle.std.specs.Prelude.{◌≡◌};
 ghost use Rattle.fec_plan.specs.Payload.{name_octets, IsName};
 
 use std::marker::Model;
 
-/// The FEC Payload ID of FEC Encoding ID 5: the source block number, below 16,777,216, and the encoding
-/// symbol id.
+/// The FEC Payload ID of FEC Encoding ID 5: the source block number, below 16,777,216, and the encoding symbol id.
 // The block fits 24 bits always. With one that did not, the id would overflow the 32 bits in which it is written.
 #[derive(Clone, Copy, Debug, PartialEq, Eq)]
 pub struct PayloadId {
@@ -28,7 +27,7 @@ impl Model for PayloadId {
 }
 
 impl PayloadId {
-    /// The id that these octets spell. Each four octets spell one.
+    /// Returns the id in these octets. Any octets are one.
     pub fn read(bytes: [u8; 4]) -> PayloadId
         ensures { name_octets result ≡ bytes }
     {
@@ -39,7 +38,7 @@ impl PayloadId {
         }
     }
 
-    /// The id's octets: 24 bits of block and 8 of symbol.
+    /// Returns the octets of the id: 24 bits of block, then 8 of symbol.
     pub fn bytes(&self) -> [u8; 4]
         ensures octets { result ≡ name_octets self.now }
         ensures widths { IsName self.now }

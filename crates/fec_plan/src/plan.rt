@@ -1,4 +1,5 @@
-//! How an object is cut (RFC 5052 section 9.1).
+//! How an object or a stream is cut into symbols and blocks (RFC 5052 section 9.1). Make a [`Plan`] with `of` or `stream`, then ask it for
+//! sizes.
 
 ghost use Rattle.std.specs.Prelude.{◌≡◌, ◌^◌, ◌<◌, None, Some, MatchResult, ◌≤◌};
 ghost use Rattle.fec_plan.specs.Partition.{IsSound, most_blocks, cut_of, stream_cut, first_fault, first_shape_fault, symbols_in, blocks_in, large_block, small_block, larger_blocks, block_size, symbols_before, blocks, source_symbols, encoding_symbols, symbol_number, sent_octets};
@@ -6,19 +7,19 @@ ghost use Rattle.fec_plan.specs.Partition.{IsSound, most_blocks, cut_of, stream_
 use std::marker::Model;
 use thiserror::Error;
 
-/// The most blocks that 24 bits name.
+/// The most blocks that an object or a stream can have: 24 bits number them.
 // RFC 5510 section 5.1: a payload id has 24 bits for the block. An object that needs more blocks is refused with `TooManyBlocks`.
 pub const MOST_BLOCKS: u32 = 16_777_216;
 
-/// The last block that 24 bits name.
+/// The greatest block number.
 // A span up to it reaches the end of any object.
 pub const LAST_BLOCK: u32 = MOST_BLOCKS - 1;
 
-/// The least octets of a symbol.
+/// The shortest symbol, in octets.
 // Our own choice: with less, about half of a datagram or more would be headers (32 octets of NORM, 28 of UDP and IP). A plan with less is refused.
 pub const LEAST_SYMBOL: u16 = 64;
 
-/// The most octets of a symbol.
+/// The longest symbol, in octets.
 // Our own choice: with its headers and a segment's place a datagram then has 1,468 octets on the wire, and fits an Ethernet frame of 1,500.
 pub const MOST_SYMBOL: u16 = 1400;
 
@@ -26,14 +27,14 @@ pub const MOST_SYMBOL: u16 = 1400;
 // Our own choice: a block has at most 255 encoded symbols (RFC 5510 section 8), so 55 are left for parity. A greater `b` is refused.
 pub const MOST_SOURCES: u8 = 200;
 
-/// The octets of a segment's place, which stand before its own.
+/// The octets of the header before a stream segment in its symbol: length, start of a message, and offset.
 // RFC 5740 section 4.2.1: 16 bits of length, 16 of where a message starts, 32 of offset.
 pub const PLACE_OCTETS: u16 = 8;
 
-/// The same, as an index.
+/// `PLACE_OCTETS` as a `usize`, to index octets.
 pub const PLACE: usize = PLACE_OCTETS as usize;
 
-/// Why an object can't be cut so.
+/// Why [`Plan::of`] or [`Plan::stream`] refuses. If several faults apply, the first in this order is reported.
 #[derive(Clone, Copy, Debug, PartialEq, Eq, Error)]
 pub enum PlanFault {
     #[error("an object of no octets")]
@@ -48,8 +49,8 @@ pub enum PlanFault {
     TooManyBlocks { blocks: u64 },
 }
 
-/// How an object of `l` octets, or a stream, is cut into symbols of `e` octets and blocks of at most `b`
-/// source symbols, with `max_n` encoding symbols for a block of `b`.
+/// How an object of `l` octets, or a stream, is cut into symbols of `e` octets and blocks of at most `b` source symbols. A block of `b` has
+/// `max_n` encoding symbols, a shorter one proportionally fewer.
 // Only a sound cut is ever made. An `e` or a `b` of 0 would divide by 0 as blocks are counted, and an `l` of 0 as their sizes are computed.
 #[derive(Clone, Copy, Debug, PartialEq, Eq)]
 pub struct Plan {
@@ -71,7 +72,11 @@ impl Model for Plan {
     ghost inverse = { λ c. record { l = c.l; e = c.e; b = c.b; max_n = c.max_n } };
 }
 
-/// The first thing that is wrong with symbols of `e` octets and blocks of `b` with `max_n`.
+/// Checks the length of symbols and blocks.
+///
+/// # Errors
+///
+/// The first fault in the order of `PlanFault`.
 fn check_shape(e: u16, b: u8, max_n: u8) -> Result<(), PlanFault>
     ensures { MatchResult result (λ _. first_shape_fault e b max_n ≡ None) (λ fault. first_shape_fault e b max_n ≡ Some fault) }
 {
@@ -87,7 +92,7 @@ fn check_shape(e: u16, b: u8, max_n: u8) -> Result<(), PlanFault>
     Ok(())
 }
 
-/// The blocks of an object of so many octets.
+/// Returns the number of blocks of an object of `l` octets.
 fn blocks_of(l: u64, e: u16, b: u8) -> u64
     requires symbol { 0 < e }
     requires block { 0 < b }
@@ -96,7 +101,7 @@ fn blocks_of(l: u64, e: u16, b: u8) -> u64
     l.div_ceil(u64::from(e)).div_ceil(u64::from(b))
 }
 
-/// The source symbols of a larger block of an object of so many source symbols, in blocks of at most `b`.
+/// Returns the size of a larger block, in source symbols. `symbols` is the number of the object's source symbols, here and below.
 fn large_size(symbols: u64, b: u8) -> u8
     requires some { 0 < symbols }
     requires block { 0 < b }
@@ -106,7 +111,7 @@ fn large_size(symbols: u64, b: u8) -> u8
     symbols.div_ceil(symbols.div_ceil(u64::from(b))) as u8
 }
 
-/// The source symbols of a smaller block.
+/// Returns the size of a smaller block, in source symbols. If all blocks are equal, they are of this size.
 fn small_size(symbols: u64, b: u8) -> u8
     requires some { 0 < symbols }
     requires block { 0 < b }
@@ -116,7 +121,7 @@ fn small_size(symbols: u64, b: u8) -> u8
     (symbols / symbols.div_ceil(u64::from(b))) as u8
 }
 
-/// How many blocks are larger; they are the first ones.
+/// Returns the number of larger blocks. They are the first ones.
 fn larger_count(symbols: u64, b: u8) -> u64
     requires some { 0 < symbols }
     requires block { 0 < b }
@@ -126,7 +131,7 @@ fn larger_count(symbols: u64, b: u8) -> u64
     symbols - symbols / blocks * blocks
 }
 
-/// The source symbols of a block.
+/// Returns the size of a block, in source symbols.
 fn size_of_block(symbols: u64, b: u8, block: u32) -> u8
     requires some { 0 < symbols }
     requires block { 0 < b }
@@ -140,7 +145,7 @@ fn size_of_block(symbols: u64, b: u8, block: u32) -> u8
     }
 }
 
-/// The source symbols of all blocks before one.
+/// Returns the number of source symbols in all blocks before `block`.
 fn count_before(symbols: u64, b: u8, block: u32) -> u64
     requires some { 0 < symbols }
     requires block { 0 < b }
@@ -156,8 +161,11 @@ fn count_before(symbols: u64, b: u8, block: u32) -> u64
 }
 
 impl Plan {
-    /// The plan of an object of `l` octets, or the first thing that is wrong with it, in the order of
-    /// `PlanFault`.
+    /// Returns the plan of an object of `l` octets.
+    ///
+    /// # Errors
+    ///
+    /// The first fault in the order of `PlanFault`.
     pub fn of(l: u64, e: u16, b: u8, max_n: u8) -> Result<Plan, PlanFault>
         requires { l < 2 ^ 48 }
         ensures { let cut = cut_of l e b max_n in
@@ -180,7 +188,11 @@ impl Plan {
         })
     }
 
-    /// The plan of a stream, or the first thing that is wrong with it.
+    /// Returns the plan of a stream.
+    ///
+    /// # Errors
+    ///
+    /// The first fault in the order of `PlanFault`. `ZeroLength` and `TooManyBlocks` do not occur.
     pub fn stream(e: u16, b: u8, max_n: u8) -> Result<Plan, PlanFault>
         ensures { let cut = stream_cut e b max_n in
             MatchResult result (λ plan. (first_fault cut ≡ None) × (plan ≡ cut)) (λ fault. first_fault cut ≡ Some fault) }
@@ -194,7 +206,7 @@ impl Plan {
         })
     }
 
-    /// The octets of a symbol.
+    /// Returns the length of a symbol in octets. Symbols of a stream have `PLACE_OCTETS` more.
     pub fn e(&self) -> u16
         ensures exact { result ≡ self.now.e }
         ensures sound { IsSound self.now }
@@ -202,7 +214,7 @@ impl Plan {
         self.e
     }
 
-    /// The number of blocks, at most 16,777,216; a stream has them all.
+    /// Returns the number of blocks, at most 16,777,216. A stream has this many from the beginning.
     pub fn blocks(&self) -> u32
         ensures exact { result ≡ blocks self.now }
         ensures most { result ≤ most_blocks }
@@ -215,7 +227,7 @@ impl Plan {
         }
     }
 
-    /// The source symbols of a block.
+    /// Returns the number of source symbols of a block. For a stream it is `b`, for any block.
     pub fn source_len(&self, block: u32) -> u8
         ensures exact { result ≡ source_symbols self.now block }
         ensures most { result ≤ self.now.b }
@@ -230,7 +242,7 @@ impl Plan {
         }
     }
 
-    /// The encoding symbols of a block: its source symbols and its parity.
+    /// Returns the number of encoding symbols of a block: source symbols and parity.
     pub fn encoded_len(&self, block: u32) -> u8
         ensures { result ≡ encoding_symbols self.now block }
     {
@@ -239,7 +251,7 @@ impl Plan {
         (u16::from(sources) * u16::from(self.max_n) / u16::from(self.b)) as u8
     }
 
-    /// A source symbol's number in the whole object or stream, from 0.
+    /// Returns a source symbol's number in the whole object or stream, from 0.
     pub fn symbol_number(&self, block: u32, symbol: u8) -> u64
         ensures exact { result ≡ symbol_number self.now block symbol }
         ensures most { result < 2 ^ 43 }
@@ -253,8 +265,8 @@ impl Plan {
         }
     }
 
-    /// The octets of a symbol as it is sent: of an object the last source symbol at its own length, of a stream the
-    /// most that a segment's symbol has.
+    /// Returns the length of a symbol as it is sent, in octets. The last source symbol of an object may be shorter than the others. For a
+    /// stream it is the most that a symbol can have: the header of a segment and `e` octets.
     pub fn symbol_octets(&self, block: u32, symbol: u8) -> u16
         ensures { result ≡ sent_octets self.now block symbol }
     {

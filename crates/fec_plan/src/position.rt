@@ -1,11 +1,12 @@
-//! Where a block and a symbol stand in a transport order, and which of two such places is before the other.
+//! Blocks and symbols in transport order, and which of two is before the other. Watermarks, acknowledgements, drop points and repairs are
+//! all told with these.
 
 ghost use Rattle.std.specs.Prelude.{◌≡◌, ◌&&◌, ℕ};
 ghost use Rattle.fec_plan.specs.Points.{Position as Place, point_of, point_before, position_before, same_point, same_position, reaches, reached_by, nearer, further, further_point};
 
 use std::marker::Model;
 
-/// A block's place: the object's index from 0, and the block. Ordered by these, in this order.
+/// A block in transport order: the index of its object, from 0, and its number. Ordered by index, then by block.
 #[derive(Clone, Copy, Debug, PartialEq, Eq, PartialOrd, Ord)]
 pub struct Point {
     pub index: u32,
@@ -22,8 +23,8 @@ impl Model for Point {
     ghost inverse = { λ at. record { index = at.index; block = at.block } };
 }
 
-/// A symbol's place: the object's index from 0, the block, below 16,777,216 as messages name it, and the symbol. Ordered by
-/// these, in this order.
+/// A symbol in transport order: the index of its object, from 0, its block, below 16,777,216, and its id. Ordered by index, then by block,
+/// then by symbol.
 // The block fits 24 bits, so that each position can be named in a message.
 #[derive(Clone, Copy, Debug, PartialEq, Eq, PartialOrd, Ord)]
 pub struct Position {
@@ -45,7 +46,7 @@ impl Model for Position {
 }
 
 impl Point {
-    /// Whether it is before another.
+    /// Whether this block is before the other.
     // Every comparison of points goes by these calls: a user of the crate then needs their contract, and nothing of how a derived order compares.
     pub fn is_before(&self, other: &Point) -> bool
         ensures { result ≡ point_before self.now other.now }
@@ -53,14 +54,14 @@ impl Point {
         self < other
     }
 
-    /// Whether it is another.
+    /// Whether they are the same block.
     pub fn is(&self, other: &Point) -> bool
         ensures { result ≡ same_point self.now other.now }
     {
         self == other
     }
 
-    /// The further of it and one that was seen before, if any was.
+    /// Returns the further of this block and `seen`, or this one if `seen` is `None`.
     pub fn further(self, seen: Option<Point>) -> Option<Point>
         ensures { result ≡ further_point self seen }
     {
@@ -72,7 +73,7 @@ impl Point {
 }
 
 impl Position {
-    /// The block that it is in.
+    /// Returns the block of the symbol.
     pub fn point(&self) -> Point
         ensures { result ≡ point_of self.now }
     {
@@ -82,28 +83,28 @@ impl Position {
         }
     }
 
-    /// Whether it is before another.
+    /// Whether this symbol is before the other.
     pub fn is_before(&self, other: &Position) -> bool
         ensures { result ≡ position_before self.now other.now }
     {
         self < other
     }
 
-    /// Whether it is another.
+    /// Whether they are the same symbol.
     pub fn is(&self, other: &Position) -> bool
         ensures { result ≡ same_position self.now other.now }
     {
         self == other
     }
 
-    /// Whether it is another or behind it.
+    /// Whether this symbol is `goal` or after it.
     pub fn reaches(&self, goal: &Position) -> bool
         ensures { result ≡ reaches self.now goal.now }
     {
         !self.is_before(goal)
     }
 
-    /// The one of two that is before the other. It reaches exactly what both do.
+    /// Returns the earlier of the two. It reaches exactly what both reach.
     pub fn nearer(self, other: Position) -> Position
         ensures exact { result ≡ nearer self other }
         ensures both { (at : Place) → reaches result at ≡ (reaches self at && reaches other at) }
@@ -111,7 +112,7 @@ impl Position {
         if other.is_before(&self) { other } else { self }
     }
 
-    /// The further of it and one that was seen before, if any was.
+    /// Returns the further of this symbol and `seen`, or this one if `seen` is `None`.
     pub fn further(self, seen: Option<Position>) -> Option<Position>
         ensures { result ≡ further self seen }
     {
@@ -122,7 +123,7 @@ impl Position {
     }
 }
 
-/// Whether there is such a position, and it is this one or behind it.
+/// Whether `at` is `goal` or after it. `false` if `at` is `None`.
 pub fn reached_by(at: Option<Position>, goal: &Position) -> bool
     ensures { result ≡ reached_by at goal.now }
 {

@@ -1,4 +1,5 @@
-//! Lanes of octets, each times one factor: both halves of an octet are looked up in tables of sixteen products.
+//! Multiplies lanes of octets by one factor. Each half of an octet is looked up in a table of sixteen products. `add_scaled` makes the
+//! tables with `multiples_of` and then calls `add_all`.
 
 ghost use Rattle.std.specs.Prelude.{ℕ, ◌≡◌, ◌<◌, ◌≤◌, ◌+◌, ◌-◌, ◌%◌, [], ◌∷◌, ◌++◌, length, map, replicate, slice_index};
 ghost use Rattle.gf_field.specs.Product.{product, shift};
@@ -6,7 +7,7 @@ ghost use Rattle.gf_field.specs.Lanes.{HasSums, HasProducts, IsAdded};
 
 use std::simd::prelude::*;
 
-/// All ones in each lane whose number has bit 0.
+/// All ones in each lane whose number is odd: bit 0 is set.
 // Sixteen lanes, because one look-up takes a table of sixteen octets: the products of one half of an octet.
 const LANES_WITH_1: [u8; 16] = [
     0, 255, 0, 255, 0, 255, 0, 255, 0, 255, 0, 255, 0, 255, 0, 255,
@@ -27,7 +28,7 @@ const LANES_WITH_8: [u8; 16] = [
     0, 0, 0, 0, 0, 0, 0, 0, 255, 255, 255, 255, 255, 255, 255, 255,
 ];
 
-/// The numbers of sixteen lanes, four times over.
+/// The numbers of sixteen lanes, four times. A shuffle by it repeats sixteen lanes.
 // The look-up in 64 lanes goes by each sixteen lanes alone, so each of the four needs the table.
 const FOUR_TIMES: [usize; 64] = [
     0, 1, 2, 3, 4, 5, 6, 7, 8, 9, 10, 11, 12, 13, 14, 15, 0, 1, 2, 3, 4, 5, 6, 7, 8, 9, 10, 11, 12,
@@ -35,28 +36,28 @@ const FOUR_TIMES: [usize; 64] = [
     10, 11, 12, 13, 14, 15,
 ];
 
-/// Sixteen zeros and sixteen times all ones.
+/// Sixteen zeros, and then sixteen octets of all ones.
 // Read from octet `count` on it is the mask of the last `count` lanes, so no mask is computed.
 const EDGE: [u8; 32] = [
     0, 0, 0, 0, 0, 0, 0, 0, 0, 0, 0, 0, 0, 0, 0, 0, 255, 255, 255, 255, 255, 255, 255, 255, 255,
     255, 255, 255, 255, 255, 255, 255,
 ];
 
-/// The products of one octet with 0 to 15, and with 16 times 0 to 15.
+/// The two tables of a factor: its products with 0 to 15, and with 16 times 0 to 15.
 #[derive(Clone, Copy, Drop)]
 pub struct Multiples {
     low: u8x16,
     high: u8x16,
 }
 
-/// The products of one octet, four times over.
+/// The tables of a factor, each four times, for 64 lanes.
 #[derive(Clone, Copy, Drop)]
 struct WideMultiples {
     low: u8x64,
     high: u8x64,
 }
 
-/// The octet times x: shifted by one place and reduced.
+/// Returns the octet times x: shifted left by one bit and reduced.
 // x^8 is x^4 + x^3 + x^2 + 1 here, which is 29 (RFC 5510 section 8.1).
 #[inline(always)]
 #[tactic(auto, using(crate::proofs::Octets::shift_parts))]
@@ -66,7 +67,7 @@ pub fn double(a: u8) -> u8
     (a % 128 * 2) ^ (a / 128 * 29)
 }
 
-/// In lane i, the sum of those of the four octets whose bit is set in i.
+/// Returns sixteen lanes. Lane i is the sum of those of the four octets whose bit is set in i.
 #[inline(always)]
 fn sums_at_bits(a: u8, b: u8, c: u8, d: u8) -> u8x16
     ensures { HasSums (a ∷ b ∷ c ∷ d ∷ []) result }
@@ -78,7 +79,7 @@ fn sums_at_bits(a: u8, b: u8, c: u8, d: u8) -> u8x16
     (first ^ second) ^ (third ^ fourth)
 }
 
-/// The tables of the products of `c`: its doublings, under the masks of the lanes' bits.
+/// Returns the tables of the factor `c`. It costs seven doublings.
 // Made anew for each factor, in registers. Tables of all 256 factors would take 8 KiB of the cache.
 #[inline(always)]
 #[tactic(auto, using(crate::proofs::LaneLemmas::tables_from))]
@@ -97,7 +98,7 @@ pub fn multiples_of(c: u8) -> Multiples
     }
 }
 
-/// A vector of sixteen lanes, four times over.
+/// Repeats sixteen lanes four times.
 #[inline(always)]
 fn four_times(lanes: u8x16) -> u8x64
     ensures { (i : ℕ) → i < 64 → slice_index result i ≡ slice_index lanes (i % 16) }
@@ -105,7 +106,7 @@ fn four_times(lanes: u8x16) -> u8x64
     lanes.swizzle(FOUR_TIMES)
 }
 
-/// All ones in the last `count` of sixteen lanes, and zeros before them.
+/// Returns sixteen lanes: all ones in the last `count` of them, and zeros before.
 #[inline(always)]
 fn last_lanes(count: usize) -> u8x16
     requires { count < 16 }
@@ -127,7 +128,7 @@ impl Multiples {
         }
     }
 
-    /// Each lane times the octet whose products these are.
+    /// Multiplies each lane by the factor.
     #[inline(always)]
     fn times(&self, lanes: u8x16) -> u8x16
         ensures { (c : ℕ) → HasProducts 16 c self.now.low self.now.high → result ≡ map (product c) lanes }
@@ -136,7 +137,7 @@ impl Multiples {
             ^ self.high.swizzle_dyn(lanes >> u8x16::splat(4))
     }
 
-    /// Adds sixteen products from `at` on.
+    /// Adds the products of sixteen octets from `at` on.
     #[inline(always)]
     fn add_lane(&self, dst: &mut [u8], src: &[u8], at: usize)
         requires room { at + 16 ≤ length dst.old }
@@ -149,7 +150,7 @@ impl Multiples {
 }
 
 impl WideMultiples {
-    /// Each lane times the octet whose products these are.
+    /// Multiplies each lane by the factor.
     #[inline(always)]
     fn times(&self, lanes: u8x64) -> u8x64
         ensures { (c : ℕ) → HasProducts 64 c self.now.low self.now.high → result ≡ map (product c) lanes }
@@ -158,7 +159,7 @@ impl WideMultiples {
             ^ self.high.swizzle_dyn_within::<16>(lanes >> u8x64::splat(4))
     }
 
-    /// Adds 64 products from `at` on.
+    /// Adds the products of 64 octets from `at` on.
     #[inline(always)]
     fn add_lane(&self, dst: &mut [u8], src: &[u8], at: usize)
         requires room { at + 64 ≤ length dst.old }
@@ -169,7 +170,7 @@ impl WideMultiples {
         sum.copy_to_slice(&mut dst[at..]);
     }
 
-    /// Adds the products in lanes of 64 octets, and says where fewer than 64 are left.
+    /// Adds products from the beginning, 64 octets at a time. Returns the index at which fewer than 64 are left.
     fn add_lanes(&self, dst: &mut [u8], src: &[u8]) -> usize
         requires { length dst.old ≡ length src.now }
         ensures within { result ≤ length dst.old }
@@ -185,7 +186,7 @@ impl WideMultiples {
 }
 
 impl Multiples {
-    /// Adds the products from `from` on in lanes of sixteen octets, and says where fewer than sixteen are left.
+    /// Adds products from `from` on, sixteen octets at a time. Returns the index at which fewer than sixteen are left.
     fn add_lanes(&self, dst: &mut [u8], src: &[u8], from: usize) -> usize
         requires same { length dst.old ≡ length src.now }
         requires begins { from ≤ length dst.old }
@@ -202,8 +203,8 @@ impl Multiples {
         at
     }
 
-    /// Adds the products from `at` on, fewer than sixteen, in the lane of the last sixteen octets: the products of those
-    /// before `at` are masked.
+    /// Adds the products from `at` to the end, fewer than sixteen. It uses the last sixteen octets as one lane and masks the products
+    /// before `at`.
     fn add_last_lane(&self, dst: &mut [u8], src: &[u8], at: usize)
         requires same { length dst.old ≡ length src.now }
         requires long { 16 ≤ length dst.old }
@@ -217,7 +218,7 @@ impl Multiples {
         sum.copy_to_slice(&mut dst[start..]);
     }
 
-    /// Adds the products of fewer than sixteen octets, in a lane that is padded with zeros.
+    /// Adds the products if there are fewer than sixteen octets: it pads them to one lane.
     fn add_few(&self, dst: &mut [u8], src: &[u8])
         requires same { length dst.old ≡ length src.now }
         requires few { length dst.old < 16 }
@@ -227,7 +228,7 @@ impl Multiples {
         dst.copy_from_slice(&sums[..dst.len()]);
     }
 
-    /// Adds the products of all octets.
+    /// Adds the products of all octets of `src` to `dst`.
     // Proof: each lane speaks of every c whose products these are; IsAdded joins lanes by one lemma.
     pub fn add_all(&self, dst: &mut [u8], src: &[u8])
         requires { length dst.old ≡ length src.now }
@@ -246,7 +247,7 @@ impl Multiples {
     }
 }
 
-/// Fewer than sixteen octets, and zeros behind them.
+/// Returns fewer than sixteen octets, padded with zeros after them.
 fn padded(octets: &[u8]) -> u8x16
     requires { length octets.now < 16 }
     ensures { result ≡ octets.now ++ replicate (16 - length octets.now) 0 }

@@ -1,8 +1,9 @@
-//! The field GF(2^8) of RFC 5510, section 8.1: octets, their sums by exclusive or, and their products
-//! modulo x^8 + x^4 + x^3 + x^2 + 1.
+//! The field GF(2^8) of RFC 5510 section 8.1, on octets. The sum is exclusive or, the product is modulo x^8 + x^4 + x^3 + x^2 + 1. rs_block
+//! computes parity and solves blocks with it.
 //!
-//! `mul`, `inv`, `alpha_pow` and `alpha_log` read the tables of `tables`; `add_scaled` works on the lanes of `lanes`.
-//! `specs/Symbol.antt` has the erasure code as functions of lists of symbols, and `laws` what holds of all of it.
+//! [`mul`], [`inv`], [`alpha_pow`] and [`alpha_log`] are look-ups in tables. [`add_scaled`] is the call that costs time: it works on whole
+//! symbols, in lanes. `specs/Symbol.antt` defines the erasure code as functions of lists of symbols, and [`laws`] says what holds of field
+//! and code.
 #![tactic(auto)]
 
 ghost use Rattle.std.specs.Prelude.{◌≡◌, ◌≢◌, ◌<◌, EachIndex, bit_xor, length, slice_index};
@@ -16,7 +17,7 @@ mod tables;
 use lanes::multiples_of;
 use tables::{logarithm_of, power_of};
 
-/// The product of two octets: alpha to the sum of their logarithms.
+/// Returns the product of two octets.
 #[inline]
 #[tactic(auto, using(crate::proofs::TableLemmas::logarithm_steps))]
 pub fn mul(a: u8, b: u8) -> u8
@@ -32,7 +33,7 @@ pub fn mul(a: u8, b: u8) -> u8
     power_of(logarithm_of(a) + logarithm_of(b))
 }
 
-/// The power of alpha, the octet 02, with exponent `j`. The order of alpha is 255.
+/// Returns alpha, the octet 02, to the power `j`. Exponents that differ by a multiple of 255 give the same.
 #[inline]
 #[tactic(auto, using(crate::proofs::TableLemmas::logarithm_steps))]
 pub fn alpha_pow(j: u32) -> u8
@@ -42,7 +43,7 @@ pub fn alpha_pow(j: u32) -> u8
     power_of(j % 255)
 }
 
-/// The logarithm of an octet that is not 0: the exponent below 255 with which alpha gives it.
+/// Returns the logarithm of an octet that is not 0: the exponent below 255 for which alpha has this power.
 #[inline]
 pub fn alpha_log(a: u8) -> u32
     requires { a ≢ 0 }
@@ -52,7 +53,7 @@ pub fn alpha_log(a: u8) -> u32
     logarithm_of(a)
 }
 
-/// The inverse of an octet: the product of the two is 1.
+/// Returns the octet whose product with `a` is 1.
 #[inline]
 #[tactic(auto, using(crate::proofs::TableLemmas::logarithm_steps))]
 pub fn inv(a: u8) -> u8
@@ -62,8 +63,7 @@ pub fn inv(a: u8) -> u8
     power_of(255 - logarithm_of(a))
 }
 
-/// Adds `c * src` to `dst`: each octet of `dst` becomes its sum with `c` times the octet of `src` at the
-/// same place.
+/// Adds `c * src` to `dst`, octet by octet. Both are equally long. It goes 64 octets at a time, and takes no memory.
 pub fn add_scaled(dst: &mut [u8], src: &[u8], c: u8)
     requires { length dst.old ≡ length src.now }
     ensures { EachIndex dst.new (λ i.

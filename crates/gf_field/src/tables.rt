@@ -1,10 +1,9 @@
-//! Powers of alpha and their logarithms, in tables.
+//! Tables of the powers of alpha and of their logarithms. The calls of the crate read them through `power_of` and `logarithm_of`.
 
 ghost use Rattle.std.specs.Prelude.{◌≡◌, ◌≢◌, ◌<◌};
 ghost use Rattle.gf_field.specs.Power.{power};
 
-/// The powers of alpha with exponents from 0 on, two rounds of them, so that a sum of two logarithms is an
-/// exponent.
+/// The powers of alpha with exponents 0 to 509: two rounds, so that the sum of two logarithms is an index.
 // The order of alpha is 255 (RFC 5510 section 8.1). With one round a product would have to reduce the sum of two logarithms.
 const POWERS: [u8; 510] = [
     1, 2, 4, 8, 16, 32, 64, 128, 29, 58, 116, 232, 205, 135, 19, 38, 76, 152, 45, 90, 180, 117,
@@ -34,7 +33,7 @@ const POWERS: [u8; 510] = [
     11, 22, 44, 88, 176, 125, 250, 233, 207, 131, 27, 54, 108, 216, 173, 71, 142,
 ];
 
-/// The exponent below 255 with which alpha gives each octet but 0, whose place holds nothing.
+/// The logarithm of each octet. The item of 0 has no meaning.
 // The proof tests each entry against `POWERS`. 0 has no logarithm, and nobody asks for it: what stands at its place says nothing.
 const LOGARITHMS: [u8; 256] = [
     0, 0, 1, 25, 2, 50, 26, 198, 3, 223, 51, 238, 27, 104, 199, 75, 4, 100, 224, 14, 52, 141, 239,
@@ -52,7 +51,7 @@ const LOGARITHMS: [u8; 256] = [
     214, 244, 234, 168, 80, 88, 175,
 ];
 
-/// The power of alpha with an exponent below 510.
+/// Returns the power of alpha with an exponent below 510.
 // Proof: each entry is the shift of the one before it, so one recursion carries the power along the table and no pair of entries is tested.
 #[inline(always)]
 #[tactic(auto, using(crate::proofs::TableLemmas::power_in_table))]
@@ -63,7 +62,7 @@ pub fn power_of(exponent: u32) -> u8
     POWERS[exponent as usize]
 }
 
-/// The exponent below 255 with which alpha gives the octet.
+/// Returns the logarithm of an octet that is not 0.
 #[inline(always)]
 #[tactic(auto, using(crate::proofs::TableLemmas::logarithm_is))]
 pub fn logarithm_of(octet: u8) -> u32

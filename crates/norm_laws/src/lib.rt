@@ -1,5 +1,5 @@
-//! What is promised of whole runs beside safety: laws above the rules of a sender and a receiver and the judge of journals. It has no code of its
-//! own, and nothing stands on it, so that a further law proves nothing else anew. Each law is in [`laws`].
+//! Laws of whole runs, other than safety, over the rules of a sender and a receiver and the judge of journals. It has no code of its own,
+//! and no other crate depends on it, so a further law needs no other proof again. The laws are in [`laws`].
 #![tactic(auto)]
 
 pub mod laws;

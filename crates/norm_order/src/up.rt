@@ -1,47 +1,55 @@
-//! What a receiver hands up.
+//! What a receiver hands up to its user.
 
 ghost use Rattle.std.specs.Prelude.{◌≡◌, IfOk};
 
 use norm_base::{Kind, Memory, Octets};
 
-/// One hand-up of a receiver, in transport order.
+/// One hand-up of a receiver. Hand-ups come in transport order.
 #[derive(Debug, Drop)]
 pub enum Up {
-    /// A whole data object or file, with its info; a file's info is its name.
+    /// A whole data object or file. The info of a file is its name.
     Object {
         index: u32,
         kind: Kind,
         info: Option<Octets>,
         bytes: Octets,
     },
-    /// A stream begins.
+    /// A stream begins. Its segments follow.
     StreamOpen {
         index: u32,
     },
-    /// One segment of a stream, and its place in it.
+    /// The octets of one segment of a stream. `offset` is that of the first one.
     StreamBytes {
         index: u32,
         offset: u32,
         bytes: Octets,
     },
-    /// A stream ended.
+    /// A stream ended. It was handed up in full.
     StreamEnd {
         index: u32,
     },
-    /// The sender dropped this object, or the rest of this stream, before it was whole here.
+    /// The sender dropped this object, or the rest of this stream, before all of it came.
     Lost {
         index: u32,
     },
 }
 
-/// The same octets, in memory of their own.
+/// Returns a copy of the octets in a new buffer.
+///
+/// # Errors
+///
+/// `Memory` if memory runs out.
 pub fn copy_of_octets(octets: &Octets) -> Result<Octets, Memory>
     ensures { IfOk result (λ copy. copy ≡ octets.now) }
 {
     Ok(octets.clone()?)
 }
 
-/// The same hand-up, in memory of its own.
+/// Returns a copy of the hand-up with new buffers.
+///
+/// # Errors
+///
+/// `Memory` if memory runs out.
 // By hand: a copy takes memory and so may fail, and the clause says that it is the same hand-up.
 pub fn copy_of_up(up: &Up) -> Result<Up, Memory>
     ensures { IfOk result (λ copy. copy ≡ up.now) }

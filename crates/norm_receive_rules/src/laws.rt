@@ -1,4 +1,4 @@
-//! What is promised of the receiver's rules. Each law is the contract of a function that does nothing.
+//! Laws of the receiver's rules. Each law is the contract of a function that does nothing.
 
 ghost use Rattle.norm_receive_rules.specs.BoundLaws.{BoundLaws};
 ghost use Rattle.norm_receive_rules.specs.DueLaws.{DueLaws};
@@ -9,95 +9,98 @@ ghost use Rattle.norm_receive_rules.specs.NackLaws.{NackLaws};
 ghost use Rattle.norm_receive_rules.specs.OpenLaws.{OpenLaws};
 ghost use Rattle.norm_receive_rules.specs.WantingLaws.{WantingLaws};
 
-/// Hand-ups go on from the hand-up point: each joins those before it, and the point never goes back.
+/// Each hand-up is added after those before it and moves the hand-up point on. The point never goes back.
 #[tactic(auto, using(crate::proofs::HandUpLemmas::hand_up_laws))]
 pub fn hand_ups()
     ensures { HandUpLaws }
 {}
 
-/// Nothing is needed exactly where nothing is missing of what the sender is past.
+/// Nothing is needed if and only if nothing is missing of what the sender is past or has flushed.
 // Proof: a lazy list is empty by is_nil, with one combinator for each way to build it.
 #[tactic(auto, using(crate::proofs::NeedLemmas::needs_laws))]
 pub fn needs()
     ensures { NeedsLaws }
 {}
 
-/// What was heard tells, kept merged, the same as the requests as they were heard.
+/// Requests that were heard are kept merged. The merged form gives the same answers as the requests as they came.
 #[tactic(auto, using(crate::proofs::HeardLemmas::heard_laws))]
 pub fn heard()
     ensures { HeardLaws }
 {}
 
-/// A receiver stays its node, and holds nothing while it is in no instance.
+/// A receiver keeps its node id, and only goes on to an instance above its own. While it is in no instance, it holds nothing.
 #[tactic(auto, using(crate::proofs::StepLemmas::step_laws))]
 pub fn steps()
     ensures { StepLaws }
 {}
 
-/// Hand-ups and a squelch change nothing beside what is held, and there no plan, symbol or info.
+/// Hand-ups and a squelch change only what is held, and no plan, symbol or info of it. A squelch that is received may also begin a back-off
+/// and raise the greatest index that is known.
 #[tactic(auto, using(crate::proofs::BesideLemmas::beside_laws))]
 pub fn beside()
     ensures { BesideLaws }
 {}
 
-/// Of a stream each block before the hand-up point's is done, and nothing before it in its block is an end.
+/// In a stream, each block before that of the hand-up point is done. In the point's own block, each symbol before the point is there, and
+/// none is the end.
 // Proof: a test that refuses what is joined finds what it found before.
 #[tactic(auto, using(crate::proofs::PassedLemmas::passed_laws))]
 pub fn passed()
     ensures { PassedLaws }
 {}
 
-/// The block of each held symbol was seen.
+/// The block of each held symbol was seen: its object has a plan, and a stream's greatest seen block is not before it.
 #[tactic(auto, using(crate::proofs::SeenLemmas::seen_laws))]
 pub fn seen()
     ensures { SeenLaws }
 {}
 
-/// An instance that a receiver left is never entered again.
+/// A receiver never returns to an instance that it left, if all instance ids are at most 32,767 above the first.
 #[tactic(auto, using(crate::proofs::InstanceLemmas::instance_laws))]
 pub fn instances()
     ensures { InstanceLaws }
 {}
 
-/// What a receiver acknowledges was handed up.
+/// A receiver acknowledges only what it handed up, with everything before.
 #[tactic(auto, using(crate::proofs::DueLemmas::due_laws))]
 pub fn acknowledgements()
     ensures { DueLaws }
 {}
 
-/// What a receiver keeps of what others ask for is at most 4,096 spans of symbols, 4,096 of infos and 4,096 counts, at first and after
-/// each step.
+/// Of what others ask for, a receiver keeps at most 4,096 spans of symbols, 4,096 infos and 4,096 counts.
 #[tactic(auto, using(crate::proofs::BoundLemmas::bound_laws))]
 pub fn bounds()
     ensures { BoundLaws }
 {}
 
-/// A datagram for which a receiver may not want memory changes nothing.
+/// If a datagram cannot make a receiver need memory, it changes nothing.
 #[tactic(auto, using(crate::proofs::WantingLemmas::wanting_laws))]
 pub fn wanting()
     ensures { WantingLaws }
 {}
 
-/// A NACK asks for the longest beginning of what is needed that fits; a need was heard where all of it was asked for.
+/// A NACK asks for the longest prefix of the needs that fits. A need was heard if and only if the requests that were heard ask for all of
+/// it.
 #[tactic(auto, using(crate::proofs::NackLemmas::nack_laws))]
 pub fn nacks()
     ensures { NackLaws }
 {}
 
-/// Handing up goes as far as it can: after each step nothing more can be handed up.
+/// After each step, nothing more can be handed up.
 // Proof: what is left is counted, and each round takes one at least, so the end of the bound is the end of the rounds.
 #[tactic(auto, using(crate::proofs::FarLemmas::far_laws))]
 pub fn far()
     ensures { FarLaws }
 {}
 
-/// Of a stream's parts none is handed up before its open.
+/// No part of a stream is handed up before the stream is opened, or after another one is.
 #[tactic(auto, using(crate::proofs::OpenLemmas::open_laws))]
 pub fn opens()
     ensures { OpenLaws }
 {}
 
-/// Where anything is needed, something of the object at the hand-up point is; of a stream while a block is left for its end.
+/// If anything is needed, something of the object at the hand-up point is. For a stream this holds while a block is left that could hold
+/// its end.
 #[tactic(auto, using(crate::proofs::FrontLemmas::front_laws))]
 pub fn front()
     ensures { FrontLaws }

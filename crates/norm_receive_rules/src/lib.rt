@@ -1,7 +1,8 @@
-//! The rules of a NORM receiver (RFC 5740 section 5, RFC 5401) as definitions: its state, what each datagram and tick
-//! does to it, what it hands up, and what it asks for. The types here are the words that contracts of code speak of: how
-//! transmission information fits ([`Fit`]), what became of a symbol ([`Put`]), and what is lacking of a block
-//! ([`Missing`]).
+//! The rules of a NORM receiver (RFC 5740 section 5, RFC 5401) as definitions: its state, what each datagram and tick changes, what it
+//! hands up, and what it requests. norm_receiver is proved to follow them.
+//!
+//! The types are answers of what a receiver holds: whether it takes an object's transmission information ([`Fit`]), whether it keeps a
+//! symbol ([`Put`]), and what a block still needs ([`Missing`]).
 #![tactic(auto)]
 
 pub mod laws;

@@ -1,37 +1,37 @@
-//! The words of what a receiver holds. Where several apply, the first in the order of these lists counts.
+//! What a receiver's hold answers. If several answers apply, the first in the order of these lists is given.
 
-/// How an object's transmission information fits what is known.
+/// Whether an object's transmission information is taken.
 #[derive(Clone, Copy, Debug, PartialEq, Eq)]
 pub enum Fit {
-    /// The object has this plan already, or was handed up or lost.
+    /// The plan is known already, or the object was handed up or lost.
     Known,
-    /// The object is too far ahead, or there is no room for it.
+    /// The object is too far ahead, or it is new and there is no room for it.
     Away,
-    /// The plan is refused, or is not the one that is known, or is not of the profile.
+    /// The plan is faulty, or differs from the known one or from the profile.
     Unfit,
-    /// The plan is taken up now.
+    /// The object is new, and its plan is kept.
     Taken,
 }
 
-/// What became of a symbol or an info.
+/// Whether a symbol or an info is kept.
 #[derive(Clone, Copy, Debug, PartialEq, Eq)]
 pub enum Put {
-    /// It is held now.
+    /// It is kept.
     Kept,
-    /// It is not needed any more.
+    /// It is not needed: it is held already, its block has enough symbols, or its object was handed up or lost.
     Had,
-    /// There is no plan, or the block is too far ahead.
+    /// The object has no plan, or the stream's block is too far ahead.
     Away,
-    /// It is no symbol or info of its object.
+    /// It is not a symbol or an info of the object, or its length is wrong.
     Unfit,
 }
 
-/// What is lacking of a block.
+/// What a block still needs.
 #[derive(Clone, Copy, Debug, PartialEq, Eq)]
 pub enum Missing {
-    /// The object has no plan.
+    /// Unknown: the object has no plan.
     Unseen,
-    /// So many more symbols make the block whole.
+    /// This many more symbols, with which it can be decoded.
     Short { wanted: u8 },
     /// Nothing.
     Done,

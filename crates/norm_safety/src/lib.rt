@@ -1,6 +1,6 @@
-//! What is claimed of a sender and its receivers as one world (RFC 5740 section 5), as definitions over their rules:
-//! runs of events, which runs are lawful, what was handed up, and when a run is safe. It has no code of its own, and what is
-//! promised of runs and of the tests is in [`laws`].
+//! Safety of a sender and its receivers together (RFC 5740 section 5), as definitions over the rules of both: what a run of events is,
+//! which runs are lawful, what was handed up, and when a run is safe. It has no code of its own. [`laws`] is what is proved; norm_journal
+//! and norm_world use the definitions.
 #![tactic(auto)]
 
 pub mod laws;

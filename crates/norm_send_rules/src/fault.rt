@@ -1,4 +1,4 @@
-//! Why a sender refuses a command. Where several faults apply, the first in the order of these lists counts.
+//! Why a sender refuses a command. If several faults apply, the first in the order of these lists is returned.
 
 ghost use Rattle.std.specs.Prelude.{◌≡◌};
 ghost use Rattle.norm_send_rules.specs.Waiting.{may_wait};
@@ -6,7 +6,7 @@ ghost use Rattle.norm_send_rules.specs.Waiting.{may_wait};
 use norm_base::{InstanceId, NodeId};
 use thiserror::Error;
 
-/// Why a stream takes no more.
+/// Why a stream takes no more octets.
 #[derive(Clone, Copy, Debug, PartialEq, Eq, Error)]
 pub enum StreamFault {
     #[error("the stream was closed")]
@@ -17,48 +17,48 @@ pub enum StreamFault {
     Full { first: u32 },
 }
 
-/// Why nothing is enqueued.
+/// Why an object is not enqueued, or a stream not opened, written or closed.
 #[derive(Clone, Copy, Debug, PartialEq, Eq)]
 pub enum EnqueueFault {
-    /// There are no octets.
+    /// The object or the write has no octets.
     Empty,
-    /// An object, a write or a stream's buffer of so many octets is more than the profile allows.
+    /// The object, the write or the stream's buffer would be larger than the profile allows. `len` is in octets.
     TooBig { len: u64 },
-    /// The info has more octets than a symbol.
+    /// The info is longer than a symbol.
     InfoTooBig { len: u64 },
-    /// The stream with this index is open.
+    /// The stream with this index is open, so nothing else can be enqueued.
     StreamOpen { index: u32 },
     /// No stream is open.
     NoStream,
-    /// The instance has used all its object transport ids.
+    /// The instance has used up its object indices.
     IdsSpent,
-    /// The stream takes no more.
+    /// The open stream takes no more.
     Stream(StreamFault),
-    /// There is no room, and the object with this index, the window's first, may not go.
+    /// There is no room in the window, and not enough objects may be dropped yet. `first` is the index of the window's first object.
     WindowFull { first: u32 },
-    /// There was no memory for it.
+    /// Memory ran out.
     Memory,
 }
 
-/// Why no watermark is made.
+/// Why a watermark is not made.
 #[derive(Clone, Copy, Debug, PartialEq, Eq)]
 pub enum MarkFault {
-    /// The quorum is 0, or more than there are receivers.
+    /// The quorum is 0, or more than the receivers of the profile.
     Quorum { q: u32 },
-    /// Nothing was sent or waits to be sent in this instance.
+    /// The instance has nothing to confirm: no symbol was sent or waits to be sent.
     NothingEnqueued,
-    /// So many watermarks are open.
+    /// This many watermarks are open, the most that can be.
     TooMany { count: u32 },
-    /// There was no memory for it.
+    /// Memory ran out.
     Memory,
 }
 
-/// Why no node is struck.
+/// Why a node is not struck.
 #[derive(Clone, Copy, Debug, PartialEq, Eq)]
 pub enum StrikeFault {
-    /// The node is no receiver, or was struck.
+    /// The node is not a receiver, or was struck already.
     NotMember { node: NodeId },
-    /// The node is the only one that is left.
+    /// The node is the only member left.
     LastMember { node: NodeId },
 }
 
@@ -68,14 +68,14 @@ pub enum SendFault {
     Enqueue(EnqueueFault),
     Mark(MarkFault),
     Strike(StrikeFault),
-    /// This id was an instance of this sender before, or is now.
+    /// The id is not above that of the current instance, or it is more than 32,767 above that of the first one (RFC 5740 section 4.1).
     IdUsed { instance: InstanceId },
-    /// There was no memory for it. Every want of memory is told by this word.
+    /// Memory ran out. The sender returns this for the `Memory` of any part.
     Memory,
 }
 
 impl SendFault {
-    /// There is no room yet: the command may be given again later.
+    /// Whether the command is only refused for want of room. If so, offer it again later.
     pub fn may_wait(&self) -> bool
         ensures { result ≡ may_wait self.now }
     {

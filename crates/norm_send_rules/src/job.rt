@@ -1,4 +1,4 @@
-//! What a sender is asked to do, and what it did.
+//! The commands of a sender and the answers if it accepts them. Scripts and producers make a [`Job`], the sender returns a [`Receipt`].
 
 ghost use Rattle.std.specs.Prelude.{◌≡◌, IfOk};
 
@@ -6,28 +6,33 @@ use fec_plan::Position;
 use norm_base::{InstanceId, Memory, NodeId, Octets};
 use norm_order::copy_of_octets;
 
-/// What a sender is asked to do.
+/// A command for a sender.
 #[derive(Debug, Drop)]
 pub enum Job {
-    /// Enqueues a data object, with info or without.
+    /// Enqueues a data object. `info` is optional.
     Data { info: Option<Octets>, bytes: Octets },
-    /// Enqueues a file under a name.
+    /// Enqueues a file. Its info is its name.
     File { name: Octets, bytes: Octets },
-    /// Opens a stream.
+    /// Opens a stream. Only one can be open.
     Open,
-    /// Writes octets to the open stream.
+    /// Appends octets to the open stream.
     Write { bytes: Octets },
-    /// Ends the open stream.
+    /// Closes the open stream.
     Close,
-    /// Asks that so many members, or all of them, confirm everything that was enqueued so far.
+    /// Asks this many members, or all if `None`, to confirm everything that was enqueued so far. If there are fewer members left, all of
+    /// them.
     Mark { quorum: Option<u32> },
-    /// Begins a new instance.
+    /// Begins a new instance with this id. Open watermarks end with [`Outcome::Cut`](crate::Outcome::Cut).
     Restart { instance: InstanceId },
-    /// Takes a receiver from the members for good: nothing waits for it any more.
+    /// Removes a receiver from the members for good: nothing waits for it any more.
     Strike { node: NodeId },
 }
 
-/// The same command, in memory of its own.
+/// Returns a copy of the command with buffers of its own.
+///
+/// # Errors
+///
+/// `Memory` if memory runs out.
 pub fn copy_of_job(job: &Job) -> Result<Job, Memory>
     ensures { IfOk result (λ copy. copy ≡ job.now) }
 {
@@ -66,21 +71,21 @@ pub fn copy_of_job(job: &Job) -> Result<Job, Memory>
     }
 }
 
-/// What a sender did.
+/// What a sender did for a command.
 #[derive(Clone, Copy, Debug, PartialEq, Eq)]
 pub enum Receipt {
-    /// The object has this index in the transport order, and so many octets.
+    /// The object was enqueued with this index in the transport order. `len` is its octets.
     Object { index: u32, len: u64 },
-    /// The stream has this index.
+    /// The stream was opened with this index.
     Opened { index: u32 },
-    /// So many octets were written to this stream, the first at this offset.
+    /// This many octets were appended to this stream. `offset` is that of the first one.
     Wrote { index: u32, offset: u32, len: u64 },
-    /// This stream ended.
+    /// This stream was closed.
     Closed { index: u32 },
-    /// The watermark has this number, and asks for everything up to this position.
+    /// The watermark was made with this number. It asks for everything up to `at`.
     Mark { mark: u32, at: Position },
     /// This instance began.
     Restarted { instance: InstanceId },
-    /// This node is no member any more.
+    /// This node is not a member any more.
     Struck { node: NodeId },
 }

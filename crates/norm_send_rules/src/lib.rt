@@ -1,6 +1,8 @@
-//! The rules of a NORM sender (RFC 5740 section 5, RFC 5401) as definitions: its state, what each command, datagram
-//! and tick does to it, and what it answers. The types here are those that contracts of code speak of: a [`Job`] and
-//! its [`Receipt`] or [`SendFault`], the [`Outcome`] of a watermark, the [`News`] of a sender, and a [`Want`].
+//! The rules of a NORM sender (RFC 5740 section 5, RFC 5401) as definitions: its state, and what each command, datagram and tick changes
+//! and answers. norm_sender is proved to follow them.
+//!
+//! The types are those of commands and their answers. A [`Job`] is answered by a [`Receipt`] or a [`SendFault`]. [`News`] reports a listing
+//! or the [`Outcome`] of a watermark, and a [`Want`] is an info or a symbol to repeat.
 #![tactic(auto)]
 
 mod fault;

@@ -1,4 +1,4 @@
-//! What a sender has to tell of its members.
+//! What a sender reports: how far members have confirmed, and how watermarks ended. A session prints it as `past` and `done`.
 
 use fec_plan::Position;
 use norm_base::NodeId;
@@ -6,21 +6,21 @@ use norm_base::NodeId;
 /// What became of a watermark.
 #[derive(Clone, Copy, Debug, PartialEq, Eq)]
 pub enum Outcome {
-    /// So many members did not confirm it yet.
+    /// It has not ended, and this many members have not confirmed it.
     Open { left: u32 },
-    /// Enough members confirmed it while it was open.
+    /// It was open until enough members had confirmed it.
     Satisfied,
-    /// It was given up while so many members had not confirmed it.
+    /// The sender gave it up. This many members had not confirmed it then.
     Expired { left: u32 },
-    /// A restart came while it was open.
+    /// The sender was restarted while it was open.
     Cut,
 }
 
-/// A change that was not told yet.
+/// A change that was not reported yet.
 #[derive(Clone, Copy, Debug, PartialEq, Eq)]
 pub enum News {
-    /// This member is newly listed past this position.
+    /// This member is now listed past `at`.
     Past { node: NodeId, at: Position },
-    /// This watermark ended.
+    /// This watermark ended, with this outcome.
     Done { mark: u32, outcome: Outcome },
 }

@@ -1,8 +1,8 @@
-//! What a sender has to send again.
+//! What a sender has to send again, which it keeps until it is sent or dropped.
 
 use fec_plan::Position;
 
-/// An object's info, or one encoded symbol of it.
+/// An object's info, or one of its encoded symbols.
 #[derive(Clone, Copy, Debug, PartialEq, Eq)]
 pub enum Want {
     Info { index: u32 },

@@ -1,4 +1,4 @@
-//! The code of a block, RFC 5510 section 8.2.
+//! The code of a block (RFC 5510 section 8.2), from which a sender computes parity.
 
 ghost use Rattle.std.specs.Prelude.{ℕ, ◌≡◌, ◌<◌, ◌≤◌, ◌+◌, ◌-◌, ◌*◌, ◌%◌, ◌++◌, EachIndex, IfOk, length, slice_index};
 ghost use Rattle.gf_field.specs.Power.{power};
@@ -11,8 +11,8 @@ use norm_base::Memory;
 use std::alloc::{AllocError, Global};
 use std::marker::Model;
 
-/// A code of blocks of k source symbols and n encoded symbols: symbols 0 to k - 1 of a block are its source
-/// symbols, and the others are parity. It keeps k octets for each parity symbol.
+/// The code of blocks of k source symbols and n encoded symbols. Symbols 0 to k - 1 of a block are its source symbols, the others are
+/// parity. It keeps k octets for each parity symbol. Make it once with `new` and use it for every block of this shape.
 // The rows are computed with the code, once, so that a symbol costs its sums alone.
 #[derive(Debug, Drop)]
 pub struct Code {
@@ -31,7 +31,7 @@ impl Model for Code {
     ghost invariant = { λ c. CodeSound c.k c.n c.rows.items };
 }
 
-/// The powers of alpha with exponents below `n`.
+/// Returns the powers of alpha with exponents below `n`.
 fn powers_below(alloc: Global, n: u8) -> Result<Vec<u8>, AllocError>
     ensures { IfOk result (λ v. v.items ≡ powers n) }
 {
@@ -42,7 +42,7 @@ fn powers_below(alloc: Global, n: u8) -> Result<Vec<u8>, AllocError>
     Ok(places)
 }
 
-/// Puts the row of each parity symbol into `rows`.
+/// Fills `rows` with the coefficients of each parity symbol, k octets for each.
 fn put_rows(k: u8, n: u8, places: &[u8], weights: &[u8], rows: &mut [u8])
     requires some { 1 ≤ k }
     requires fits { k ≤ n }
@@ -63,7 +63,7 @@ fn put_rows(k: u8, n: u8, places: &[u8], weights: &[u8], rows: &mut [u8])
     }
 }
 
-/// The rows of all parity symbols, one after the other.
+/// Returns the coefficients of all parity symbols, k octets for each.
 fn rows_of(alloc: Global, k: u8, n: u8) -> Result<Vec<u8>, AllocError>
     requires some { 1 ≤ k }
     requires fits { k ≤ n }
@@ -81,11 +81,11 @@ impl Code {
     ghost use Rattle.rs_block.specs.Codeword.{IsSymbol};
     ghost use Rattle.rs_block.specs.Code.{CodeState};
 
-    /// The code of `k` source symbols and `n` encoded symbols.
+    /// Returns the code of `k` source symbols and `n` encoded symbols. It computes k coefficients for each parity symbol.
     ///
     /// # Errors
     ///
-    /// `Memory` where memory runs out.
+    /// `Memory` if memory runs out.
     pub fn new(alloc: Global, k: u8, n: u8) -> Result<Code, Memory>
         requires some { 1 ≤ k }
         requires fits { k ≤ n }
@@ -95,7 +95,7 @@ impl Code {
         Ok(Code { k, n, rows })
     }
 
-    /// The row of parity symbol `j`.
+    /// Returns the k coefficients of parity symbol `j`.
     fn row(&self, j: u8) -> &[u8]
         requires parity { self.now.k ≤ j }
         requires encoded { j < self.now.n }
@@ -108,8 +108,8 @@ impl Code {
         &self.rows[start..start + width]
     }
 
-    /// Puts symbol `j` of the codeword of the source symbols into `out`. `source` is k symbols of `size`
-    /// octets in a row, and `out` has `size` octets. It takes no memory.
+    /// Computes parity symbol `j` into `out`. `source` is the k source symbols of `size` octets, one after the other. Takes no memory. It
+    /// costs a pass over `source`.
     pub fn parity(&self, source: &[u8], size: usize, j: u8, out: &mut [u8])
         requires parity { self.now.k ≤ j }
         requires encoded { j < self.now.n }
@@ -120,8 +120,8 @@ impl Code {
         self.parity_in_two(source, &[], size, j, out);
     }
 
-    /// The same, where the source symbols lie in two pieces: `front` is whole symbols in a row, and `back` the
-    /// others. Together they are k symbols of `size` octets. It takes no memory.
+    /// Like `parity`, if the source symbols are in two buffers: `front` has the first ones, all whole, and `back` the others. If `size` is
+    /// 0, nothing happens. Takes no memory.
     pub fn parity_in_two(&self, front: &[u8], back: &[u8], size: usize, j: u8, out: &mut [u8])
         requires parity { self.now.k ≤ j }
         requires encoded { j < self.now.n }

@@ -1,5 +1,5 @@
-//! A block that is solved where its symbols lie. A place whose symbol is its own source symbol is left alone; the symbols of the
-//! other places are set aside, and the source symbols of these places are put over them.
+//! Solves a block in its own buffer. A symbol that is already at the index of its id stays untouched. The others are copied aside, and the
+//! source symbols of their indexes are written over them. `solve` calls `set_aside` and then `put_lacking`.
 
 ghost use Rattle.std.specs.Prelude.{ℕ, List, ◌≡◌, ◌<◌, ◌≤◌, ◌*◌, ◌+◌, EachIndex, bit_xor, length, map, slice_index};
 ghost use Rattle.norm_base.specs.Octets.{AreOctets};
@@ -17,7 +17,7 @@ use crate::piece::{Piece, put_symbol};
 use gf_field::add_scaled;
 use norm_base::SYMBOL_ROOM;
 
-/// Copies each symbol that is not the source symbol of its place to the same place of `aside`.
+/// Copies each symbol whose id is not its index to the same index of `aside`.
 // All of them before the first is written over: each source symbol that is computed is a sum of all symbols that came.
 pub fn set_aside<P: Piece>(ids: &[u8], pieces: &[P], size: usize, aside: &mut [u8])
     requires symbols { P.are_symbols (length ids.now) size pieces.now }
@@ -31,7 +31,7 @@ pub fn set_aside<P: Piece>(ids: &[u8], pieces: &[P], size: usize, aside: &mut [u
     }
 }
 
-/// Symbol `i` of those that came, from where it lies. `own` is what stands at its place.
+/// Returns symbol `i` of those that came: `own`, which is at index `i` of the block, or the copy in `aside` if the id is not `i`.
 pub fn came_at<'a>(ids: &[u8], own: &'a [u8], aside: &'a [u8], size: usize, i: usize) -> &'a [u8]
     requires within { i < length ids.now }
     requires own { length own.now ≡ size }
@@ -47,7 +47,7 @@ pub fn came_at<'a>(ids: &[u8], own: &'a [u8], aside: &'a [u8], size: usize, i: u
     symbol_at(aside, size, i)
 }
 
-/// Adds to `out`, octet by octet, the sum of the symbols that came, each times its coefficient.
+/// Adds the sum of the symbols that came, each times its coefficient, to `out`.
 fn add_all<P: Piece>(coefficients: &[u8], ids: &[u8], pieces: &[P], aside: &[u8], out: &mut [u8])
     requires count { length coefficients.now ≡ length ids.now }
     requires symbols { P.are_symbols (length ids.now) (length out.old) pieces.now }
@@ -64,7 +64,7 @@ fn add_all<P: Piece>(coefficients: &[u8], ids: &[u8], pieces: &[P], aside: &[u8]
     }
 }
 
-/// Puts symbol `j` of the block into `out`, as `recover` does, from the symbols that came where they lie.
+/// Computes symbol `j` of the block into `out` from the symbols that came. If it is one of them, this is a copy.
 fn recover_from<P: Piece>(
     ids: &[u8],
     places: &[u8],
@@ -100,7 +100,8 @@ fn recover_from<P: Piece>(
     }
 }
 
-/// Puts the source symbols of the block into those places that have another symbol.
+/// Writes the right source symbol over each symbol whose id is not its index. Call `set_aside` before. A source symbol that did not come
+/// costs a sum over all symbols that came.
 pub fn put_lacking<P: Piece>(
     ids: &[u8],
     places: &[u8],

@@ -1,5 +1,6 @@
-//! Lagrange's formula over GF(2^8): the values of the polynomial of degree below k through k points,
-//! which RFC 5510 section 8.2 computes by matrices.
+//! Lagrange's formula over GF(2^8): the values of the polynomial of degree below k through k points. RFC 5510 section 8.2 gets the same by
+//! matrices. A point is the power of alpha to a symbol's id; `places` has the points of the symbols that are known. Both `Code` and
+//! `Solver` use this.
 
 ghost use Rattle.std.specs.Prelude.{ℕ, ◌≡◌, ◌≢◌, ◌<◌, ◌≤◌, ◌+◌, ◌*◌, EachIndex, MatchOption, bit_xor, length, slice_index};
 ghost use Rattle.std.specs.List.{AllPairs};
@@ -13,18 +14,18 @@ ghost use Rattle.rs_block.specs.Row.{coefficients, combined};
 
 use gf_field::{add_scaled, alpha_log, alpha_pow};
 
-/// The order of alpha: exponents count up to it.
+/// The order of alpha. Exponents with the same remainder by it give the same power.
 // RFC 5510 section 8.1: alpha generates all 255 octets but 0.
 pub const ORDER: u32 = 255;
 
-/// The place of the symbol with this id.
+/// Returns the point of the symbol with this id.
 pub fn place_of(id: u8) -> u8
     ensures { result ≡ power id }
 {
     alpha_pow(u32::from(id))
 }
 
-/// Where the id stands among `ids`.
+/// Returns the index of the id in `ids`, if it is there.
 pub fn position_of(ids: &[u8], id: u8) -> Option<usize>
     ensures { MatchOption result
         (EachIndex ids.now (λ i. slice_index ids.now i ≢ id))
@@ -33,7 +34,7 @@ pub fn position_of(ids: &[u8], id: u8) -> Option<usize>
     ids.iter().position(|other| *other == id)
 }
 
-/// The logarithm of the product of the differences of `x` and each place, which is none of them.
+/// Returns the logarithm of the product of the differences between `x` and each point. `x` is none of the points.
 #[tactic(auto, using(crate::proofs::Formula::differ))]
 fn difference_log(places: &[u8], x: u8) -> u32
     requires few { length places.now ≤ 255 }
@@ -48,7 +49,7 @@ fn difference_log(places: &[u8], x: u8) -> u32
     total
 }
 
-/// The logarithm of the product of the differences of `place` and each other place.
+/// Returns the logarithm of the product of the differences between `place` and each other point.
 // Proof: the place is skipped by its value, as the definition does. All places differ, so no lemma speaks of indexes.
 #[tactic(auto, using(crate::proofs::Formula::others_steps))]
 fn others_log(places: &[u8], place: u8) -> u32
@@ -64,7 +65,7 @@ fn others_log(places: &[u8], place: u8) -> u32
     total
 }
 
-/// The logarithm of the weight of a place: what its coefficient has for its denominator, inverted.
+/// Returns the logarithm of a point's weight: the inverse of the denominator in the point's coefficient. It costs a pass over all points.
 // Weights are kept as logarithms: a product is then a sum, and an inverse a difference.
 #[tactic(auto, using(crate::proofs::Formula::weight_is))]
 pub fn weight_log(places: &[u8], place: u8) -> u8
@@ -74,7 +75,7 @@ pub fn weight_log(places: &[u8], place: u8) -> u8
     (ORDER - others_log(places, place) % ORDER) as u8
 }
 
-/// Puts the logarithm of each place's weight into `weights`.
+/// Fills `weights` with the logarithm of each point's weight. The cost grows with the square of the number of points.
 pub fn weigh(places: &[u8], weights: &mut [u8])
     requires count { length weights.old ≡ length places.now }
     requires few { length places.now ≤ 255 }
@@ -85,8 +86,8 @@ pub fn weigh(places: &[u8], weights: &mut [u8])
     }
 }
 
-/// The coefficient of a place at `x`, from the logarithms of the product of all differences at `x` and of the
-/// place's weight.
+/// Returns a point's coefficient at `x`. `all` is the logarithm of the product of the differences between `x` and all points, `weight` that
+/// of the point's weight.
 // One product of all differences serves every place: the place's own difference is taken out again, which costs one look-up in place of k.
 #[tactic(auto, using(crate::proofs::Formula::differ))]
 fn coefficient(all: u32, x: u8, place: u8, weight: u8) -> u8
@@ -97,7 +98,7 @@ fn coefficient(all: u32, x: u8, place: u8, weight: u8) -> u8
     alpha_pow(all + (ORDER - alpha_log(x ^ place)) + u32::from(weight))
 }
 
-/// Puts into `row` the coefficient at `x` of each place. `x` is none of them.
+/// Fills `row` with each point's coefficient at `x`, which is none of the points.
 pub fn put_coefficients(places: &[u8], weights: &[u8], x: u8, row: &mut [u8])
     requires weighted { AreWeights places.now weights.now }
     requires different { AllPairs (λ p q. p ≢ q) places.now }
@@ -112,7 +113,7 @@ pub fn put_coefficients(places: &[u8], weights: &[u8], x: u8, row: &mut [u8])
     }
 }
 
-/// Symbol `i` of symbols of `size` octets in a row.
+/// Borrows symbol `i` of symbols of `size` octets that lie one after the other.
 pub fn symbol_at(symbols: &[u8], size: usize, i: usize) -> &[u8]
     requires { i * size + size ≤ length symbols.now }
     ensures len { length result.now ≡ size }
@@ -123,7 +124,7 @@ pub fn symbol_at(symbols: &[u8], size: usize, i: usize) -> &[u8]
     &symbols[start..start + size]
 }
 
-/// Adds to `out`, octet by octet, the sum of the symbols, each times its entry of the row.
+/// Adds the sum of the symbols, each times its coefficient in `row`, to `out`.
 pub fn add_combined(row: &[u8], symbols: &[u8], out: &mut [u8])
     requires { length symbols.now ≡ length row.now * length out.old }
     ensures { EachIndex out.new (λ t.

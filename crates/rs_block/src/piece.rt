@@ -1,4 +1,5 @@
-//! Where the octets of symbols are: behind one another, or each symbol in a row of its own.
+//! Two ways to keep the symbols of a block: in one buffer, one after the other, or each in a buffer of its own. Solving is written once for
+//! both.
 
 ghost use Rattle.std.specs.Prelude.{ℕ, List, ◌≡◌, ◌≢◌, ◌<◌, ◌≤◌, ◌*◌, ◌+◌, EachIndex, length, slice_index};
 ghost use Rattle.std.specs.List.{concat};
@@ -7,24 +8,24 @@ ghost use Rattle.gf_field.specs.Symbol.{AreSymbols};
 use crate::interpolation::symbol_at;
 use crate::row::Row;
 
-/// A piece of what symbols of one size are kept in: an octet of one, or the row of one.
+/// What a slice that keeps symbols of equal size consists of: octets, or a [`Row`] for each symbol.
 // The trait is of what lies in a slice, since a type parameter cannot be a slice.
 // Proof: rows count as their octets one after the other, so the lemmas on one long buffer serve both.
 pub trait Piece {
-    /// The octets of the symbols, behind one another.
+    /// The octets of all symbols, one symbol after the other.
     ghost octets: { List Self → List ℕ };
 
-    /// These pieces are this many symbols of this many octets.
+    /// Whether these pieces are this many symbols of this many octets.
     ghost are_symbols: { ℕ → ℕ → List Self → Type 0 };
 
-    /// The octets of symbol `i`.
+    /// Borrows the octets of symbol `i`.
     fn symbol(pieces: &[Self], size: usize, i: usize) -> &[u8]
         requires { (k : ℕ) × ((i < k) × are_symbols k size pieces.now) }
         ensures len { length result.now ≡ size }
         ensures octets { EachIndex result.now (λ t.
             slice_index result.now t ≡ slice_index (octets pieces.now) (i * size + t)) };
 
-    /// Puts a symbol into place `i`.
+    /// Overwrites symbol `i`.
     fn put(pieces: &mut [Self], size: usize, i: usize, symbol: &[u8])
         requires size { length symbol.now ≡ size }
         requires within { (k : ℕ) × ((i < k) × are_symbols k size pieces.old) }
@@ -61,7 +62,7 @@ impl Piece for Row {
     }
 }
 
-/// Puts a symbol into place `i` of a row.
+/// Overwrites symbol `i` in a buffer of symbols of `size` octets.
 pub fn put_symbol(row: &mut [u8], size: usize, i: usize, symbol: &[u8])
     requires size { length symbol.now ≡ size }
     requires within { i * size + size ≤ length row.old }

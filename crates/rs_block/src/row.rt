@@ -1,10 +1,10 @@
-//! A symbol in a row of its own.
+//! A symbol in a buffer of its own, for callers that keep each symbol of a block apart. `Solver::solve_rows` takes a slice of them.
 
 ghost use Rattle.std.specs.Prelude.{◌≡◌, length};
 
 use std::marker::Model;
 
-/// The octets of one symbol.
+/// The octets of one symbol, owned.
 #[derive(Debug, Drop)]
 pub struct Row(Vec<u8>);
 
@@ -17,21 +17,21 @@ impl Model for Row {
 }
 
 impl Row {
-    /// The symbol of these octets.
+    /// Returns the symbol with these octets. It keeps their buffer.
     pub fn of(octets: Vec<u8>) -> Row
         ensures { result ≡ octets.items }
     {
         Row(octets)
     }
 
-    /// The octets, lent.
+    /// Borrows the octets.
     pub fn octets(&self) -> &[u8]
         ensures { result.now ≡ self.now }
     {
         self.0.as_slice()
     }
 
-    /// Puts other octets in their place, as many.
+    /// Overwrites the octets with this many others.
     pub fn copy(&mut self, octets: &[u8])
         requires { length octets.now ≡ length self.old }
         ensures { self.new ≡ octets.now }
@@ -39,7 +39,7 @@ impl Row {
         self.0.copy_from_slice(octets);
     }
 
-    /// The octets.
+    /// Returns the octets with their buffer.
     pub fn into_inner(self) -> Vec<u8>
         ensures { result.items ≡ self }
     {

@@ -1,4 +1,5 @@
-//! The source symbols of a block from any k of its symbols, RFC 5510 section 8.3.
+//! Computes the source symbols of a block from any k of its symbols (RFC 5510 section 8.3). Receivers call it as soon as they hold k
+//! symbols.
 
 ghost use Rattle.std.specs.Prelude.{◌≡◌, ◌≤◌, ◌*◌, IfOk, length, map};
 ghost use Rattle.norm_base.specs.Octets.{AreOctets};
@@ -16,7 +17,8 @@ use norm_base::Memory;
 use std::alloc::{AllocError, Global};
 use std::marker::Model;
 
-/// Room to solve blocks of at most k source symbols: all memory that solving takes is made once.
+/// Solves blocks of at most k source symbols. `new` takes all memory: 3 k octets, and room for the symbols of one block. Make it once, then
+/// call `solve_in` or `solve_rows` for each block.
 // Made by `new`, so that solving cannot fail: by then the symbol that completes the block is kept.
 #[derive(Debug, Drop)]
 pub struct Solver {
@@ -25,7 +27,7 @@ pub struct Solver {
     places: Vec<u8>,
     weights: Vec<u8>,
     row: Vec<u8>,
-    /// The symbols that do not lie at their own places.
+    /// Copies of the symbols whose id is not their index.
     aside: Vec<u8>,
 }
 
@@ -42,11 +44,11 @@ impl Model for Solver {
 impl Solver {
     ghost use Rattle.rs_block.specs.Solver.{SolverState};
 
-    /// Room to solve blocks of `k` source symbols of `size` octets, at most 1,408.
+    /// Returns a solver for blocks of at most `k` source symbols of `size` octets each. `size` is at most 1,408.
     ///
     /// # Errors
     ///
-    /// `Memory` where memory runs out.
+    /// `Memory` if memory runs out.
     pub fn new(alloc: Global, k: u8, size: usize) -> Result<Solver, Memory>
         requires some { 1 ≤ k }
         requires octets { 1 ≤ size }
@@ -67,9 +69,9 @@ impl Solver {
         })
     }
 
-    /// Puts the source symbols of a block of at most k of them into their places of the row in which as many of its symbols
-    /// lie: `ids` are the ids of these, place by place. A place whose symbol is its own is not written, so a block costs a copy
-    /// of what lies at the others, and a sum for each. It takes no memory and cannot fail.
+    /// Replaces the symbols in `row` with the block's source symbols. `row` has as many symbols as the block has source symbols, one after
+    /// the other, and `ids` are their ids. A symbol whose id is its index is not written. Each other is copied once, and each missing
+    /// source symbol costs a sum over all symbols. Takes no memory and cannot fail.
     pub fn solve_in(&mut self, ids: &[u8], row: &mut [u8])
         requires some { 1 ≤ length ids.now }
         requires few { length ids.now ≤ self.old.k }
@@ -90,8 +92,7 @@ impl Solver {
         );
     }
 
-    /// The same for symbols in rows of their own: puts the source symbols of the block into its rows, row by row. A row
-    /// whose symbol is its own is not written. It takes no memory and cannot fail.
+    /// Like `solve_in`, if each symbol is in a buffer of its own. Takes no memory and cannot fail.
     pub fn solve_rows(&mut self, ids: &[u8], rows: &mut [Row])
         requires some { 1 ≤ length ids.now }
         requires few { length ids.now ≤ self.old.k }
@@ -113,8 +114,7 @@ impl Solver {
     }
 }
 
-/// Puts the source symbols of a block into their places, with room for the places, the weights and the coefficients of at least
-/// as many symbols, and for the symbols themselves.
+/// Replaces `pieces` with the block's source symbols. The other buffers are scratch space, each with room for at least as many symbols.
 fn solve_pieces<P: Piece>(
     ids: &[u8],
     size: usize,
@@ -159,14 +159,14 @@ fn hold_octets(row: &[u8])
     ensures { AreOctets row.now }
 {}
 
-/// k octets.
+/// Returns k octets.
 fn room_for(alloc: Global, k: u8) -> Result<Vec<u8>, AllocError>
     ensures { IfOk result (λ v. length v.items ≡ k) }
 {
     vec![in alloc; 0; usize::from(k)]
 }
 
-/// Puts the powers of alpha with the exponents `ids` into `places`.
+/// Fills `places` with the point of each id.
 fn place(ids: &[u8], places: &mut [u8])
     requires { length places.old ≡ length ids.now }
     ensures { places.new ≡ map power ids.now }

@@ -1,5 +1,5 @@
-//! The weights of a block's places, from those of the first powers of alpha: where most symbols of the block are source symbols
-//! at their own places, few places differ, and each of these changes the weights of the others by one factor.
+//! Computes the weights of a block's points from those of the first powers of alpha. Most symbols of a block are usually source symbols at
+//! their own index, so few points differ. Each that differs changes the weights of the others by one factor. `solve` calls `weigh_by_ids`.
 
 ghost use Rattle.std.specs.Prelude.{ℕ, ◌≡◌, ◌≢◌, ◌<◌, ◌≤◌, ◌-◌, EachIndex, bit_xor, length, map, slice_index};
 ghost use Rattle.gf_field.specs.Product.{product};
@@ -10,7 +10,7 @@ ghost use Rattle.rs_block.specs.Points.{AreWeights, IsWeight, powers};
 use crate::interpolation::{ORDER, place_of, weight_log};
 use gf_field::alpha_log;
 
-/// The logarithm of the weight of `place` after `new` took the place of `old` among the others. `log` is the one before.
+/// Returns the logarithm of the weight of `place` after `new` replaced `old` among the other points. `log` is the one before.
 #[tactic(auto, using(crate::proofs::Formula::differ))]
 fn exchanged(log: u8, place: u8, old: u8, new: u8) -> u8
     requires old { place ≢ old }
@@ -22,7 +22,7 @@ fn exchanged(log: u8, place: u8, old: u8, new: u8) -> u8
     ((u32::from(log) + gained + (ORDER - lost)) % ORDER) as u8
 }
 
-/// Changes the weight of each place whose symbol is its own, as `new` takes the place of `old`.
+/// Updates the weight of each point whose id is its index, as `new` replaces `old`.
 fn exchange(ids: &[u8], places: &[u8], old: u8, new: u8, weights: &mut [u8])
     requires count { length weights.old ≡ length ids.now }
     requires places { length places.now ≡ length ids.now }
@@ -39,7 +39,7 @@ fn exchange(ids: &[u8], places: &[u8], old: u8, new: u8, weights: &mut [u8])
     }
 }
 
-/// The logarithm of the weight of the power 0 among the first `count` powers.
+/// Returns the logarithm of the weight of the power 0 among the first `count` powers of alpha.
 fn first_weight(count: u8) -> u8
     requires { 1 ≤ count }
     ensures { IsWeight (powers count) (power 0) result }
@@ -51,7 +51,7 @@ fn first_weight(count: u8) -> u8
     (ORDER - total % ORDER) as u8
 }
 
-/// The logarithm of the weight of the power `i` among those up to `last`. `log` is that of the power before it.
+/// Returns the logarithm of the weight of the power `i` among the powers 0 to `last`. `log` is that of the power `i - 1`.
 fn next_weight(log: u8, i: u8, last: u8) -> u8
     requires some { 1 ≤ i }
     requires within { i ≤ last }
@@ -65,7 +65,7 @@ fn next_weight(log: u8, i: u8, last: u8) -> u8
     ((u32::from(log) + gained + 2 * ORDER - (lost + u32::from(last - 1))) % ORDER) as u8
 }
 
-/// Puts the logarithms of the weights of the first powers into `weights`, as many as there is room for.
+/// Fills `weights` with the logarithms of the weights of the first powers of alpha, as many as it is long.
 // From one weight to the next by a few look-ups. Each by itself would take a pass over all places.
 fn weigh_powers(weights: &mut [u8])
     requires some { 1 ≤ length weights.old }
@@ -80,7 +80,8 @@ fn weigh_powers(weights: &mut [u8])
     }
 }
 
-/// Makes of the weights of the first powers those of the places whose symbol is their own.
+/// Turns the weights of the first powers into those of the block's points, for each point whose id is its index. The other weights are not
+/// valid yet.
 fn weigh_own(ids: &[u8], places: &[u8], weights: &mut [u8])
     requires ids { AreIds (length ids.now) 255 ids.now }
     requires few { length ids.now ≤ 255 }
@@ -97,7 +98,7 @@ fn weigh_own(ids: &[u8], places: &[u8], weights: &mut [u8])
     }
 }
 
-/// Puts the weights of the places that have another symbol beside those of the places whose symbol is their own.
+/// Computes the weights of the points whose id is not their index. Each costs a pass over all points.
 fn weigh_others(ids: &[u8], places: &[u8], weights: &mut [u8])
     requires count { length weights.old ≡ length ids.now }
     requires few { length ids.now ≤ 255 }
@@ -113,7 +114,7 @@ fn weigh_others(ids: &[u8], places: &[u8], weights: &mut [u8])
     }
 }
 
-/// Puts the logarithm of each place's weight into `weights`. Each place that has another symbol than its own costs a pass.
+/// Fills `weights` with the logarithm of each point's weight. Each symbol whose id is not its index costs two passes over the points.
 // In this order: `weigh_own` starts from the weights of the first powers, and leaves at the other places what `weigh_others` then replaces.
 pub fn weigh_by_ids(ids: &[u8], places: &[u8], weights: &mut [u8])
     requires some { 1 ≤ length ids.now }

@@ -1,5 +1,5 @@
-//! Which of the blocks of a window are short: [`Shorts`] links each short block to the next one and the one before, so that each is
-//! found from another in constant time, however many done ones lie between.
+//! Finds the short blocks of a window: those that still lack symbols. [`Shorts`] links each short block to the next and the previous one,
+//! so each step takes constant time, however many done blocks lie between. A receiver keeps one for each object and stream.
 #![tactic(auto)]
 
 mod links;

@@ -1,4 +1,4 @@
-//! The links between short blocks.
+//! The links between short blocks. [`Shorts`](crate::Shorts) keeps one for each block of its window.
 
 ghost use Rattle.std.specs.Prelude.{ℕ, ◌≡◌, ◌<◌, ◌≤◌, ◌+◌, ◌-◌, [], ◌++◌, ◌∷◌, IfOk, IsOk, length, slice_index_or};
 ghost use Rattle.short_blocks.specs.Links.{all_linked};
@@ -9,16 +9,16 @@ use norm_base::Memory;
 use std::alloc::Global;
 use std::collections::VecDeque;
 
-/// What a short block is linked to. Blocks are named by their numbers.
+/// The links of a short block, as block numbers.
 #[derive(Clone, Copy, Debug)]
 pub(crate) struct Link {
-    /// Where the done blocks right before it begin: the number behind the short one before, where there is one in the window.
+    /// The first of the done blocks right before this one, or this one if there are none. It may be before the window.
     pub(crate) done_from: u32,
-    /// The next short block, or the number behind the window. 0 where the block is done.
+    /// The next short block, or the number after the window's last block. 0 if this block is done.
     pub(crate) next: u32,
 }
 
-/// How many links so many blocks need: one block alone needs none.
+/// Returns how many links a window of this many blocks needs. A window of one block needs none.
 fn room_for(count: u32) -> u32
     ensures few { count ≤ 1 → result ≡ 0 }
     ensures many { 1 < count → result ≡ count }
@@ -27,7 +27,11 @@ fn room_for(count: u32) -> u32
     if count > 1 { count } else { 0 }
 }
 
-/// The links of so many blocks from 0 on that are all short.
+/// Returns the links of blocks 0 to `count - 1`, all short.
+///
+/// # Errors
+///
+/// `Memory` if memory runs out. It cannot for one block or none.
 pub(crate) fn link_all(alloc: Global, count: u32) -> Result<VecDeque<Link>, Memory>
     ensures few { count ≤ 1 → IfOk result (λ links. links.items ≡ []) }
     ensures many { 1 < count → IfOk result (λ links. links.items ≡ all_linked count) }
@@ -45,7 +49,7 @@ pub(crate) fn link_all(alloc: Global, count: u32) -> Result<VecDeque<Link>, Memo
     Ok(links)
 }
 
-/// The link at a place, or the given one where no links are kept.
+/// Returns the link at this index, or `lone` if no links are kept.
 pub(crate) fn link_at(links: &VecDeque<Link>, place: usize, lone: Link) -> Link
     ensures { result ≡ slice_index_or links.now.items place lone }
 {
@@ -55,7 +59,8 @@ pub(crate) fn link_at(links: &VecDeque<Link>, place: usize, lone: Link) -> Link
     }
 }
 
-/// Leads from the short block before a run of done ones to the one behind it. The first short block is answered.
+/// Links the short block before a span of done ones to the one after it. `run` is the link of the block that is done now. Returns the
+/// window's first short block.
 pub(crate) fn join_before(links: &mut VecDeque<Link>, start: u32, first: u32, run: Link) -> u32
     requires room { start < run.done_from → run.done_from - 1 - start < length links.old.items }
     ensures first { start < run.done_from → result ≡ first }
@@ -72,7 +77,8 @@ pub(crate) fn join_before(links: &mut VecDeque<Link>, start: u32, first: u32, ru
     first
 }
 
-/// Leads from the short block behind a run of done ones to the one before it. Where the done ones at the end begin is answered.
+/// Links the short block after a span of done ones to the one before it. `run` is the link of the block that is done now. Returns the first
+/// of the done blocks at the window's end.
 pub(crate) fn join_behind(
     links: &mut VecDeque<Link>,
     start: u32,
@@ -96,7 +102,7 @@ pub(crate) fn join_behind(
     done_from
 }
 
-/// Says of the block at a place that it is done, where links are kept.
+/// Marks the block at this index as done, if links are kept.
 pub(crate) fn mark_done(links: &mut VecDeque<Link>, place: usize)
     ensures length { length links.new.items ≡ length links.old.items }
     ensures done { (d : Link) → place < length links.old.items → (slice_index_or links.new.items place d).next ≡ 0 }
@@ -108,7 +114,7 @@ pub(crate) fn mark_done(links: &mut VecDeque<Link>, place: usize)
     }
 }
 
-/// The first link goes, and another comes behind the last one, where links are kept.
+/// Drops the first link and appends `last`, if links are kept. Takes no memory.
 pub(crate) fn turn(links: &mut VecDeque<Link>, last: Link)
     ensures length { length links.new.items ≡ length links.old.items }
     ensures moved { (place : ℕ) (d : Link) → place + 1 < length links.old.items → slice_index_or links.new.items place d ≡ slice_index_or links.old.items (place + 1) d }

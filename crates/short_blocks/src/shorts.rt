@@ -9,19 +9,21 @@ use std::alloc::Global;
 use std::collections::VecDeque;
 use std::marker::Model;
 
-/// Which of the blocks of a window are short. A window is so many blocks in a row.
+/// Which blocks of a window are short. A window is a span of consecutive blocks, numbered from 0 at first. A receiver asks with `first` and
+/// `next`, calls `settle` when a block has enough symbols, and `advance` to move the window on past a done block. `first`, `next` and
+/// `settle` take constant time.
 // Eight octets a block, so that what a receiver lacks is found by one step from each short block to the next. A bit for each block would be smaller,
 // but a NACK would then pass over all done blocks between two short ones, 262,142 at the most.
 #[derive(Debug, Drop)]
 pub struct Shorts {
-    /// The window's first block, and the number behind its last one.
+    /// The window's first block, and the number after its last one.
     start: u32,
     end: u32,
-    /// The first short block, or the number behind the window.
+    /// The first short block, or `end` if all are done.
     first: u32,
-    /// Where the done blocks at the window's end begin.
+    /// The first of the done blocks at the window's end.
     done_from: u32,
-    /// The link of each block, from the first one on. A window of one block keeps none: all that is known of it is said above.
+    /// The link of each block, in order. Empty if the window has one block: the fields above say all of it.
     links: VecDeque<Link>,
 }
 
@@ -37,7 +39,7 @@ impl Model for Shorts {
     ghost invariant = { IsShorts };
 }
 
-/// A block that lies before the end of its window.
+/// Returns the block if it is before the end of the window.
 fn block_before(block: u32, end: u32) -> Option<u32>
     ensures { result ≡ cond (nat_lt block end) (Some block) None }
 {
@@ -48,11 +50,11 @@ fn block_before(block: u32, end: u32) -> Option<u32>
 }
 
 impl Shorts {
-    /// So many blocks from 0 on, all short. One block, or none, takes no memory.
+    /// Returns the window of blocks 0 to `count - 1`, all short. One block, or none, takes no memory, others eight octets each.
     ///
     /// # Errors
     ///
-    /// `Memory` where memory runs out.
+    /// `Memory` if memory runs out.
     pub fn new(alloc: Global, count: u32) -> Result<Shorts, Memory>
         ensures all { IfOk result (λ shorts. shorts ≡ all_short count) }
         ensures free { count ≤ 1 → IsOk result }
@@ -67,14 +69,14 @@ impl Shorts {
         })
     }
 
-    /// The first short block. `None` where all are done.
+    /// Returns the first short block, or `None` if all are done.
     pub fn first(&self) -> Option<u32>
         ensures { IsFirstFrom self.now self.now.start result }
     {
         block_before(self.first, self.end)
     }
 
-    /// The first short block behind a short one. `None` where all behind it are done.
+    /// Returns the next short block after `block`, which is short itself. `None` if all after it are done.
     pub fn next(&self, block: u32) -> Option<u32>
         requires reached { self.now.start ≤ block }
         requires short { is_short self.now block ≡ true }
@@ -88,7 +90,7 @@ impl Shorts {
         block_before(link.next, self.end)
     }
 
-    /// A short block is done.
+    /// Marks a short block as done.
     pub fn settle(&mut self, block: u32)
         requires reached { self.old.start ≤ block }
         requires short { is_short self.old block ≡ true }
@@ -107,7 +109,7 @@ impl Shorts {
         self.done_from = last;
     }
 
-    /// The window goes on by one block, which is short. Its first block is done.
+    /// Moves the window on by one block, which is short. The first block, which leaves the window, has to be done.
     pub fn advance(&mut self)
         requires some { 0 < length self.old.short }
         requires done { is_short self.old self.old.start ≡ false }

@@ -1,15 +1,15 @@
-//! The ids of a block's symbols as bits of four words.
+//! The ids of a block's symbols, as bits of four 64-bit words.
 
 ghost use Rattle.std.specs.Prelude.{◌≡◌, [], nat_lt};
 ghost use Rattle.norm_order.specs.Sets.{with_member, is_member};
 
 use std::marker::Model;
 
-/// The ids of an octet by words of 64 bits.
+/// How many 64-bit words have a bit for each id.
 // An id is an octet (RFC 5510 section 5.1), so 256 bits have room for each.
 const WORDS: usize = 4;
 
-/// A set of ids of symbols of one block. It lies in itself, and takes no memory beside.
+/// A set of symbol ids of one block. It has 32 octets and allocates nothing.
 #[derive(Debug, Drop)]
 pub struct IdMask {
     words: [u64; WORDS],
@@ -28,21 +28,21 @@ impl Model for IdMask {
 }
 
 impl IdMask {
-    /// The empty set.
+    /// Returns the empty set.
     pub fn new() -> IdMask
         ensures { result ≡ [] }
     {
         IdMask { words: [0; WORDS] }
     }
 
-    /// Whether an id is a member.
+    /// Whether the id is in the set.
     pub fn contains(&self, id: u8) -> bool
         ensures { result ≡ is_member nat_lt id self.now }
     {
         self.words[usize::from(id) / 64] >> (id % 64) & 1 == 1
     }
 
-    /// Puts an id into the set.
+    /// Adds the id.
     pub fn insert(&mut self, id: u8)
         ensures { self.new ≡ with_member nat_lt id self.old }
     {

@@ -1,5 +1,5 @@
-//! Sets of places as bits of words: [`Mask`], of places below a size, as slots of the symbols of an object, and [`IdMask`], of
-//! the ids of the symbols of one block.
+//! Sets of small numbers, as bits. A [`Mask`] has numbers below a size, such as the slots of an object's symbols. An [`IdMask`] has the ids
+//! of one block's symbols. Receivers keep which symbols they hold in them, and the sender what it will repeat.
 #![tactic(auto)]
 
 mod id_mask;

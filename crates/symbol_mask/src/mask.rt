@@ -1,4 +1,4 @@
-//! A set of places as words of 64 bits.
+//! A set of numbers below a size, as bits of 64-bit words.
 
 ghost use Rattle.std.specs.Prelude.{◌≡◌, ◌+◌, ◌-◌, ◌*◌, ◌/◌, ◌^◌, ◌<◌, ◌≤◌, ◌∷◌, [], not, nat_lt, false, length, IfOk, MatchOption, slice_index, ◌≢◌, ℕ, IfSome, ◌||◌, ◌&&◌, filter};
 ghost use Rattle.norm_order.specs.Sets.{with_member, with_members, is_member, Rises};
@@ -9,11 +9,11 @@ use norm_base::Memory;
 use std::alloc::Global;
 use std::marker::Model;
 
-/// The places of a word.
+/// How many numbers one 64-bit word has bits for.
 // The width of u64.
 const WORD: usize = 64;
 
-/// A set of places below a size. Room for all of them is made at once.
+/// A set of numbers below a size. `with_room` takes all its memory. Members come out lowest first, with `take_lowest`.
 // No word before `lowest` has a member. If one had, `take_lowest` would pass it over, and what it stands for would never be sent.
 #[derive(Debug, Drop)]
 pub struct Mask {
@@ -35,7 +35,7 @@ impl Model for Mask {
     ghost invariant = { IsSound };
 }
 
-/// The first word from one on that has a member.
+/// Returns the index of the first 64-bit word, from `from` on, that has a member.
 fn first_filled(words: &[u64], from: usize) -> Option<usize>
     ensures found { IfSome result (λ i. (from ≤ i) × (i < length words.now) × (slice_index words.now i ≢ 0)) }
     ensures before { MatchOption result ((k : ℕ) → from ≤ k → slice_index words.now k ≡ 0) (λ i. (k : ℕ) → from ≤ k → k < i → slice_index words.now k ≡ 0) }
@@ -48,7 +48,7 @@ fn first_filled(words: &[u64], from: usize) -> Option<usize>
     None
 }
 
-/// A word of which the bits from one place up to another are set.
+/// Returns a 64-bit word with bits `from` to `to - 1` set.
 fn run_bits(from: usize, to: usize) -> u64
     requires some { from < to }
     requires word { to ≤ 64 }
@@ -62,7 +62,7 @@ fn run_bits(from: usize, to: usize) -> u64
     ((1u64 << to) - 1) - below
 }
 
-/// Sets the bits of the places from one up to another, word by word.
+/// Sets the bits of the numbers `from` to `to - 1`, 64 at a time.
 fn set_run(words: &mut [u64], from: usize, to: usize)
     requires some { from < to }
     requires room { to ≤ 64 * length words.old }
@@ -81,14 +81,14 @@ fn set_run(words: &mut [u64], from: usize, to: usize)
     }
 }
 
-/// The word at a place, or 0 behind the last one.
+/// Returns the 64-bit word at this index, or 0 if there are fewer.
 fn word_at(words: &[u64], place: usize) -> u64
     ensures { result ≡ slice_index words.now place }
 {
     if place < words.len() { words[place] } else { 0 }
 }
 
-/// Moves words down by so many places. Those that would fall below the first go, and 0 comes behind.
+/// Moves 64-bit words down by this many indexes. The lowest are dropped, and 0 follows at the end.
 fn move_words(words: &mut [u64], count: usize)
     requires small { length words.old ≤ 2 ^ 58 }
     ensures { (k : ℕ) → slice_index words.new k ≡ slice_index words.old (k + count) }
@@ -101,7 +101,11 @@ fn move_words(words: &mut [u64], count: usize)
 }
 
 impl Mask {
-    /// The empty set of places below a size, with as many words as they need.
+    /// Returns the empty set of numbers below `places`. It takes one bit for each, in 64-bit words.
+    ///
+    /// # Errors
+    ///
+    /// `Memory` if memory runs out.
     pub fn with_room(alloc: Global, places: usize) -> Result<Mask, Memory>
         ensures empty { IfOk result (λ mask. mask.members ≡ []) }
         ensures size { IfOk result (λ mask. mask.size ≡ places) }
@@ -114,7 +118,7 @@ impl Mask {
         })
     }
 
-    /// Whether a place is a member.
+    /// Whether the number is in the set.
     pub fn contains(&self, place: usize) -> bool
         requires { place < self.now.size }
         ensures { result ≡ is_member nat_lt place self.now.members }
@@ -122,7 +126,7 @@ impl Mask {
         self.words[place / WORD] >> (place % WORD) & 1 == 1
     }
 
-    /// The members rise, and lie below the size. Nothing is done.
+    /// The members rise and are below the size. This call does nothing: it is for its contract.
     pub fn rises(&self)
         ensures rises { Rises self.now.members }
         ensures within { (place : ℕ) → self.now.size ≤ place → is_member nat_lt place self.now.members ≡ false }
@@ -131,7 +135,7 @@ impl Mask {
         let _ = &self.words;
     }
 
-    /// Puts a place into the set, and says whether it is new there.
+    /// Adds a number. Returns whether it is new.
     pub fn insert(&mut self, place: usize) -> bool
         requires { place < self.old.size }
         ensures new { result ≡ not (is_member nat_lt place self.old.members) }
@@ -149,7 +153,7 @@ impl Mask {
         is_new
     }
 
-    /// Puts the places from one up to another into the set.
+    /// Adds the numbers `from` to `to - 1`, if there are any.
     pub fn insert_run(&mut self, from: usize, to: usize)
         requires { to ≤ self.old.size }
         ensures members { (place : ℕ) → is_member nat_lt place self.new.members ≡ (is_member nat_lt place self.old.members || in_run from to place) }
@@ -161,7 +165,7 @@ impl Mask {
         }
     }
 
-    /// Moves all members down by so many words of places. Those that would fall below 0 go.
+    /// Subtracts 64 times `count` from each member. Members that would be below 0 are dropped.
     pub fn move_down(&mut self, count: usize)
         ensures members { (place : ℕ) → is_member nat_lt place self.new.members ≡ is_member nat_lt (place + 64 * count) self.old.members }
         ensures size { self.new.size ≡ self.old.size }
@@ -170,7 +174,7 @@ impl Mask {
         self.lowest = self.lowest.saturating_sub(count);
     }
 
-    /// Moves all members down by so many words of places. Those that would come to lie at 0 or below go.
+    /// Subtracts 64 times `count` from each member. Members that would be 0 or below are dropped.
     pub fn move_on(&mut self, count: usize)
         requires some { 0 < self.old.size }
         ensures members { (place : ℕ) → is_member nat_lt place self.new.members ≡ (is_member nat_lt (place + 64 * count) self.old.members && nat_lt 0 place) }
@@ -184,7 +188,7 @@ impl Mask {
         }
     }
 
-    /// Takes out all members below a place, and says how many these were.
+    /// Removes all members below `limit`. Returns how many.
     pub fn take_below(&mut self, limit: usize) -> usize
         requires few { self.old.size < 2 ^ 64 }
         ensures members { self.new.members ≡ filter (λ place. not (nat_lt place limit)) self.old.members }
@@ -207,7 +211,7 @@ impl Mask {
         taken
     }
 
-    /// Leaves the set without members.
+    /// Removes all members.
     pub fn clear(&mut self)
         ensures members { self.new.members ≡ [] }
         ensures size { self.new.size ≡ self.old.size }
@@ -216,7 +220,8 @@ impl Mask {
         self.lowest = 0;
     }
 
-    /// Takes out the lowest member. `None` exactly where there is none.
+    /// Removes the lowest member and returns it, or `None` if there is none. The search goes on at the 64-bit word of the lowest member
+    /// before.
     pub fn take_lowest(&mut self) -> Option<usize>
         ensures members { MatchOption result ((self.old.members ≡ []) × (self.new.members ≡ []))
             (λ place. self.old.members ≡ place ∷ self.new.members) }
@@ -231,7 +236,7 @@ impl Mask {
         Some(WORD * word + bit)
     }
 
-    /// Takes all members out of another set of the same size and puts them into this one, and says how many are new here.
+    /// Moves all members of another set of the same size into this one. Returns how many are new here.
     // One by one and not word by word, so that the count of the new ones comes with it.
     pub fn take_all(&mut self, other: &mut Mask) -> usize
         requires same { other.old.size ≡ self.old.size }

@@ -1,5 +1,5 @@
-//! Tests of what a receiver holds, of a stream by itself and of objects of either kind in their order: the word of each symbol, and
-//! what any k symbols of a block give, in whatever order they come.
+//! Tests of what a receiver holds: of a stream alone, and of objects of both kinds in their order. They check the answer to each symbol,
+//! and that any k symbols of a block give its source symbols, in whatever order they come.
 #![tactic(auto)]
 
 #[cfg(test)]

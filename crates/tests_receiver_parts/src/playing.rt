@@ -1,4 +1,4 @@
-//! Calls of what a receiver holds, each with what it has to answer, and the run of a table of them.
+//! Plays a table of calls of a [`Hold`], each with its expected answer. A test lists [`Step`]s and gives them to [`play`].
 
 ghost use Rattle.std.specs.Prelude.{◌≡◌, nat_lt};
 ghost use Rattle.fec_plan.specs.Points.{point as point_at, point_before, point_of};
@@ -12,20 +12,20 @@ use rx_hold::Hold;
 use std::alloc::Global;
 use std::process::Abort;
 
-/// A symbol's place: the object's index, the block and the symbol.
+/// A symbol: the index of its object, its block, and its id.
 pub type At = (u32, u16, u8);
 
-/// Transmission information: an object's octets and those of a symbol, the source and the encoded symbols of a block.
+/// Transmission information: the octets of the object and of a symbol, and the source and encoded symbols of a block.
 pub type Cut = (u64, u16, u8, u8);
 
-/// A profile: the octets of a symbol, the source and the encoded symbols of a block, the octets that are held at most, and the
-/// blocks of a stream's buffer.
+/// A profile: the octets of a symbol, the source and encoded symbols of a block, the most octets that are held, and the blocks of a
+/// stream's buffer.
 pub type Sizes = (u32, u32, u32, u32, u32);
 
-/// The most octets of a payload or an info.
+/// The most octets of a payload.
 const MOST: usize = 1408;
 
-/// What is handed up, with its index; of octets how many there are and the first of them, and of a segment where it begins.
+/// A hand-up, with its object's index. Octets are told by their number and the first of them, a segment by its offset too.
 #[derive(Clone, Copy, Debug, PartialEq, Eq)]
 pub enum Handed {
     Object(u32, usize, u8),
@@ -36,33 +36,33 @@ pub enum Handed {
     Nothing,
 }
 
-/// A call of a hold, with what it has to answer.
+/// A call of a hold, with its expected answer.
 #[derive(Clone, Copy, Debug)]
 pub enum Step {
-    /// Transmission information of an object, and its flags.
+    /// Offers an object's transmission information and flags.
     Fit(u32, Cut, u8, Fit),
-    /// An object with these flags is taken up, and taken back.
+    /// Takes up an object with these flags, and takes it back.
     TakeBack(u32, Cut, u8),
-    /// A symbol of so many octets, of which the first is this one, and all others are zeros.
+    /// Offers a symbol of this many octets. The first has this value, the others are 0.
     Put(At, usize, u8, Put),
-    /// A stream's symbol of so many octets: the length and the offset that it says, and its first octet behind them.
+    /// Offers a stream's symbol of this many octets. Its header has this length and offset, and this octet follows.
     Segment(At, (u8, u8, u8), usize, Put),
-    /// All source symbols of the blocks of the largest object: its first 44 blocks have 200, and the other 16 have 199.
+    /// Offers all source symbols of the largest object. Its first 44 blocks have 200, the other 16 have 199.
     PutLargest,
-    /// An info of so many octets.
+    /// Offers an info of this many octets.
     Info(u32, usize, Put),
-    /// A block is seen.
+    /// Reports that a block was seen.
     See(u32, u16),
     Advance,
-    /// The sender's window begins at this block.
+    /// Loses what is incomplete before this block of this object.
     LoseBefore(u32, u32),
     Clear,
     Up(Handed),
-    /// The next hand-up is the object of three symbols that are known from outside.
+    /// Expects the known object of three symbols as the next hand-up.
     UpThree(u32),
-    /// It is that of two.
+    /// Expects the known object of two symbols as the next hand-up.
     UpTwo(u32),
-    /// The hand-up point.
+    /// Expects this hand-up point.
     HandUp(At),
     HasLost(bool),
     Flags(u32, Option<u8>),
@@ -71,13 +71,13 @@ pub enum Step {
     FirstShort(u32, Option<u32>),
     Missing(u32, u32, Missing),
     Holds(At, bool),
-    /// The greatest block that was seen of a stream.
+    /// Expects this block as the greatest that was seen of the stream.
     Seen(u32, Option<u32>),
-    /// The block and the symbol of a stream's end.
+    /// Expects the end of the stream at this block and symbol.
     End(u32, Option<(u32, u8)>),
 }
 
-/// The word that transmission information gets. `None`: it can't be asked.
+/// Returns the answer to transmission information, or `None` if the call's contract does not allow it.
 pub fn fit(hold: &mut Hold, index: u32, cut: Cut, flags: u8) -> Result<Option<Fit>, Memory> {
     let (l, e, b, max_n) = cut;
     if l > 16_777_216 || index == u32::MAX {
@@ -87,7 +87,7 @@ pub fn fit(hold: &mut Hold, index: u32, cut: Cut, flags: u8) -> Result<Option<Fi
     Ok(Some(hold.fti(index, &fti, flags)?))
 }
 
-/// Whether an object is taken up; then it is taken back.
+/// Takes up an object and takes it back. Returns whether it was taken up.
 fn is_taken_back(hold: &mut Hold, index: u32, cut: Cut, flags: u8) -> Result<bool, Memory> {
     let (l, e, b, max_n) = cut;
     if l > 16_777_216 || index == u32::MAX {
@@ -102,7 +102,7 @@ fn is_taken_back(hold: &mut Hold, index: u32, cut: Cut, flags: u8) -> Result<boo
     Ok(true)
 }
 
-/// The word that so many of these octets get as a symbol. `None`: there are not so many.
+/// Returns the answer to this many octets of `payload` as a symbol, or `None` if there are fewer.
 fn put(hold: &mut Hold, at: At, payload: &[u8], octets: usize) -> Result<Option<Put>, Memory> {
     let (index, block, symbol) = at;
     if octets > payload.len() {
@@ -113,14 +113,14 @@ fn put(hold: &mut Hold, at: At, payload: &[u8], octets: usize) -> Result<Option<
     Ok(Some(word))
 }
 
-/// The word that a symbol gets, of which the first octet is this one.
+/// Returns the answer to a symbol with this first octet.
 fn put_first(hold: &mut Hold, at: At, octets: usize, first: u8) -> Result<Option<Put>, Memory> {
     let mut payload = [0; MOST];
     payload[0] = first;
     put(hold, at, &payload, octets)
 }
 
-/// The word that a symbol of a stream gets.
+/// Returns the answer to a symbol of a stream.
 fn put_segment(
     hold: &mut Hold,
     at: At,
@@ -135,7 +135,7 @@ fn put_segment(
     put(hold, at, &payload, octets)
 }
 
-/// Whether each source symbol of a block of the largest object is kept; its last symbol is short.
+/// Whether each source symbol of a block of the largest object is kept. The object's last symbol is shorter.
 fn keeps_block(hold: &mut Hold, block: u16) -> Result<bool, Memory> {
     let sources = if block < 44 { 200u8 } else { 199 };
     for symbol in 0..sources {
@@ -161,7 +161,7 @@ fn keeps_largest(hold: &mut Hold) -> Result<bool, Memory> {
     Ok(true)
 }
 
-/// The word that an info gets. `None`: it can't be put.
+/// Returns the answer to an info, or `None` if it is longer than 80 octets.
 fn put_info(hold: &mut Hold, index: u32, octets: usize) -> Result<Option<Put>, Memory> {
     let info = [9; 80];
     if octets > 80 {
@@ -171,7 +171,7 @@ fn put_info(hold: &mut Hold, index: u32, octets: usize) -> Result<Option<Put>, M
     Ok(Some(word))
 }
 
-/// A block is seen.
+/// Reports that a block was seen. Always true.
 fn see(hold: &mut Hold, index: u32, block: u16) -> bool {
     hold.see(Point {
         index,
@@ -180,13 +180,13 @@ fn see(hold: &mut Hold, index: u32, block: u16) -> bool {
     true
 }
 
-/// How many octets there are, and the first of them.
+/// Returns the number of octets, and the first of them.
 fn front_of(octets: &Octets) -> (usize, u8) {
     let bytes = octets.bytes();
     (bytes.len(), bytes.first().copied().unwrap_or(0))
 }
 
-/// The next hand-up.
+/// Returns the next hand-up.
 fn next_up(hold: &mut Hold) -> Handed {
     match hold.next_up() {
         Some(Up::Object { index, bytes, .. }) => {
@@ -210,7 +210,7 @@ fn next_up(hold: &mut Hold) -> Handed {
     }
 }
 
-/// The object of three symbols that are known from outside: 64 octets, 64 octets, and one.
+/// Returns the known object of three symbols: 64 octets, 64 octets, and one.
 fn three_symbols() -> [u8; 129] {
     let mut octets = [0; 129];
     octets[0] = 0x01;
@@ -219,7 +219,7 @@ fn three_symbols() -> [u8; 129] {
     octets
 }
 
-/// The object of two: 64 octets, and one.
+/// Returns the known object of two symbols: 64 octets, and one.
 fn two_symbols() -> [u8; 65] {
     let mut octets = [0; 65];
     octets[0] = 0x01;
@@ -227,7 +227,7 @@ fn two_symbols() -> [u8; 65] {
     octets
 }
 
-/// Whether the next hand-up is an object of these octets.
+/// Whether the next hand-up is a data object of these octets, without an info.
 fn is_known(hold: &mut Hold, wanted: u32, octets: &[u8]) -> bool {
     match hold.next_up() {
         Some(
@@ -242,7 +242,7 @@ fn is_known(hold: &mut Hold, wanted: u32, octets: &[u8]) -> bool {
     }
 }
 
-/// Loses what is not there before a block. `false`: it can't be asked.
+/// Loses what is incomplete before a block. Returns `false` if the call's contract does not allow it.
 fn lose_before(hold: &mut Hold, index: u32, block: u32) -> Result<bool, Memory> {
     if index == u32::MAX {
         return Ok(false);
@@ -258,14 +258,14 @@ fn is_at(hold: &Hold, at: At) -> bool {
     place.index == index && place.block == u32::from(block) && place.symbol == symbol
 }
 
-/// Whether an object is over.
+/// Whether an object was handed up or lost: it is before the hand-up point.
 pub fn is_over(hold: &Hold, index: u32) -> bool
     ensures { result ≡ nat_lt index hold.now.point.index }
 {
     index < hold.hand_up().index
 }
 
-/// Whether a block of an object was handed up whole.
+/// Whether a block was handed up in full: it is before the hand-up point's block.
 fn is_passed(hold: &Hold, index: u32, block: u32) -> bool
     ensures { result ≡ point_before (point_at index block) (point_of hold.now.point) }
 {
@@ -273,7 +273,7 @@ fn is_passed(hold: &Hold, index: u32, block: u32) -> bool
     index < place.index || index == place.index && block < place.block
 }
 
-/// The flags of an object that is not over.
+/// Returns the flags of an object, if it has a plan and is not over.
 pub fn flags(hold: &Hold, index: u32) -> Option<u8> {
     if is_over(hold, index) {
         return None;
@@ -285,7 +285,7 @@ fn has_info(hold: &Hold, index: u32) -> bool {
     !is_over(hold, index) && hold.has_info(index)
 }
 
-/// How many blocks an object that is not over has.
+/// Returns the number of blocks of an object, if it has a plan and is not over.
 fn blocks(hold: &Hold, index: u32) -> Option<u32> {
     if is_over(hold, index) {
         return None;
@@ -296,7 +296,7 @@ fn blocks(hold: &Hold, index: u32) -> Option<u32> {
     }
 }
 
-/// The first block that lacks symbols, of an object that is not over.
+/// Returns the first block that lacks symbols, of an object that is not over.
 fn first_short(hold: &Hold, index: u32) -> Option<u32> {
     if is_over(hold, index) {
         return None;
@@ -304,7 +304,7 @@ fn first_short(hold: &Hold, index: u32) -> Option<u32> {
     hold.first_short(index)
 }
 
-/// What is lacking of a block. `None`: it can't be asked.
+/// Returns what a block still needs, or `None` if the call's contract does not allow it.
 fn missing(hold: &Hold, index: u32, block: u32) -> Option<Missing> {
     if is_over(hold, index) || is_passed(hold, index, block) {
         return None;
@@ -318,7 +318,7 @@ fn missing(hold: &Hold, index: u32, block: u32) -> Option<Missing> {
     Some(hold.missing(index, block))
 }
 
-/// Whether a symbol is held, where its block was not handed up whole.
+/// Whether a symbol is held. `false` if its block was handed up in full.
 fn holds(hold: &Hold, at: At) -> bool {
     let (index, block, symbol) = at;
     let block = u32::from(block);
@@ -330,7 +330,7 @@ fn holds(hold: &Hold, at: At) -> bool {
         })
 }
 
-/// The greatest block that was seen of a stream that is not over.
+/// Returns the greatest block that was seen of a stream that is not over.
 fn seen(hold: &Hold, index: u32) -> Option<u32> {
     if is_over(hold, index) {
         return None;
@@ -338,7 +338,7 @@ fn seen(hold: &Hold, index: u32) -> Option<u32> {
     hold.seen(index)
 }
 
-/// Where a stream ends that is not over.
+/// Returns the block and symbol of a stream's end, if it is known and the stream is not over.
 fn end(hold: &Hold, index: u32) -> Option<(u32, u8)> {
     if is_over(hold, index) {
         return None;
@@ -346,7 +346,7 @@ fn end(hold: &Hold, index: u32) -> Option<(u32, u8)> {
     hold.end(index).map(|id| (id.block, id.symbol))
 }
 
-/// Makes a call that reads, and says whether it was answered so.
+/// Makes a call that reads. Returns whether it gave the expected answer.
 fn tells(hold: &Hold, step: Step) -> bool {
     match step {
         Step::HandUp(at) => is_at(hold, at),
@@ -363,7 +363,7 @@ fn tells(hold: &Hold, step: Step) -> bool {
     }
 }
 
-/// Makes a call that hands up, loses or clears, and says whether it was answered so.
+/// Makes a call that hands up, loses or clears. Returns whether it gave the expected answer.
 fn moves(hold: &mut Hold, step: Step) -> Result<bool, Memory> {
     match step {
         Step::Advance => {
@@ -382,7 +382,7 @@ fn moves(hold: &mut Hold, step: Step) -> Result<bool, Memory> {
     }
 }
 
-/// Makes a call, and says whether it was answered so.
+/// Makes a call. Returns whether it gave the expected answer.
 fn does(hold: &mut Hold, step: Step) -> Result<bool, Memory> {
     match step {
         Step::Fit(index, cut, flags, word) => Ok(fit(hold, index, cut, flags)? == Some(word)),
@@ -398,7 +398,7 @@ fn does(hold: &mut Hold, step: Step) -> Result<bool, Memory> {
     }
 }
 
-/// A profile of these sizes.
+/// Returns a profile of these sizes.
 pub fn profile_of(rt: &impl Abort, sizes: Sizes) -> Profile {
     let (e, b, max_n, octets, blocks) = sizes;
     let mut given = Given::new();
@@ -414,7 +414,7 @@ pub fn profile_of(rt: &impl Abort, sizes: Sizes) -> Profile {
     Profile::of(&given).expect(rt, "a profile")
 }
 
-/// Makes calls in their order, of a hold for such a profile.
+/// Makes the calls in order, of one hold for a profile of these sizes. A wrong answer fails the test.
 pub fn play(rt: &impl Abort, alloc: Global, sizes: Sizes, steps: &[Step]) -> Result<(), Memory> {
     let profile = profile_of(rt, sizes);
     let mut hold = Hold::new(alloc, &profile)?;

@@ -1,17 +1,17 @@
-//! What is held of objects of either kind, streams above all: the word of each call in its order, what is handed up of segments in
-//! whatever order they come, and what a squelch makes lost.
+//! Tests of what is held of objects of both kinds, streams above all: the answer to each call, what is handed up in whatever order segments
+//! come, and what a squelch makes lost.
 
 use crate::playing::{Handed, Sizes, Step, play};
 use norm_receive_rules::{Fit, Missing, Put};
 use std::test::Fail;
 
-/// Blocks of three source symbols of 64 octets and two of parity, of which a stream's buffer has four: 768 octets.
+/// Blocks of three source symbols of 64 octets and two of parity. A stream's buffer has four of them, 768 octets.
 const SIZES: Sizes = (64, 3, 5, 1600, 4);
 
-/// The same, and room for two streams and an object of 464 octets.
+/// As `SIZES`, with room for two streams and an object of 464 octets.
 const WIDE: Sizes = (64, 3, 5, 2000, 4);
 
-/// Each word in its order, of a stream and of an object beside it.
+/// Each answer, for a stream and for an object next to it.
 const WORDS: [Step; 26] = [
     Step::Segment((0, 0, 0), (1, 0, 0), 9, Put::Away),
     Step::Fit(0, (0, 64, 3, 5), 32, Fit::Taken),
@@ -48,7 +48,7 @@ fn words_of_either_kind(rt: HostRuntime) -> Result<(), Fail> {
     Ok(())
 }
 
-/// What becomes of a stream's transmission information: the first word that applies. Two streams leave room for 64 octets.
+/// Answers to a stream's transmission information: the first that applies. Two streams leave room for 64 octets.
 const FITS: [Step; 18] = [
     Step::Fit(0, (0, 64, 3, 5), 32, Fit::Taken),
     // It is known; the length says nothing.
@@ -83,7 +83,7 @@ fn the_information_of_a_stream_gets_its_word(rt: HostRuntime) -> Result<(), Fail
     Ok(())
 }
 
-/// What becomes of a stream's symbols: the first word that applies. Where three symbols of a block are the same, all are.
+/// Answers to a stream's symbols: the first that applies. If three symbols of a block are the same, all are.
 const PUTS: [Step; 37] = [
     Step::Segment((0, 0, 0), (1, 0, 7), 9, Put::Away),
     Step::Fit(0, (0, 64, 3, 5), 32, Fit::Taken),
@@ -137,8 +137,8 @@ fn a_symbol_of_a_stream_gets_its_word(rt: HostRuntime) -> Result<(), Fail> {
     Ok(())
 }
 
-/// A stream of 130 octets in blocks of four: a segment each of 1, 64, 64 and 1 octets, and its end. They come in disorder, and all but
-/// the last but one twice.
+/// A stream of 130 octets in blocks of four: segments of 1, 64, 64 and 1 octets, and its end. They come in disorder, and the first, the
+/// third and the end come twice.
 const SEGMENTS: [Step; 29] = [
     Step::Fit(0, (1024, 64, 4, 6), 32, Fit::Taken),
     Step::Segment((0, 0, 0), (1, 0, 0x41), 9, Put::Kept),
@@ -178,16 +178,16 @@ fn segments_are_handed_up_in_order_and_once(rt: HostRuntime) -> Result<(), Fail>
     Ok(())
 }
 
-/// The octets of a block of three source symbols and two of parity that is known from outside.
+/// The octets of a known block of three source symbols and two of parity.
 const KNOWN: [u8; 5] = [0x01, 0x04, 0x10, 0x40, 0x1d];
 
-/// A symbol of the block whose segments have 64 octets, of which the first is the known one, as the offset is.
+/// Offers a symbol of a block whose segments have 64 octets. Its offset and its first octet are the known one.
 fn known(symbol: u8, word: Put) -> Step {
     let octet = KNOWN[usize::from(symbol % 5)];
     Step::Segment((0, 0, symbol % 5), (64, octet, octet), 72, word)
 }
 
-/// Three of the five symbols come in this order, each twice, and all that can be is handed up after each.
+/// Returns calls in which three of the five symbols come in this order, each twice. After each, all that can be is handed up.
 fn in_order(first: u8, second: u8, third: u8) -> [Step; 16] {
     [
         Step::Fit(0, (0, 64, 3, 5), 32, Fit::Taken),
@@ -221,16 +221,16 @@ fn any_three_of_five_symbols_give_the_segments_in_any_order(rt: HostRuntime) -> 
     Ok(())
 }
 
-/// The octets of a block of two source symbols and two of parity that is known from outside.
+/// The octets of a known block of two source symbols and two of parity.
 const KNOWN_OF_TWO: [u8; 4] = [0x01, 0x02, 0x04, 0x08];
 
-/// A symbol of the block of two segments of 64 octets, of which the first is the known one, as the offset is.
+/// Offers a symbol of a block of two segments of 64 octets. Its offset and its first octet are the known one.
 fn known_of_two(symbol: u8, word: Put) -> Step {
     let octet = KNOWN_OF_TWO[usize::from(symbol % 4)];
     Step::Segment((0, 0, symbol % 4), (64, octet, octet), 72, word)
 }
 
-/// Two of the four symbols come in this order, each twice, and all that can be is handed up after each.
+/// Returns calls in which two of the four symbols come in this order, each twice. After each, all that can be is handed up.
 fn two_in_order(first: u8, second: u8) -> [Step; 12] {
     [
         Step::Fit(0, (0, 64, 2, 4), 32, Fit::Taken),
@@ -260,7 +260,8 @@ fn any_two_of_four_symbols_give_the_segments_in_any_order(rt: HostRuntime) -> Re
     Ok(())
 }
 
-/// The end of a stream that no symbol says: all three segments are of no octets, so parity is as they are.
+/// A stream whose end is known by parity, not by the end's own symbol. All three segments have no octets, so the parity is the same as they
+/// are.
 const END_BY_PARITY: [Step; 9] = [
     Step::Fit(0, (0, 64, 3, 5), 32, Fit::Taken),
     Step::Segment((0, 0, 3), (0, 9, 0), 72, Put::Kept),
@@ -280,8 +281,8 @@ fn an_end_is_known_by_parity(rt: HostRuntime) -> Result<(), Fail> {
     Ok(())
 }
 
-/// The window begins within a stream: what is there next is handed up, and where the next segment is in a block before it and is not
-/// there, the rest is lost.
+/// The sender's window begins within a stream. Segments that are next and are held are handed up. If the next segment is in a block before
+/// the window and is not held, the rest of the stream is lost.
 const CUT_OFF: [Step; 21] = [
     Step::Fit(0, (0, 64, 3, 5), 32, Fit::Taken),
     Step::Segment((0, 0, 0), (1, 0, 7), 9, Put::Kept),
@@ -313,8 +314,8 @@ fn the_rest_of_a_stream_is_lost_where_its_next_block_went(rt: HostRuntime) -> Re
     Ok(())
 }
 
-/// The window begins behind streams: one is whole to its end, one is not; an object that was never seen is lost, and at the window
-/// itself only where blocks of it went, as only a stream's do.
+/// The sender's window begins after two streams: one is held to its end, one is not. An object before the window that was never seen is
+/// lost. The object at the window is lost only if the window begins within it, as only a stream's can.
 const LOST: [Step; 18] = [
     Step::Fit(0, (0, 64, 3, 5), 32, Fit::Taken),
     Step::Segment((0, 0, 1), (0, 1, 0), 8, Put::Kept),
@@ -343,7 +344,7 @@ fn what_is_there_of_streams_before_the_window_is_handed_up(rt: HostRuntime) -> R
     Ok(())
 }
 
-/// A stream that says that it has an info waits for it, at a squelch too, where its next segment is held.
+/// If a stream says that it has an info, it waits for it, even at a squelch that its next segment would survive.
 const WITH_INFO: [Step; 11] = [
     Step::Fit(0, (0, 64, 3, 5), 36, Fit::Taken),
     Step::Segment((0, 0, 0), (1, 0, 7), 9, Put::Kept),
@@ -365,8 +366,8 @@ fn a_stream_waits_for_its_info(rt: HostRuntime) -> Result<(), Fail> {
     Ok(())
 }
 
-/// What is told of a stream: its plan has all blocks that 24 bits name, and the greatest block seen is kept from the plan on. A plan
-/// that is taken back leaves nothing.
+/// What a hold answers about a stream: its plan has all blocks that 24 bits can number, and the greatest block seen is kept once there is a
+/// plan. A plan that is taken back leaves nothing.
 const TOLD: [Step; 20] = [
     Step::See(0, 9),
     Step::Seen(0, None),

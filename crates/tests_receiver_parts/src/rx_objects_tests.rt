@@ -1,14 +1,14 @@
-//! What a receiver holds of data and files: the word of each call in its order, and what is handed up of symbols that come in any
-//! order, and more than once.
+//! Tests of what a receiver holds of data and files: the answer to each call, and what is handed up if symbols come in any order, and more
+//! than once.
 
 use crate::playing::{Handed, Sizes, Step, play};
 use norm_receive_rules::{Fit, Missing, Put};
 use std::test::Fail;
 
-/// Blocks of two source symbols of 64 octets and two of parity, and 200 octets held.
+/// Blocks of two source symbols of 64 octets and two of parity. At most 200 octets are held.
 const SMALL: Sizes = (64, 2, 4, 200, 2);
 
-/// What becomes of transmission information: the first word that applies.
+/// Answers to transmission information: the first that applies.
 const FITS: [Step; 12] = [
     Step::Fit(0, (130, 64, 2, 4), 0, Fit::Taken),
     Step::Fit(0, (130, 64, 2, 4), 0, Fit::Known),
@@ -31,8 +31,7 @@ fn transmission_information_gets_its_word(rt: HostRuntime) -> Result<(), Fail> {
     Ok(())
 }
 
-/// What becomes of symbols: object 0 has 130 octets, so a block of 2 source symbols, and one of 1, which has 2 octets. Then
-/// it is handed up.
+/// Answers to symbols. Object 0 has 130 octets: a block of 2 source symbols, and one of 1, which has 2 octets. Then it is handed up.
 const PUTS: [Step; 28] = [
     Step::Fit(0, (130, 64, 2, 4), 0, Fit::Taken),
     Step::Put((1, 0, 0), 64, 7, Put::Away),
@@ -71,7 +70,7 @@ fn a_symbol_gets_its_word(rt: HostRuntime) -> Result<(), Fail> {
     Ok(())
 }
 
-/// What becomes of infos: object 0 has none, object 1 one of at most 64 octets.
+/// Answers to infos. Object 0 has none, object 1 has one of at most 64 octets.
 const INFOS: [Step; 11] = [
     Step::Fit(0, (1, 64, 2, 4), 0, Fit::Taken),
     Step::Info(0, 3, Put::Unfit),
@@ -93,8 +92,8 @@ fn an_info_gets_its_word(rt: HostRuntime) -> Result<(), Fail> {
     Ok(())
 }
 
-/// Objects that come thrice and in disorder, all copies of the second before those of the first, are handed up once, behind the
-/// first copy of the first.
+/// Three copies of object 1 come, then three of object 0, then one more of object 1. Each object is handed up once, after the first copy of
+/// object 0.
 const THRICE: [Step; 26] = [
     Step::Fit(1, (1, 64, 2, 4), 0, Fit::Taken),
     Step::Put((1, 0, 0), 1, 2, Put::Kept),
@@ -131,7 +130,7 @@ fn objects_in_disorder_are_handed_up_once(rt: HostRuntime) -> Result<(), Fail> {
     Ok(())
 }
 
-/// What is not whole before the sender's window is lost, in order with what is.
+/// What is incomplete before the sender's window is lost, and reported in order with the objects that are whole.
 const LOST: [Step; 20] = [
     Step::Fit(1, (1, 64, 2, 4), 0, Fit::Taken),
     Step::Put((1, 0, 0), 1, 2, Put::Kept),
@@ -162,7 +161,7 @@ fn what_is_not_whole_before_the_window_is_lost(rt: HostRuntime) -> Result<(), Fa
     Ok(())
 }
 
-/// What is told of an object of two blocks, of which the second and an info are held.
+/// What a hold answers about an object of two blocks, of which the second and an info are held.
 const TOLD: [Step; 16] = [
     Step::Fit(3, (130, 64, 2, 4), 4, Fit::Taken),
     Step::HasInfo(3, false),
@@ -189,7 +188,7 @@ fn what_is_held_is_told(rt: HostRuntime) -> Result<(), Fail> {
     Ok(())
 }
 
-/// A plan that is taken back leaves its room to another.
+/// If a plan is taken back, its room is free for another.
 const TAKEN_BACK: [Step; 4] = [
     Step::TakeBack(5, (200, 64, 2, 4), 0),
     Step::Fit(6, (200, 64, 2, 4), 0, Fit::Taken),
@@ -204,7 +203,7 @@ fn a_plan_that_is_taken_back_leaves_room(rt: HostRuntime) -> Result<(), Fail> {
     Ok(())
 }
 
-/// The largest object.
+/// The largest object: 16,777,216 octets in blocks of up to 200 symbols of 1,400.
 const LARGEST: [Step; 4] = [
     Step::Fit(0, (16_777_216, 1400, 200, 255), 0, Fit::Taken),
     Step::PutLargest,
@@ -219,8 +218,8 @@ fn the_largest_object_is_handed_up(rt: HostRuntime) -> Result<(), Fail> {
     Ok(())
 }
 
-/// A symbol of the block of 3 source symbols and 2 of parity that is known from outside: its first octet (all others are
-/// zeros); the last source symbol has no other.
+/// Offers a symbol of the known block of 3 source symbols and 2 of parity. It has this first octet, and then zeros. The last source symbol
+/// has only the one.
 fn known_symbol(symbol: u8, word: Put) -> Step {
     match symbol {
         0 => Step::Put((0, 0, 0), 64, 0x01, word),
@@ -231,7 +230,7 @@ fn known_symbol(symbol: u8, word: Put) -> Step {
     }
 }
 
-/// Three of the five symbols come in this order, each twice.
+/// Returns calls in which three of the five symbols come in this order, each twice.
 fn in_order(first: u8, second: u8, third: u8) -> [Step; 12] {
     [
         Step::Fit(0, (129, 64, 3, 5), 0, Fit::Taken),
@@ -261,8 +260,7 @@ fn any_three_of_five_symbols_give_the_object_in_any_order(rt: HostRuntime) -> Re
     Ok(())
 }
 
-/// A symbol of the block of 2 source symbols and 2 of parity that is known from outside: its first octet is the power of alpha
-/// with its id.
+/// Offers a symbol of the known block of 2 source symbols and 2 of parity. Its first octet is alpha to the power of its id.
 fn known_of_two(symbol: u8, word: Put) -> Step {
     match symbol {
         0 => Step::Put((0, 0, 0), 64, 0x01, word),
@@ -272,7 +270,7 @@ fn known_of_two(symbol: u8, word: Put) -> Step {
     }
 }
 
-/// Two of the four symbols come in this order, each twice.
+/// Returns calls in which two of the four symbols come in this order, each twice.
 fn two_in_order(first: u8, second: u8) -> [Step; 9] {
     [
         Step::Fit(0, (65, 64, 2, 4), 0, Fit::Taken),

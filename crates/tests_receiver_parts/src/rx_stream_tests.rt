@@ -1,4 +1,4 @@
-//! What is held of a stream: the word of each symbol in its order, and the segments that any three of five symbols give.
+//! Tests of what is held of one stream: the answer to each symbol, and that any three of five symbols give the segments.
 
 ghost use Rattle.std.specs.Prelude.{◌≡◌, ◌+◌, IfOk};
 ghost use Rattle.rx_stream.specs.StreamState.{StreamState};
@@ -14,14 +14,14 @@ use std::alloc::Global;
 use std::process::Abort;
 use std::test::Fail;
 
-/// The octets of a symbol as it is coded: those of a segment's place, and 64.
+/// The octets of a symbol as it is coded: the header of a segment, and 64.
 const CODED: usize = 72;
 
-/// A block of three source symbols and two of parity is known from outside where its octets are 01, 04 and 10: the parity
-/// is 40 and 1d then. Where all three are the same, so is the parity.
+/// A known block of three source symbols and two of parity: if the octets of the sources are 01, 04 and 10, the parity is 40 and 1d. If all
+/// three sources are the same, so is the parity.
 const KNOWN: [u8; 5] = [0x01, 0x04, 0x10, 0x40, 0x1d];
 
-/// A symbol of the block whose segments have 64 octets each, of which the first are the known ones, as their offsets are.
+/// Returns a symbol of a block whose segments have 64 octets each. Its offset and its first octet are the known one.
 fn known_symbol(symbol: u8) -> [u8; 72] {
     let mut octets = [0; CODED];
     octets[1] = 64;
@@ -30,7 +30,7 @@ fn known_symbol(symbol: u8) -> [u8; 72] {
     octets
 }
 
-/// A symbol of the first block comes.
+/// Offers a symbol to a stream whose hand-up point is in block 0.
 fn come(
     stream: &mut Stream,
     solver: &mut Solver,
@@ -47,7 +47,7 @@ fn come(
     stream.offer(block, symbol, payload, solver)
 }
 
-/// Whether what is handed up next is the known segment with this number.
+/// Whether the next hand-up is the known segment with this number.
 fn shows(stream: &mut Stream, symbol: u8) -> bool {
     let Some(
         Up::StreamBytes {
@@ -64,7 +64,7 @@ fn shows(stream: &mut Stream, symbol: u8) -> bool {
     index == 7 && offset == u32::from(KNOWN[usize::from(symbol % 5)]) && bytes.bytes() == segment
 }
 
-/// Whether these three symbols of a block, in this order, give its segments, and nothing behind them.
+/// Whether these three symbols of a block, in this order, give its segments, and then nothing.
 fn give_back(alloc: Global, first: u8, second: u8, third: u8) -> Result<bool, Memory> {
     let fti = Fti {
         l: 384,
@@ -100,11 +100,11 @@ fn any_three_of_five_symbols_give_the_segments_in_any_order(rt: HostRuntime) -> 
     Ok(())
 }
 
-/// A symbol that comes behind three others of the first block: its block and id, the length that its payload says, and how
-/// many octets the payload has; and the word that it gets.
+/// A symbol that comes after three others of the first block: the ids of those, its own block and id, the length in its header, how many
+/// octets its payload has, and the expected answer.
 type Row = ([u8; 3], u32, u8, u8, usize, Put);
 
-/// The words, in their order.
+/// The answers, in the order in which they are tried.
 const WORDS: [Row; 18] = [
     ([0, 1, 1], 0, 2, 64, 72, Put::Kept),
     // A segment has its own length, and one of no octets is the end.
@@ -131,7 +131,7 @@ const WORDS: [Row; 18] = [
     ([0, 1, 1], 0, 3, 64, 71, Put::Unfit),
 ];
 
-/// The word of a row.
+/// Returns the answer to the symbol of a row.
 fn word_of(alloc: Global, row: &Row) -> Result<Option<Put>, Memory> {
     let (before, block, symbol, len, octets, _) = *row;
     let fti = Fti {
@@ -165,11 +165,11 @@ fn each_symbol_gets_the_first_word_that_applies(rt: HostRuntime) -> Result<(), F
     Ok(())
 }
 
-/// The lengths that the first three segments of a stream say, in the order in which they come; how many octets are handed up
-/// of each in turn, where it is no end; and where the end is then.
+/// Three segments, each with its id and the length in its header, in the order in which they come. Then how many octets of each are handed
+/// up in turn, 0 if it is an end or nothing, and the id of the end, if there is one.
 type Run = ([(u8, u8); 3], [u8; 3], Option<u8>);
 
-/// The lengths of what is handed up, and the end.
+/// Lengths of hand-ups, and the end.
 const RUNS: [Run; 5] = [
     ([(0, 64), (1, 9), (2, 1)], [64, 9, 1], None),
     ([(0, 64), (1, 9), (2, 0)], [64, 9, 0], Some(2)),
@@ -178,7 +178,7 @@ const RUNS: [Run; 5] = [
     ([(0, 0), (1, 0), (2, 7)], [0, 0, 0], Some(0)),
 ];
 
-/// A segment of so many octets, as it is sent.
+/// Offers a segment of this many octets, as it is sent.
 fn comes_with(stream: &mut Stream, solver: &mut Solver, symbol: u8, len: u8) -> Result<Put, Memory>
     requires point { stream.old.point.block ≡ 0 }
     requires solver { solver.old ≡ record { k = stream.old.plan.fti.b; size = stream.old.plan.fti.e + 8 } }
@@ -192,7 +192,7 @@ fn comes_with(stream: &mut Stream, solver: &mut Solver, symbol: u8, len: u8) -> 
     come(stream, solver, 0, symbol, payload)
 }
 
-/// How many octets are handed up next: 0 where it is an end or nothing.
+/// Returns how many octets the next hand-up has: 0 if it is not a segment, or if there is none.
 fn handed(stream: &mut Stream) -> usize {
     match stream.hand_up() {
         Some(Up::StreamBytes { bytes, .. }) => bytes.bytes().len(),
@@ -200,7 +200,7 @@ fn handed(stream: &mut Stream) -> usize {
     }
 }
 
-/// Whether a run hands up as many octets as its row says, and knows its end.
+/// Whether the stream hands up as many octets as the row says, and knows its end.
 fn runs(alloc: Global, row: &Run) -> Result<bool, Memory> {
     let (segments, lens, end) = *row;
     let fti = Fti {

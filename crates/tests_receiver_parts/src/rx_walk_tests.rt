@@ -1,5 +1,5 @@
-//! How many places a NACK looks at, of what a receiver holds: the objects from the hand-up point on, and of each the blocks that lack symbols.
-//! Each place is something to ask for, but the objects of which nothing is needed, and of these 256 are held at most.
+//! How many items a NACK looks at: the objects from the hand-up point on, and in each the blocks that lack symbols. Each item is something
+//! to ask for, except the objects of which nothing is needed. At most 256 of these are held.
 
 use crate::playing::{Sizes, fit, flags, is_over, profile_of};
 use fec_plan::{MOST_BLOCKS, PayloadId};
@@ -9,13 +9,13 @@ use rx_hold::Hold;
 use std::process::Abort;
 use std::test::Fail;
 
-/// The most places that a NACK looks at, whatever a datagram named.
+/// The most items that a NACK looks at, whatever a datagram named.
 const MOST_PLACES: usize = 512;
 
-/// How far the sender is, how many needs a NACK can name, and how many places it looks at then.
+/// The object that the sender is at, how many needs a NACK can name, and how many items it looks at then.
 type Row = (u32, usize, usize);
 
-/// How many blocks of an object that lack symbols are looked at, until there are so many.
+/// Counts the blocks of an object that lack symbols, up to `most`.
 fn short_blocks(hold: &Hold, index: u32, most: usize) -> usize {
     if is_over(hold, index) {
         return 0;
@@ -30,8 +30,8 @@ fn short_blocks(hold: &Hold, index: u32, most: usize) -> usize {
     most
 }
 
-/// How many places are looked at by a NACK that can name so many needs, up to the object that the sender is at: an object of which nothing is known is
-/// a need, and so is a block that lacks symbols. The first need that does not fit is looked at too.
+/// Counts the items that a NACK looks at if it can name this many needs, up to the object that the sender is at. An unknown object is a
+/// need, and so is a block that lacks symbols. The first need that does not fit is looked at too.
 fn places(hold: &Hold, behind: u32, needs: usize) -> usize {
     let mut left = needs.saturating_add(1);
     let mut seen = 0usize;
@@ -50,7 +50,7 @@ fn places(hold: &Hold, behind: u32, needs: usize) -> usize {
     seen
 }
 
-/// Walks as each row says.
+/// Counts for each row, and compares.
 fn walks(rt: &impl Abort, hold: &Hold, rows: &[Row]) {
     for (row, (behind, needs, wanted)) in rows.iter().enumerate() {
         let seen = places(hold, *behind, *needs);
@@ -59,7 +59,7 @@ fn walks(rt: &impl Abort, hold: &Hold, rows: &[Row]) {
     }
 }
 
-/// Whether the one symbol of a block of the first object is kept.
+/// Whether the only symbol of a block of object 0 is kept.
 fn keeps_block(hold: &mut Hold, block: u32) -> Result<bool, Memory> {
     if block >= MOST_BLOCKS {
         return Ok(false);
@@ -68,7 +68,7 @@ fn keeps_block(hold: &mut Hold, block: u32) -> Result<bool, Memory> {
     Ok(hold.put(0, id, &[0; 64])? == Put::Kept)
 }
 
-/// Whether the one symbol of each block of an object is kept, but of these.
+/// Whether the only symbol of each block of object 0 is kept, except for the blocks in `lacking`, which are left out.
 fn keeps_all_but(hold: &mut Hold, blocks: u32, lacking: &[u32]) -> Result<bool, Memory> {
     for block in 0..blocks {
         if lacking.contains(&block) {
@@ -81,7 +81,7 @@ fn keeps_all_but(hold: &mut Hold, blocks: u32, lacking: &[u32]) -> Result<bool, 
     Ok(true)
 }
 
-/// Whether so many objects of an octet are taken up, and all but the first are whole.
+/// Whether this many objects of one octet are taken up, and the octets of all except the first are kept.
 fn keeps_objects(hold: &mut Hold, count: u32) -> Result<bool, Memory> {
     let id = PayloadId {
         block: 0,
@@ -98,8 +98,9 @@ fn keeps_objects(hold: &mut Hold, count: u32) -> Result<bool, Memory> {
     Ok(true)
 }
 
-/// An object of as many blocks as one can have, 262,144, each of one symbol of 64 octets, of which the first, one in the middle and the last did
-/// not come. A NACK of 64 octets can name seven needs: three blocks, and where the sender is further, four objects; and it looks at the fifth.
+/// An object of 262,144 blocks, the most that one can have, each of one symbol of 64 octets. The first, a middle one and the last did not
+/// come. A NACK of 64 octets can name seven needs: three blocks and, if the sender is further, four objects. It looks at the fifth object
+/// too.
 #[test]
 fn a_nack_looks_at_no_block_that_is_done(rt: HostRuntime) -> Result<(), Fail> {
     let sizes: Sizes = (64, 1, 1, 16_777_216, 2);
@@ -111,8 +112,8 @@ fn a_nack_looks_at_no_block_that_is_done(rt: HostRuntime) -> Result<(), Fail> {
     Ok(())
 }
 
-/// 256 objects, as many as are held, of which the first lacks its symbol and all others are whole. A NACK of 1,400 octets can name 174 needs: a block,
-/// and where the sender is further, 173 objects; and it looks at one object more.
+/// 256 objects, the most that are held. The first lacks its symbol, and all others are whole. A NACK of 1,400 octets can name 174 needs: a
+/// block and, if the sender is further, 173 objects. It looks at one object more.
 #[test]
 fn a_nack_looks_at_each_object_that_is_held_once(rt: HostRuntime) -> Result<(), Fail> {
     let sizes: Sizes = (1400, 1, 1, 16_777_216, 2);

@@ -1,4 +1,4 @@
-//! A stream of the window: which of its segments were sent, and which blocks may go for room.
+//! Tests of a stream in the window: which of its segments were sent, and which blocks may be dropped for room.
 
 use fec_plan::Position;
 use norm_base::{Datagram, Given, Key, Memory, Profile};
@@ -10,28 +10,28 @@ use stream_buffer::{HeldStream, StreamFault};
 /// The index of the stream.
 const INDEX: u32 = 3;
 
-/// A call of a stream, with what it has to answer.
+/// A call of a stream, with its expected answer.
 #[derive(Clone, Copy)]
 enum Step {
-    /// A write of so many octets, where the entries before the stream may go or not.
+    /// Writes this many octets. Says whether the entries before the stream may be dropped.
     Write(usize, bool, Result<u32, StreamFault>),
     Cut,
     Close(bool, Result<(), StreamFault>),
-    /// A symbol of a block was sent.
+    /// Notes a symbol of a block as sent.
     Sent(u32, u8),
     /// All members are listed past this symbol of a block.
     Past(u32, u8),
-    /// Whether the blocks before this one may go.
+    /// Expects whether the blocks before this one may be dropped.
     MayGo(u32, bool),
-    /// How many octets a symbol of a block has. `None`: it is not there.
+    /// Expects the number of octets of a symbol of a block, or `None` if it is not there.
     Symbol(u32, u8, Option<usize>),
-    /// The block and the symbol of the last closed segment.
+    /// Expects the block and the symbol of the last closed segment.
     Last(Option<(u32, u8)>),
-    /// The first block, how many segments are closed, how many octets were written, and whether all was sent.
+    /// Expects the first block that is left, the number of closed segments, the number of octets written, and whether all was sent.
     Has(u32, u32, u32, bool),
 }
 
-/// What a write answers. `None`: it can't be asked, as there are no octets.
+/// Returns the answer to a write, or `None` if it has no octets, which the call's contract does not allow.
 fn written(
     alloc: Global,
     stream: &mut HeldStream,
@@ -47,7 +47,7 @@ fn written(
     Ok(Some(stream.write(profile, INDEX, past, before, &octets)))
 }
 
-/// How many octets a symbol has. `None`: it is not there, or no block has so many.
+/// Returns the number of octets of a symbol, or `None` if it is not there, or no block has as many symbols.
 fn sent(
     alloc: Global,
     stream: &HeldStream,
@@ -65,7 +65,7 @@ fn sent(
     Ok(Some(out.bytes().len()))
 }
 
-/// Marks a symbol as sent, where its block is kept.
+/// Notes a symbol as sent. Returns `false` if its block is not kept any more.
 fn note(stream: &mut HeldStream, block: u32, symbol: u8) -> bool {
     if block < stream.first_block() {
         return false;
@@ -74,7 +74,7 @@ fn note(stream: &mut HeldStream, block: u32, symbol: u8) -> bool {
     true
 }
 
-/// A position of the stream.
+/// Returns a position of the stream, or `None` if 24 bits do not have the block.
 fn position(block: u32, symbol: u8) -> Option<Position> {
     if block >= 16_777_216 {
         return None;
@@ -86,13 +86,13 @@ fn position(block: u32, symbol: u8) -> Option<Position> {
     })
 }
 
-/// The block and the symbol of the last closed segment.
+/// Returns the block and the symbol of the last closed segment.
 fn last(stream: &HeldStream) -> Option<(u32, u8)> {
     let at = stream.last(INDEX)?;
     Some((at.block, at.symbol))
 }
 
-/// Makes a call, and says whether it was answered so.
+/// Makes a call. Returns whether it gave the expected answer.
 fn does(
     alloc: Global,
     stream: &mut HeldStream,
@@ -124,8 +124,8 @@ fn does(
     }
 }
 
-/// A profile with segments of 64 octets, blocks of two, three encoded symbols a block, and room for two blocks. The mode is
-/// `hold`, or else `drop`.
+/// Returns a profile with segments of 64 octets, blocks of two with three encoded symbols, and room for two blocks. The mode is `hold` if
+/// `hold` says so, else `drop`.
 fn profile_of(rt: &impl Abort, hold: u32) -> Profile {
     let mut given = Given::new();
     for (key, value) in [
@@ -140,7 +140,7 @@ fn profile_of(rt: &impl Abort, hold: u32) -> Profile {
     Profile::of(&given).expect(rt, "a profile")
 }
 
-/// Makes calls in their order, of a stream in this mode.
+/// Makes the calls in order, of one stream in this mode.
 fn play(rt: &impl Abort, alloc: Global, hold: u32, steps: &[Step]) -> Result<(), Memory> {
     let profile = profile_of(rt, hold);
     let mut past = None;
@@ -152,7 +152,7 @@ fn play(rt: &impl Abort, alloc: Global, hold: u32, steps: &[Step]) -> Result<(),
     Ok(())
 }
 
-/// A block goes for room once both its segments were sent, and the entries before the stream may go.
+/// A block may be dropped for room after both its segments were sent, if the entries before the stream may be dropped.
 const DROPS: [Step; 18] = [
     Step::Last(None),
     Step::Has(0, 0, 0, true),
@@ -206,7 +206,7 @@ fn held_blocks_go_once_all_are_past(rt: HostRuntime) -> Result<(), Fail> {
     Ok(())
 }
 
-/// A cut closes a segment that was not sent, and the end adds one.
+/// A cut closes a segment that was not sent yet, and the end adds another.
 const ENDS: [Step; 12] = [
     Step::Write(1, true, Ok(0)),
     Step::Has(0, 0, 1, true),

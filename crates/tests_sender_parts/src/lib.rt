@@ -1,4 +1,4 @@
-//! Tests of the parts of a sender: what a window sends, and what is asked for and acknowledged. A module for each crate.
+//! Tests of the parts of a sender: what a window sends, what is requested and what is acknowledged. Each crate has a module or two.
 #![tactic(auto)]
 
 #[cfg(test)]

@@ -1,5 +1,5 @@
-//! Books over one receiver and over more: what each call answers, what is told and in which order, what a quorum needs, and
-//! what a strike and a restart leave.
+//! Tests of a book of one receiver and of more: what each call answers, what is reported and in which order, what a quorum needs, and what
+//! remains after a strike and a restart.
 
 use fec_plan::Position;
 use mark_book::{Book, OpenWatermark};
@@ -8,7 +8,7 @@ use norm_send_rules::{MarkFault, News, Outcome, StrikeFault};
 use std::alloc::Global;
 use std::process::Abort;
 
-/// A symbol of an object's first block: the object's index and the symbol.
+/// A symbol of an object's first block: the index of the object, and the symbol.
 type At = (u32, u8);
 
 fn position(at: At) -> Position {
@@ -20,40 +20,40 @@ fn position(at: At) -> Position {
     }
 }
 
-/// A call of a book, with what it has to answer. A node is its number, and so is a watermark.
+/// A call of a book, with its expected answer. Nodes and watermarks are told by their numbers.
 #[derive(Clone, Copy)]
 enum Call {
-    /// A watermark up to a position, for all members.
+    /// Asks for a watermark up to a position, for all members.
     Request(Option<At>, Result<u32, MarkFault>),
-    /// A watermark up to a position, for so many members.
+    /// Asks for a watermark up to a position, for this many members.
     Quorum(u32, Option<At>, Result<u32, MarkFault>),
-    /// A quorum, and whether it is refused before anything else.
+    /// Expects whether this quorum is refused before anything else.
     IsNone(u32, bool),
     Ack(u32, At),
     Expire(u32),
     CutAll,
-    /// A strike of a member, of a node that is none, and of the only member.
+    /// Strikes a member. The next two expect that the node is not a member, or that it is the only one.
     Strikes(u32),
     IsNoMember(u32),
     IsLastMember(u32),
     Lists(u32, bool),
     Outcome(u32, Option<Outcome>),
-    /// A node that a watermark waits for, by its place among them.
+    /// Expects a node that a watermark waits for, by its index among them.
     Pending(u32, u32, Option<u32>),
     Past(u32, Option<At>),
     Least(Option<At>),
-    /// The oldest open watermark, with its position.
+    /// Expects the oldest open watermark, with its position.
     Oldest(Option<(u32, At)>),
     Open(u32),
     Untold(usize),
     Position(u32, Option<At>),
-    /// What is told is that a node is past a position.
+    /// Expects as the next news that a node is past a position.
     TellsPast(u32, At),
     TellsDone(u32, Outcome),
     TellsNothing,
 }
 
-/// Asks for a watermark, and once more where memory was refused: then the book is as it was.
+/// Asks for a watermark, and tries again if memory ran out: the book is unchanged then.
 fn request(book: &mut Book, at: Option<At>, quorum: Option<u32>) -> Result<u32, MarkFault> {
     match book.request(at.map(position), quorum) {
         Err(MarkFault::Memory) => book.request(at.map(position), quorum),
@@ -113,7 +113,7 @@ fn oldest(book: &Book) -> Option<OpenWatermark> {
     book.oldest()
 }
 
-/// An open watermark with this number and position.
+/// Returns an open watermark with this number and position.
 fn watermark(open: (u32, At)) -> OpenWatermark {
     let (mark, at) = open;
     OpenWatermark {
@@ -130,12 +130,12 @@ fn news(book: &mut Book) -> Option<News> {
     book.news()
 }
 
-/// The member with this id.
+/// Returns the id with this number.
 fn node(rt: &impl Abort, n: u32) -> NodeId {
     NodeId::of(n).expect(rt, "a member's id")
 }
 
-/// Whether what is asked of a book is answered so.
+/// Makes a call that reads. Returns whether it gave the expected answer.
 fn is_answered(rt: &impl Abort, book: &Book, call: Call) -> bool {
     match call {
         Call::Outcome(mark, answer) => outcome(book, mark) == answer,
@@ -154,7 +154,7 @@ fn is_answered(rt: &impl Abort, book: &Book, call: Call) -> bool {
     }
 }
 
-/// Whether a strike is answered so.
+/// Makes a strike, or a call that reads. Returns whether it gave the expected answer.
 fn is_struck(rt: &impl Abort, book: &mut Book, call: Call) -> bool {
     match call {
         Call::Strikes(n) => strike(book, node(rt, n)).is_ok(),
@@ -170,7 +170,7 @@ fn is_struck(rt: &impl Abort, book: &mut Book, call: Call) -> bool {
     }
 }
 
-/// Whether a book does what the call says.
+/// Makes a call. Returns whether it gave the expected answer.
 fn does(rt: &impl Abort, book: &mut Book, call: Call) -> bool {
     match call {
         Call::Request(at, answer) => request(book, at, None) == answer,
@@ -198,7 +198,7 @@ fn does(rt: &impl Abort, book: &mut Book, call: Call) -> bool {
     }
 }
 
-/// A book over these nodes.
+/// Returns a book of these receivers.
 fn book_over(rt: &impl Abort, alloc: Global, nodes: &[NodeId]) -> Book {
     assert!(rt; 1 <= nodes.len() && nodes.len() <= 16);
     match Book::new(alloc, nodes) {
@@ -207,7 +207,7 @@ fn book_over(rt: &impl Abort, alloc: Global, nodes: &[NodeId]) -> Book {
     }
 }
 
-/// Makes calls in their order, and sees what each answers.
+/// Makes the calls in order. A wrong answer fails the test.
 fn play(rt: &impl Abort, book: &mut Book, calls: &[Call]) {
     for (place, call) in calls.iter().enumerate() {
         let is_so = does(rt, book, *call);
@@ -215,7 +215,7 @@ fn play(rt: &impl Abort, book: &mut Book, calls: &[Call]) {
     }
 }
 
-/// A watermark is satisfied once its one receiver is past it; another node is of no account.
+/// A watermark is satisfied once its only receiver is past it. An acknowledgement of another node changes nothing.
 const ONE: [Call; 13] = [
     Call::Request(None, Err(MarkFault::NothingEnqueued)),
     Call::Request(Some((0, 0)), Ok(1)),
@@ -232,7 +232,7 @@ const ONE: [Call; 13] = [
     Call::Outcome(3, None),
 ];
 
-/// Behind these, and sixteen more up to an object that comes later.
+/// After `ONE` and sixteen watermarks more, which wait for a later object.
 const FULL: [Call; 5] = [
     Call::Request(Some((1, 0)), Err(MarkFault::TooMany { count: 16 })),
     Call::Oldest(Some((3, (1, 0)))),
@@ -252,7 +252,7 @@ fn a_watermark_is_satisfied_once_its_one_receiver_is_past_it(rt: HostRuntime) {
     play(&rt, &mut book, &last);
 }
 
-/// Over receivers 5, 2 and 3: listings are told before outcomes, in order of node, each with its latest position and once.
+/// Receivers 5, 2 and 3. Listings are reported before outcomes, in order of node, each once and with its latest position.
 const TOLD: [Call; 17] = [
     Call::Request(Some((1, 3)), Ok(1)),
     Call::Request(Some((0, 1)), Ok(2)),
@@ -281,7 +281,7 @@ fn listings_are_told_before_outcomes_and_each_change_once(rt: HostRuntime) {
     play(&rt, &mut book, &calls);
 }
 
-/// Over receivers 2 and 3: a restart cuts open watermarks and forgets listings.
+/// Receivers 2 and 3. A restart cuts open watermarks and forgets listings.
 const RESTARTED: [Call; 12] = [
     Call::Request(Some((0, 0)), Ok(1)),
     Call::Request(Some((4, 0)), Ok(2)),
@@ -304,7 +304,7 @@ fn a_restart_cuts_watermarks_and_forgets_listings(rt: HostRuntime) {
     play(&rt, &mut book, &calls);
 }
 
-/// Over receivers 2, 3 and 4: a quorum is met by so many members, whichever, and must be one that there can be.
+/// Receivers 2, 3 and 4. A quorum is met by any this many members. It is refused if it is 0 or more than there are receivers.
 const QUORUMS: [Call; 16] = [
     Call::Quorum(0, None, Err(MarkFault::Quorum { q: 0 })),
     Call::Quorum(4, Some((0, 0)), Err(MarkFault::Quorum { q: 4 })),
@@ -332,7 +332,7 @@ fn a_quorum_is_met_by_so_many_members(rt: HostRuntime) {
     play(&rt, &mut book, &calls);
 }
 
-/// Over receivers 2, 3 and 4: nothing waits for a struck node, nor tells of it, and the last member is not struck.
+/// Receivers 2, 3 and 4. Nothing waits for a struck node or reports it, and the last member can't be struck.
 const STRUCK: [Call; 19] = [
     Call::Request(Some((0, 0)), Ok(1)),
     Call::Quorum(3, Some((0, 1)), Ok(2)),
@@ -363,7 +363,7 @@ fn a_struck_node_is_waited_for_no_more(rt: HostRuntime) {
     play(&rt, &mut book, &calls);
 }
 
-/// Over receivers 2 and 3: who was struck stays so behind a restart, and the number of receivers stays that of the profile.
+/// Receivers 2 and 3. A struck node stays struck after a restart, and a quorum may still be as large as the profile's number of receivers.
 const BEHIND: [Call; 11] = [
     Call::Request(Some((0, 0)), Ok(1)),
     Call::Ack(2, (0, 0)),
@@ -385,7 +385,7 @@ fn a_restart_behind_a_strike_keeps_the_struck(rt: HostRuntime) {
     play(&rt, &mut book, &calls);
 }
 
-/// The octets of the nodes that are not listed past a position.
+/// Returns the octets of the nodes that are not listed past a position.
 fn written(rt: &impl Abort, alloc: Global, book: &Book, at: At) -> Datagram {
     let Ok(mut out) = Datagram::new(alloc) else {
         panic!(rt; "no memory for a datagram");

@@ -1,4 +1,5 @@
-//! Unions of one object or stream: what their rounds ask for, early requests, a front that went, and the largest object.
+//! Tests of unions of one object or stream: what rounds of requests make wanted, requests that come too late, a stream whose first block
+//! went, and the largest object.
 
 ghost use Rattle.std.specs.Prelude.{◌≡◌, ◌<◌, ◌^◌, ◌∷◌, [], false, true};
 ghost use Rattle.norm_base.specs.Settings.{defaults};
@@ -15,37 +16,37 @@ use norm_ext::{check_requests, requests_of};
 use std::alloc::Global;
 use std::process::Abort;
 
-/// A symbol: an object's index, the block and the symbol.
+/// A symbol: the index of its object, its block, and its id.
 type At = (u16, u32, u8);
 
-/// The numbers of requests for items, for ranges, and for as many symbols as are lacking.
+/// The form numbers of requests: for items, for ranges, and for a number of missing symbols.
 const ITEMS: u8 = 1;
 
 const RANGES: u8 = 2;
 
 const ERASURES: u8 = 3;
 
-/// A call of a union, with what it has to answer.
+/// A call of a union, with its expected answer.
 #[derive(Clone, Copy)]
 enum Call {
-    /// An item is asked for, by flags.
+    /// Requests an item, with these flags.
     Item(u8, At),
-    /// A range is asked for, by flags.
+    /// Requests a range, with these flags.
     Range(u8, At, At),
-    /// So many symbols of a block of object 0 are asked for.
+    /// Requests this many symbols of a block of object 0. The block comes first.
     Count(u32, u8),
-    /// A round closes: the wants that are new, and whether the round was early.
+    /// Closes a round. Expects the number of new wants, and whether the round was early.
     Closes(u32, bool),
     Gives(At),
     GivesInfo(u16),
     GivesNothing,
-    /// Whether anything is wanted.
+    /// Expects whether anything is wanted.
     IsWanted(bool),
-    /// All wants are taken: so many.
+    /// Takes all wants, and expects this many.
     GivesAll(u32),
 }
 
-/// The eight octets of an item.
+/// Returns the eight octets of an item.
 fn spelled(at: At) -> [u8; 8] {
     let (index, block, symbol) = at;
     let [i0, i1] = index.to_be_bytes();
@@ -53,13 +54,13 @@ fn spelled(at: At) -> [u8; 8] {
     [5, 0, i0, i1, b0, b1, b2, symbol]
 }
 
-/// A request of one item.
+/// Returns the octets of a request of one item.
 fn request_of(form: u8, flags: u8, at: At) -> [u8; 12] {
     let [x0, x1, x2, x3, x4, x5, x6, x7] = spelled(at);
     [form, flags, 0, 8, x0, x1, x2, x3, x4, x5, x6, x7]
 }
 
-/// A request of one range.
+/// Returns the octets of a request of one range.
 fn range_of(flags: u8, from: At, to: At) -> [u8; 20] {
     let [x0, x1, x2, x3, x4, x5, x6, x7] = spelled(from);
     let [y0, y1, y2, y3, y4, y5, y6, y7] = spelled(to);
@@ -68,7 +69,7 @@ fn range_of(flags: u8, from: At, to: At) -> [u8; 20] {
     ]
 }
 
-/// Adds the requests that octets spell, where they spell some.
+/// Adds the requests in these octets. Returns `false` if they are not requests.
 fn add(union: &mut Union, list: &[u8]) -> bool {
     match check_requests(list, 0) {
         Ok(()) => {
@@ -87,7 +88,7 @@ fn next(union: &mut Union) -> Option<Want> {
     union.next()
 }
 
-/// How many wants are taken until there is none.
+/// Takes wants until there is none, at most 100. Returns how many.
 fn take_all(union: &mut Union) -> u32 {
     for count in 0..100u32 {
         if next(union).is_none() {
@@ -110,7 +111,7 @@ fn want_of(at: At) -> Want {
     }
 }
 
-/// Whether a union answers a call so.
+/// Makes a call. Returns whether it gave the expected answer.
 fn does(union: &mut Union, call: Call) -> bool {
     match call {
         Call::Item(flags, at) => add(union, &request_of(ITEMS, flags, at)),
@@ -131,7 +132,7 @@ fn does(union: &mut Union, call: Call) -> bool {
     }
 }
 
-/// Makes calls in their order, and sees what each answers.
+/// Makes the calls in order. A wrong answer fails the test.
 fn play(rt: &impl Abort, mut union: Union, calls: &[Call]) {
     for (place, call) in calls.iter().enumerate() {
         let is_so = does(&mut union, *call);
@@ -139,7 +140,7 @@ fn play(rt: &impl Abort, mut union: Union, calls: &[Call]) {
     }
 }
 
-/// A union with an object of 1,000 octets in blocks of 6, 5 and 5 source symbols, with 2, 1 and 1 of parity, and with info.
+/// Returns a union with an object of 1,000 octets and an info. Its blocks have 6, 5 and 5 source symbols, and 2, 1 and 1 of parity.
 fn three_blocks(rt: &impl Abort, alloc: Global) -> Union
     ensures first { result.kept.first ≡ 0 }
     ensures objects { result.kept.objects ≡ admitted (cut_of 1000 64 6 8) true ∷ [] }
@@ -152,7 +153,7 @@ fn three_blocks(rt: &impl Abort, alloc: Global) -> Union
     }
 }
 
-/// Wants come by object, info, block and symbol, each once; a range is cut to the window, and asks for source symbols alone.
+/// Wants come in order of object, info, block and symbol, each once. A range is cut to the window, and asks only for source symbols.
 const ASKED: [Call; 29] = [
     Call::Item(WANT_SEGMENT, (0, 2, 5)),
     Call::Closes(1, false),
@@ -191,8 +192,8 @@ fn what_is_named_is_wanted_once_and_in_order(rt: HostRuntime) {
     play(&rt, three_blocks(&rt, rt.alloc()), &calls);
 }
 
-/// Ranges that overlap, that leave one symbol out, and that have a whole block between their ends. Each ends with its last
-/// symbol.
+/// Ranges that overlap, that leave out one symbol, and that have a whole block between their ends. The last symbol of a range is part of
+/// it.
 const RANGED: [Call; 20] = [
     Call::Range(WANT_SEGMENT, (0, 0, 3), (0, 1, 0)),
     Call::Closes(4, false),
@@ -222,7 +223,7 @@ fn ranges_ask_for_what_lies_between_their_ends(rt: HostRuntime) {
     play(&rt, three_blocks(&rt, rt.alloc()), &calls);
 }
 
-/// A union with an object of one block, of 4 source and 2 parity symbols, without info.
+/// Returns a union with an object of one block, of 4 source and 2 parity symbols, without an info.
 fn one_block(rt: &impl Abort, alloc: Global) -> Union
     ensures first { result.kept.first ≡ 0 }
     ensures objects { result.kept.objects ≡ admitted (cut_of 256 64 4 6) false ∷ [] }
@@ -235,7 +236,7 @@ fn one_block(rt: &impl Abort, alloc: Global) -> Union
     }
 }
 
-/// A union with two such objects.
+/// Returns a union with two such objects.
 fn two_objects(rt: &impl Abort, alloc: Global) -> Union {
     let mut union = one_block(rt, alloc);
     let plan = Plan::of(256, 64, 4, 6).expect(rt, "a plan");
@@ -245,7 +246,7 @@ fn two_objects(rt: &impl Abort, alloc: Global) -> Union {
     }
 }
 
-/// A range goes from object to object.
+/// A range goes on from one object to the next.
 const ACROSS: [Call; 7] = [
     Call::Range(WANT_SEGMENT, (0, 0, 1), (1, 0, 1)),
     Call::Closes(5, false),
@@ -262,8 +263,8 @@ fn a_range_goes_from_object_to_object(rt: HostRuntime) {
     play(&rt, two_objects(&rt, rt.alloc()), &calls);
 }
 
-/// The greatest count stands, and is answered by the lowest parity. A count of 1 is served by it, as it was not sent yet; for
-/// a count of 3 all source symbols are wanted.
+/// The greatest count of a round is answered, by the lowest parity. If that was not sent yet, a further count of 1 adds nothing. For a
+/// count of 3 there is too little parity, so all source symbols are wanted.
 const COUNTED: [Call; 15] = [
     Call::Count(0, 0),
     Call::Closes(0, false),
@@ -288,7 +289,7 @@ fn counts_ask_for_parity_while_it_is_fresh(rt: HostRuntime) {
     play(&rt, one_block(&rt, rt.alloc()), &calls);
 }
 
-/// A want that was not sent is fresh: it answers a count.
+/// If a want was not sent yet, it answers a count.
 const NAMED_AND_COUNTED: [Call; 5] = [
     Call::Item(WANT_SEGMENT, (0, 0, 4)),
     Call::Closes(1, false),
@@ -303,7 +304,7 @@ fn a_want_answers_a_count(rt: HostRuntime) {
     play(&rt, one_block(&rt, rt.alloc()), &calls);
 }
 
-/// A symbol of the first block of the first object.
+/// Returns a symbol of the first block of object 0.
 fn symbol_at(symbol: u8) -> Position
     ensures { result ≡ position 0 0 symbol }
 {
@@ -314,14 +315,14 @@ fn symbol_at(symbol: u8) -> Position
     }
 }
 
-/// A union of which a parity symbol was sent.
+/// Returns a union of which one parity symbol was sent.
 fn parity_sent(rt: &impl Abort, alloc: Global) -> Union {
     let mut union = one_block(rt, alloc);
     union.note_sent(symbol_at(4));
     union
 }
 
-/// A parity symbol that was sent is not fresh, and where too few are left all source symbols are wanted.
+/// A parity symbol that was sent does not answer a count. If too few others are left, all source symbols are wanted.
 const SENT: [Call; 9] = [
     Call::Count(0, 1),
     Call::Closes(1, false),
@@ -340,7 +341,7 @@ fn what_was_sent_is_not_fresh(rt: HostRuntime) {
     play(&rt, parity_sent(&rt, rt.alloc()), &calls);
 }
 
-/// A union under the default profile, with an object of so many octets without info, of whose first block two symbols were sent.
+/// Returns a union under the default profile, with an object of `len` octets without an info. Two symbols of its first block were sent.
 fn two_sent(rt: &impl Abort, alloc: Global, len: u64, first: u8, second: u8) -> Union
     requires len { len < 2 ^ 48 }
     requires first { first < encoded_in (shape_of_marked (admitted (cut_of len defaults.e defaults.b defaults.max_n) false)) 0 }
@@ -359,7 +360,7 @@ fn two_sent(rt: &impl Abort, alloc: Global, len: u64, first: u8, second: u8) -> 
     }
 }
 
-/// Where both parity symbols of four source symbols were sent, a count of one asks for all of these.
+/// If both parity symbols of four source symbols were sent, a count of one asks for all source symbols.
 const ALL_SENT: [Call; 7] = [
     Call::Count(0, 1),
     Call::Closes(4, false),
@@ -370,7 +371,7 @@ const ALL_SENT: [Call; 7] = [
     Call::GivesNothing,
 ];
 
-/// Of six source symbols a third parity symbol is left.
+/// If two of three parity symbols of six source symbols were sent, a count of one asks for the third.
 const ONE_LEFT: [Call; 3] = [
     Call::Count(0, 1),
     Call::Closes(1, false),
@@ -385,14 +386,14 @@ fn a_count_asks_for_parity_that_is_left(rt: HostRuntime) {
     play(&rt, two_sent(&rt, rt.alloc(), 6_144, 6, 7), &calls);
 }
 
-/// A union whose first object was dropped, and whether that took a want.
+/// Returns a union whose first object was dropped, and whether that removed a want.
 fn dropped(rt: &impl Abort, alloc: Global) -> (Union, bool) {
     let mut union = three_blocks(rt, alloc);
     let took = union.retire(1, 0);
     (union, took)
 }
 
-/// What lies before the window is early, once.
+/// A request for what is before the window makes its round early, and no further one.
 const EARLY: [Call; 4] = [
     Call::Item(WANT_SEGMENT, (0, 0, 0)),
     Call::Item(WANT_SEGMENT, (1, 0, 0)),
@@ -408,21 +409,21 @@ fn what_lies_before_the_window_is_early_once(rt: HostRuntime) {
     play(&rt, union, &calls);
 }
 
-/// A union whose last object was taken back.
+/// Returns a union whose last object was taken back.
 fn withdrawn(rt: &impl Abort, alloc: Global) -> Union {
     let mut union = three_blocks(rt, alloc);
     union.withdraw();
     union
 }
 
-/// A union that begins anew.
+/// Returns a union that was cleared.
 fn cleared(rt: &impl Abort, alloc: Global) -> Union {
     let mut union = three_blocks(rt, alloc);
     union.clear();
     union
 }
 
-/// Nothing is in the window.
+/// If the window is empty, nothing is wanted.
 const EMPTY: [Call; 4] = [
     Call::Item(WANT_SEGMENT, (0, 0, 0)),
     Call::Closes(0, false),
@@ -437,7 +438,7 @@ fn nothing_of_an_empty_window_is_wanted(rt: HostRuntime) {
     play(&rt, cleared(&rt, rt.alloc()), &calls);
 }
 
-/// A union with an object of 16 MiB in symbols of 64 octets, each block one source symbol of 255 encoded ones.
+/// Returns a union with an object of 16 MiB in symbols of 64 octets. Each block has one source symbol, and 255 encoded ones.
 fn largest(rt: &impl Abort, alloc: Global) -> Union {
     let mut union = Union::new(alloc, &Profile::default());
     let plan = Plan::of(16_777_216, 64, 1, 255).expect(rt, "a plan");
@@ -447,7 +448,7 @@ fn largest(rt: &impl Abort, alloc: Global) -> Union {
     }
 }
 
-/// Its last symbol.
+/// The last symbol of the largest object.
 const LAST: [Call; 6] = [
     Call::Item(WANT_SEGMENT, (0, 262_143, 254)),
     Call::IsWanted(false),
@@ -463,7 +464,7 @@ fn the_last_symbol_of_the_largest_object_is_wanted(rt: HostRuntime) {
     play(&rt, largest(&rt, rt.alloc()), &calls);
 }
 
-/// A profile with symbols of 64 octets in blocks of two, with one of parity each.
+/// Returns a profile with symbols of 64 octets, in blocks of two with one parity symbol each.
 fn of_two(rt: &impl Abort) -> Profile {
     let mut given = Given::new();
     for (key, value) in [(Key::E, 64), (Key::B, 2), (Key::MaxN, 3)] {
@@ -472,14 +473,14 @@ fn of_two(rt: &impl Abort) -> Profile {
     Profile::of(&given).expect(rt, "a profile")
 }
 
-/// How streams of a profile are cut.
+/// Returns the plan of a profile's streams.
 fn stream_plan(rt: &impl Abort, profile: &Profile) -> Plan
     ensures { result ≡ stream_cut profile.now.e profile.now.b profile.now.max_n }
 {
     Plan::stream(profile.e, profile.b, profile.max_n).expect(rt, "a plan")
 }
 
-/// A union with a stream of which three segments are closed: a block is full, and one is not.
+/// Returns a union with a stream of three closed segments: one block is full, the next is not.
 fn stream(rt: &impl Abort, alloc: Global) -> Union
     ensures { MayRetire 0 1 result.kept }
 {
@@ -495,7 +496,7 @@ fn stream(rt: &impl Abort, alloc: Global) -> Union
     }
 }
 
-/// Of a block that is not full nothing but closed segments is wanted, whether by name, by a count or in a range.
+/// If a block is not full, only its closed segments are wanted, whether by name, by a count or in a range.
 const STREAMED: [Call; 20] = [
     Call::Item(WANT_SEGMENT, (0, 0, 2)),
     Call::Item(WANT_SEGMENT, (0, 1, 2)),
@@ -525,14 +526,14 @@ fn of_a_stream_what_is_closed_is_wanted(rt: HostRuntime) {
     play(&rt, stream(&rt, rt.alloc()), &calls);
 }
 
-/// A union with a stream of which the first block is gone, and whether that took a want.
+/// Returns a union with a stream whose first block was dropped, and whether that removed a want.
 fn moved_on(rt: &impl Abort, alloc: Global) -> (Union, bool) {
     let mut union = stream(rt, alloc);
     let took = union.retire(0, 1);
     (union, took)
 }
 
-/// What lies before the front is early, and nothing of it is wanted.
+/// A request for what is before the first block that is left is early, and nothing of it is wanted.
 const FRONT_GONE: [Call; 9] = [
     Call::Item(WANT_SEGMENT, (0, 0, 1)),
     Call::Closes(0, true),

@@ -1,4 +1,4 @@
-//! Symbols of worked objects, and one object that lies in two pieces.
+//! Tests of the symbols of an object, also of one whose octets are in two pieces.
 
 use fec_plan::Plan;
 use norm_base::{Datagram, Given, Key, Kind, Profile};
@@ -8,7 +8,7 @@ use std::alloc::{AllocError, Global};
 use std::process::Abort;
 use std::test::Fail;
 
-/// A profile with these symbols and blocks.
+/// Returns a profile with symbols and blocks of these sizes.
 fn profile_of(rt: &impl Abort, e: u32, b: u32, max_n: u32) -> Profile {
     let mut given = Given::new();
     for (key, value) in [(Key::E, e), (Key::B, b), (Key::MaxN, max_n)] {
@@ -17,7 +17,7 @@ fn profile_of(rt: &impl Abort, e: u32, b: u32, max_n: u32) -> Profile {
     Profile::of(&given).expect(rt, "a profile")
 }
 
-/// A buffer of a data object.
+/// Returns a buffer with a data object.
 fn buffer_of(
     rt: &impl Abort,
     alloc: Global,
@@ -28,7 +28,7 @@ fn buffer_of(
     Ok(ObjectBuf::whole(alloc, profile, Kind::Data, None, octets)?)
 }
 
-/// One symbol of a buffer.
+/// Returns one symbol of a buffer.
 fn symbol_in(
     rt: &impl Abort,
     alloc: Global,
@@ -44,7 +44,7 @@ fn symbol_in(
     Ok(out)
 }
 
-/// With how many octets a symbol is sent, of an object of so many octets under a profile.
+/// Returns with how many octets a symbol is sent, of an object of `len` octets under a profile.
 fn sent(
     rt: &impl Abort,
     alloc: Global,
@@ -85,7 +85,7 @@ fn the_largest_object_has_symbols(rt: HostRuntime) -> Result<(), Fail> {
     Ok(())
 }
 
-/// Four symbols of 64 octets each: 01, 02, 04 and 08.
+/// Returns four symbols of 64 octets each: all 01, all 02, all 04 and all 08.
 fn powers(alloc: Global) -> Result<Vec<u8>, AllocError> {
     let mut octets = Vec::new(alloc);
     for octet in [1, 2, 4, 8] {
@@ -105,7 +105,7 @@ fn parity_goes_on_with_the_powers(rt: HostRuntime) -> Result<(), Fail> {
     Ok(())
 }
 
-/// A symbol of the powers, which lie in two pieces: so many symbols in the front, and the others. Its code is the table's.
+/// Returns a symbol of these four, which are in two pieces: the first has `cut` of them. Its code comes from the table.
 fn symbol_cut_at(
     rt: &impl Abort,
     alloc: Global,
@@ -144,7 +144,7 @@ fn two_pieces_give_the_symbols_of_one(rt: HostRuntime) -> Result<(), Fail> {
     Ok(())
 }
 
-/// A buffer of a file with two octets.
+/// Returns a buffer with a file of two octets.
 fn file_of(rt: &impl Abort, alloc: Global) -> Result<ObjectBuf, Fail> {
     let name = b"a.txt".to_vec(alloc)?;
     let octets = b"hi".to_vec(alloc)?;
@@ -153,7 +153,7 @@ fn file_of(rt: &impl Abort, alloc: Global) -> Result<ObjectBuf, Fail> {
     Ok(ObjectBuf::whole(alloc, &profile, Kind::File, Some(name), octets)?)
 }
 
-/// What transmission information it has.
+/// The transmission information of that file.
 const FTI: Fti = Fti {
     l: 2,
     e: 64,

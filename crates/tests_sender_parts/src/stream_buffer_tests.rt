@@ -1,4 +1,4 @@
-//! Open streams: what a write answers and which blocks go for room, the segments as they are sent, and parity.
+//! Tests of open streams: what a write answers, which blocks are dropped for room, the segments as they are sent, and parity.
 
 use norm_base::{Datagram, Given, Key, Memory, Profile};
 use std::alloc::Global;
@@ -6,24 +6,25 @@ use std::process::Abort;
 use std::test::Fail;
 use stream_buffer::{StreamBuf, StreamFault};
 
-/// A symbol as it is sent: how many octets it has, and the first nine of them, with zeros behind a shorter one. Of a segment
-/// these are its place (its length, 0, its offset) and its first octet.
+/// A symbol as it is sent: its number of octets and the first nine, padded with zeros. Those of a segment are its header (length, 0,
+/// offset) and its first octet.
 type Sent = (usize, [u8; 9]);
 
-/// A call of a stream, with what it has to answer.
+/// A call of a stream, with its expected answer.
 #[derive(Clone, Copy)]
 enum Step {
-    /// A write of an octet so many times, where the blocks below a number may go.
+    /// Writes an octet this many times. The blocks below the third number may be dropped.
     Write(u8, usize, u32, Result<u32, StreamFault>),
     Cut,
     Close(u32, Result<(), StreamFault>),
-    /// A block and a symbol of it, and that symbol. `None`: it is not there.
+    /// Expects this symbol of a block, or `None` if it is not there.
     Symbol(u32, u8, Option<Sent>),
-    /// The first block, how many segments are closed, and how many octets were written.
+    /// Expects the first block that is left, the number of closed segments, and the number of octets written.
     Has(u32, u32, u32),
 }
 
-/// What a write answers. `None`: it can't be asked, as there are no octets, or a block may go that is not closed.
+/// Returns the answer to a write. `None` if the call's contract does not allow it: there are no octets, or a block may be dropped that is
+/// not closed.
 fn written(
     alloc: Global,
     stream: &mut StreamBuf,
@@ -39,7 +40,7 @@ fn written(
     Ok(Some(stream.write(&octets, may_go)))
 }
 
-/// What the end answers. `None`: it can't be asked, as a block may go that is not closed.
+/// Returns the answer to the end. `None` if the call's contract does not allow it: a block may be dropped that is not closed.
 fn closed(stream: &mut StreamBuf, may_go: u32) -> Option<Result<(), StreamFault>> {
     let sources = stream.plan().source_len(0);
     if u64::from(may_go) * u64::from(sources) > u64::from(stream.segments()) {
@@ -48,7 +49,7 @@ fn closed(stream: &mut StreamBuf, may_go: u32) -> Option<Result<(), StreamFault>
     Some(stream.close(may_go))
 }
 
-/// A symbol as it is sent. `None`: it is not there, or no block has so many.
+/// Returns a symbol as it is sent, or `None` if it is not there, or no block has as many symbols.
 fn sent(alloc: Global, stream: &StreamBuf, block: u32, symbol: u8) -> Result<Option<Sent>, Memory> {
     let mut out = Datagram::new(alloc)?;
     let plan = stream.plan();
@@ -65,7 +66,7 @@ fn sent(alloc: Global, stream: &StreamBuf, block: u32, symbol: u8) -> Result<Opt
     Ok(Some((out.bytes().len(), first)))
 }
 
-/// Makes a call, and says whether it was answered so.
+/// Makes a call. Returns whether it gave the expected answer.
 fn does(alloc: Global, stream: &mut StreamBuf, step: Step) -> Result<bool, Memory> {
     match step {
         Step::Write(octet, len, may_go, answer) => {
@@ -84,7 +85,7 @@ fn does(alloc: Global, stream: &mut StreamBuf, step: Step) -> Result<bool, Memor
     }
 }
 
-/// A profile with symbols, blocks and encoded symbols of these sizes, and room for so many blocks.
+/// Returns a profile with symbols, blocks and encoded symbols of these sizes, and room for this many blocks.
 fn profile_of(rt: &impl Abort, sizes: (u32, u32, u32), blocks: u32) -> Profile {
     let (e, b, max_n) = sizes;
     let mut given = Given::new();
@@ -99,8 +100,7 @@ fn profile_of(rt: &impl Abort, sizes: (u32, u32, u32), blocks: u32) -> Profile {
     Profile::of(&given).expect(rt, "a profile")
 }
 
-/// Makes calls in their order, of a stream for symbols, blocks and encoded symbols of these sizes, with room for so many
-/// blocks.
+/// Makes the calls in order, of one stream with symbols, blocks and encoded symbols of these sizes and room for this many blocks.
 fn play(
     rt: &impl Abort,
     alloc: Global,
@@ -140,7 +140,7 @@ fn blocks_go_for_room_and_no_more(rt: HostRuntime) -> Result<(), Fail> {
     Ok(())
 }
 
-/// Writes of 1, 64 and 65 octets, with a cut behind the first.
+/// Writes of 1, 64 and 65 octets, with a cut after the first.
 const SEGMENTS: [Step; 16] = [
     Step::Write(0x41, 1, 0, Ok(0)),
     Step::Symbol(0, 0, None),
@@ -167,7 +167,7 @@ fn segments_are_sent_with_their_places(rt: HostRuntime) -> Result<(), Fail> {
     Ok(())
 }
 
-/// Of two source symbols the parity symbol is twice the first and three times the second; here 3 * 64 is 192.
+/// If there are two source symbols, the parity symbol is twice the first and three times the second. Here 3 * 64 is 192.
 const PARITY: [Step; 4] = [
     Step::Write(1, 64, 0, Ok(0)),
     Step::Symbol(0, 2, None),
@@ -182,7 +182,7 @@ fn places_are_coded_too(rt: HostRuntime) -> Result<(), Fail> {
     Ok(())
 }
 
-/// Of one source symbol each parity symbol is that symbol, here with zeros behind it.
+/// If there is one source symbol, each parity symbol is the same, here padded with zeros.
 const SHORT: [Step; 3] = [
     Step::Write(0x41, 1, 0, Ok(0)),
     Step::Cut,
@@ -196,7 +196,7 @@ fn parity_of_a_short_segment_is_whole(rt: HostRuntime) -> Result<(), Fail> {
     Ok(())
 }
 
-/// The largest buffer.
+/// A stream with the largest buffer.
 const LARGEST: [Step; 3] = [
     Step::Write(1, 1401, 0, Ok(0)),
     Step::Symbol(0, 0, Some((1408, [5, 120, 0, 0, 0, 0, 0, 0, 1]))),

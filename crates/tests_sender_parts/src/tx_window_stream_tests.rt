@@ -1,4 +1,5 @@
-//! Streams of a window: blocks that go for room, what fills and is cut, what is left to repair, and instances that begin amid one.
+//! Tests of the streams of a window: blocks that are dropped for room, a segment that is cut, what is left to repair, and an instance that
+//! begins within a stream.
 
 use crate::window_steps::{Next, Step, play_under, profile_of};
 use norm_base::{Memory, Mode, Profile};
@@ -7,7 +8,7 @@ use std::alloc::Global;
 use std::process::Abort;
 use std::test::Fail;
 
-/// Makes calls in their order, of a window with room for streams of two blocks, of one segment of 64 octets each.
+/// Makes the calls in order, of a window with room for streams of two blocks, each of one segment of 64 octets.
 fn play_stream(rt: &impl Abort, alloc: Global, mode: Mode, steps: &[Step]) -> Result<(), Memory> {
     let profile = profile_of(rt, mode, (64, 1, 2), (2, 192));
     let profile = Profile {
@@ -17,7 +18,7 @@ fn play_stream(rt: &impl Abort, alloc: Global, mode: Mode, steps: &[Step]) -> Re
     play_under(rt, alloc, &profile, steps)
 }
 
-/// A stream of blocks of one segment each, with room for two, behind an object.
+/// A stream after an object, with blocks of one segment each and room for two. Blocks are dropped once they were sent.
 const GOES: [Step; 24] = [
     Step::Enqueue(0, 1, Ok(0)),
     Step::Opens(Ok(1)),
@@ -55,7 +56,7 @@ fn a_front_goes_for_room(rt: HostRuntime) -> Result<(), Fail> {
     Ok(())
 }
 
-/// The same where all members have to be past what goes.
+/// As `GOES`, in `hold` mode: all members have to be listed past what is dropped.
 const STAYS: [Step; 11] = [
     Step::Opens(Ok(0)),
     Step::Writes(64, Ok((0, 0))),
@@ -80,7 +81,7 @@ fn a_front_stays_until_all_are_past_it(rt: HostRuntime) -> Result<(), Fail> {
     Ok(())
 }
 
-/// What fills is no source symbol until it is cut, and the end is known before.
+/// A segment that is not full is not a source symbol until it is cut, but what the end will be is known before.
 const CUTS: [Step; 14] = [
     Step::EndCut(None),
     Step::Opens(Ok(0)),
@@ -105,8 +106,9 @@ fn what_fills_is_cut_once(rt: HostRuntime) -> Result<(), Fail> {
     Ok(())
 }
 
-/// Of five symbols in blocks of 2, 2 and 1 the encoded ones are 3, 3 and 1; of two with an info 3 and 1; and of a stream's blocks 3
-/// where two segments are closed, else the closed ones. A front that went takes the objects before the stream with it.
+/// What can be repaired. Five symbols in blocks of 2, 2 and 1 have 3, 3 and 1 encoded ones. Two symbols with an info have 3 and 1. A
+/// stream's block has 3 if its two segments are closed, else as many as are closed. If blocks of a stream are dropped, the objects before
+/// it are dropped too.
 const LEFT: [Step; 24] = [
     Step::Repairable(0),
     Step::Enqueue(0, 257, Ok(0)),
@@ -146,8 +148,8 @@ fn what_is_left_to_repair_is_counted(rt: HostRuntime) -> Result<(), Fail> {
     Ok(())
 }
 
-/// Another instance begins in the middle of a stream, and in the middle of a file. Without a stream a write of nothing, or of too much, is
-/// refused for that.
+/// Another instance begins in the middle of a stream, and in the middle of a file. If no stream is open, a write of nothing or of too much
+/// is still refused for its size.
 const MIDDLE: [Step; 17] = [
     Step::Opens(Ok(0)),
     Step::Writes(64, Ok((0, 0))),

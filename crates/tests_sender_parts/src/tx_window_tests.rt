@@ -1,4 +1,4 @@
-//! Objects that are taken in, sent, dropped and refused, and one that goes round the ring's end.
+//! Tests of a window of objects: what is enqueued, sent, dropped and refused, and an object that goes round the end of the ring.
 
 use crate::window_steps::{Next, Step, play};
 use norm_base::Mode;
@@ -21,8 +21,8 @@ fn a_new_window_has_no_symbol(rt: HostRuntime) -> Result<(), Fail> {
     Ok(())
 }
 
-/// The first fault that applies: of no octets, of too many, of too large an info, of a full window; and of a stream whose buffer would
-/// be too large, 16 blocks of four segments.
+/// The first fault that applies: no octets, too many octets, too large an info, a full window. And a stream whose buffer would be too
+/// large: 16 blocks of four segments.
 const OFFERS: [Step; 10] = [
     Step::Opens(Err(EnqueueFault::TooBig { len: 4096 })),
     Step::Enqueue(65, 0, Err(EnqueueFault::Empty)),
@@ -43,7 +43,7 @@ fn the_first_fault_counts(rt: HostRuntime) -> Result<(), Fail> {
     Ok(())
 }
 
-/// A sent object stays until every receiver is listed past it.
+/// An object that was sent stays until every receiver is listed past it.
 const HELD: [Step; 7] = [
     Step::Enqueue(0, 1, Ok(0)),
     Step::Send((0, 0, 0), Some((1, 1))),
@@ -61,7 +61,7 @@ fn an_object_is_held_until_all_are_past_it(rt: HostRuntime) -> Result<(), Fail> 
     Ok(())
 }
 
-/// An object stays until its source symbols and its info were sent; a parity symbol that was not sent is passed over.
+/// An object stays until its source symbols and its info were sent. A parity symbol that was not sent does not keep it.
 const UNSENT: [Step; 10] = [
     Step::Enqueue(3, 128, Ok(0)),
     Step::Send((0, 0, 0), Some((64, 1))),
@@ -82,7 +82,7 @@ fn an_object_is_kept_until_it_was_sent(rt: HostRuntime) -> Result<(), Fail> {
     Ok(())
 }
 
-/// An object for which two would have to go, of which one may.
+/// An object that needs the room of two others, only one of which may be dropped.
 const REFUSED: [Step; 13] = [
     Step::Enqueue(0, 64, Ok(0)),
     Step::Enqueue(0, 64, Ok(1)),
@@ -106,7 +106,7 @@ fn a_refused_object_drops_nothing(rt: HostRuntime) -> Result<(), Fail> {
     Ok(())
 }
 
-/// An object of 257 octets in blocks of 3 and 2 source symbols, before and after it was dropped.
+/// An object of 257 octets in blocks of 3 and 2 source symbols, before and after it is dropped.
 const DROPPED: [Step; 20] = [
     Step::Enqueue(0, 257, Ok(0)),
     Step::Send((0, 0, 2), Some((64, 4))),
@@ -137,7 +137,7 @@ fn a_dropped_object_keeps_its_place(rt: HostRuntime) -> Result<(), Fail> {
     Ok(())
 }
 
-/// A ring of six symbols: the second object lies in the last two and the first two.
+/// A ring of six symbols. The second object is in the last two slots and the first two.
 const ROUND: [Step; 9] = [
     Step::Enqueue(0, 256, Ok(0)),
     Step::SendAll(0),
@@ -157,7 +157,7 @@ fn an_object_goes_round_the_end_of_the_ring(rt: HostRuntime) -> Result<(), Fail>
     Ok(())
 }
 
-/// A ring of 1,499 symbols: the third file, of 749, lies in the last and the first 748.
+/// A ring of 1,499 symbols. The third file, of 749 symbols, is in the last slot and the first 748.
 const THIRD: [Step; 13] = [
     Step::Enqueue(0, 1_048_576, Ok(0)),
     Step::SendAll(0),
@@ -188,7 +188,7 @@ fn a_third_file_goes_round_the_end_of_the_ring(rt: HostRuntime) -> Result<(), Fa
     Ok(())
 }
 
-/// What messages say of objects, and what is new next: infos and symbols in order, one of parity behind each block's sources.
+/// What messages say of objects, and what is new next: infos and symbols in order, with one parity symbol after the sources of each block.
 const NEXT: [Step; 17] = [
     Step::About(0, None),
     Step::NextFrom(0, None),
@@ -216,7 +216,7 @@ fn what_is_new_comes_in_order(rt: HostRuntime) -> Result<(), Fail> {
     Ok(())
 }
 
-/// A restart: nothing is there, and the next object has index 0.
+/// After a restart the window is empty, and the next object has index 0.
 const RESTART: [Step; 9] = [
     Step::Enqueue(0, 128, Ok(0)),
     Step::SendAll(0),

@@ -1,4 +1,5 @@
-//! The calls of a window of which rows are made, and how they are made in their order.
+//! Plays a table of calls of a [`Window`], each with its expected answer. A test lists [`Step`]s and gives them to [`play`] or
+//! [`play_under`].
 
 use fec_plan::Position;
 use norm_base::{Datagram, Given, Key, Kind, Memory, Mode, Octets, Profile};
@@ -8,7 +9,7 @@ use std::marker::Model;
 use std::process::Abort;
 use tx_window::{About, Window};
 
-/// A window that stands for some state of a sender, so that what it answers can be noted as sent.
+/// A window whose contents are always those of some state of a sender, so that what it sends can be noted.
 #[derive(Drop)]
 struct Standing {
     window: Window,
@@ -34,7 +35,7 @@ impl Standing {
         Ok(standing)
     }
 
-    /// The index of an object, or why it is refused.
+    /// Enqueues an object. Returns its index, or why it is refused.
     fn enqueue(
         &mut self,
         kind: Kind,
@@ -47,7 +48,7 @@ impl Standing {
         }
     }
 
-    /// Sends a symbol: it is the datagram, and noted as sent.
+    /// Puts a symbol into the datagram and notes it as sent. Returns its octets, or `None` if it is not in the window.
     fn send(&mut self, at: Position, out: &mut Datagram) -> Option<u16> {
         out.clear();
         let Some(octets) = self.window.symbol(at, out) else {
@@ -57,7 +58,7 @@ impl Standing {
         Some(octets)
     }
 
-    /// Sends an info, where there is one.
+    /// Notes an info as sent. Returns whether the object has one in the window.
     fn send_info(&mut self, index: u32) -> bool {
         if self.window.info(index).is_none() {
             return false;
@@ -90,7 +91,7 @@ impl Standing {
         self.window.end_cut()
     }
 
-    /// How many streams there are, and how many segments of the last one are closed.
+    /// Returns how many streams there are, and how many segments of the last one are closed.
     fn streams(&self) -> (u32, u32) {
         (self.window.streams(), self.window.segments())
     }
@@ -99,7 +100,7 @@ impl Standing {
         self.window.repairable()
     }
 
-    /// Begins a file, of which a piece comes and so many octets are missing as another instance begins. Whether it was begun.
+    /// Begins a file, fills in a piece of it, and clears the window while `missing` octets have not come. Returns whether it was begun.
     fn cut_short(&mut self, name: Octets, piece: &[u8], missing: u32) -> bool {
         let len = piece.len() as u64 + u64::from(missing);
         match self.window.begin(Kind::File, Some(name), len) {
@@ -148,7 +149,7 @@ impl Standing {
     }
 }
 
-/// A position: the object's index, the block and the symbol.
+/// A position: the index of the object, the block, and the symbol.
 pub type At = (u32, u16, u8);
 
 fn position(at: At) -> Position {
@@ -160,44 +161,44 @@ fn position(at: At) -> Position {
     }
 }
 
-/// A call of a window, with what it has to answer.
+/// A call of a window, with its expected answer.
 #[derive(Clone, Copy)]
 pub enum Step {
-    /// An object with an info of so many octets (0: without one), of so many octets.
+    /// Enqueues an object: the octets of its info, 0 if it has none, and its own octets.
     Enqueue(usize, usize, Result<u32, EnqueueFault>),
-    /// A symbol is sent: how many octets it has, and the first of them.
+    /// Sends a symbol. Expects its number of octets, and the first of them.
     Send(At, Option<(u16, u8)>),
-    /// All source symbols of an object are sent.
+    /// Sends all source symbols of an object.
     SendAll(u32),
     SendInfo(u32, bool),
     Past(At),
     IsSource(At, bool),
     First(u32),
-    /// The first entry and the first block of it.
+    /// Expects the first entry, and the first block that is left of it.
     Front(u32, u32),
     Opens(Result<u32, EnqueueFault>),
-    /// So many octets are written: the index and the offset.
+    /// Writes this many octets. Expects the index of the stream and the offset.
     Writes(usize, Result<(u32, u32), EnqueueFault>),
     Cut,
     Closes(Result<u32, EnqueueFault>),
-    /// The last closed segment once the open stream is cut.
+    /// Expects the last closed segment if the open stream were cut.
     EndCut(Option<At>),
-    /// How many streams there are, and how many segments of the last one are closed.
+    /// Expects how many streams there are, and how many segments of the last one are closed.
     Streams(u32, u32),
-    /// How many infos and encoded symbols there are.
+    /// Expects how many infos and encoded symbols can be repaired.
     Repairable(u64),
-    /// A file of which so many octets come, and so many are missing as another instance begins. Whether it was begun.
+    /// Begins a file of which this many octets come, and this many are missing as the window is cleared. Expects whether it was begun.
     CutShort(usize, u32, bool),
     End(Option<At>),
-    /// The length and the flags that messages say of an object, and its blocks.
+    /// Expects the length and flags that messages say of an object, and its number of blocks.
     About(u32, Option<(u64, u8, u32)>),
-    /// What is new next from an object's info on, or from a symbol on.
+    /// Expects what is new next from an object's info on, or from a symbol on.
     NextFrom(u32, Option<Next>),
     NextAt(At, Option<Next>),
-    /// The fault of an offer that is not made.
+    /// Expects the fault of an object that is only asked about: the octets of its info, and its own.
     Fault(usize, u64, Option<EnqueueFault>),
     Clear,
-    /// So many objects of one octet are taken in and sent, one after the other.
+    /// Enqueues and sends this many objects of one octet, one after the other.
     Many(u32),
 }
 
@@ -215,7 +216,7 @@ fn want_of(next: Next) -> Want {
     }
 }
 
-/// The octets of an object: 1 in all of its first symbol, 2 in the next, and so on up to 128, and again.
+/// Returns the octets of an object: 1 in all of its first symbol, 2 in the next, and so on up to 128, and again.
 fn octets_of(alloc: Global, e: usize, len: usize) -> Result<Octets, Memory> {
     let mut octets = vec![in alloc; 0; len]?;
     for (place, octet) in octets.iter_mut().enumerate() {
@@ -225,7 +226,7 @@ fn octets_of(alloc: Global, e: usize, len: usize) -> Result<Octets, Memory> {
     Ok(Octets::of(octets))
 }
 
-/// Enqueues an object with an info of so many octets, of so many octets.
+/// Enqueues an object. `sizes` are the octets of its info, 0 if it has none, and its own.
 fn offer(
     alloc: Global,
     window: &mut Standing,
@@ -241,7 +242,7 @@ fn offer(
     Ok(window.enqueue(Kind::File, name, bytes))
 }
 
-/// Where there was no memory for it, the same is asked again: the window is as it was, and answers what it does with memory.
+/// Enqueues an object, and tries again if memory ran out: the window is unchanged then, and answers as it does with memory.
 fn enqueued(
     alloc: Global,
     window: &mut Standing,
@@ -253,7 +254,7 @@ fn enqueued(
     }
 }
 
-/// The same of a stream that is opened.
+/// Opens a stream, and tries again if memory ran out.
 fn opened(window: &mut Standing) -> Result<u32, EnqueueFault> {
     match window.open_stream() {
         Err(EnqueueFault::Memory) => window.open_stream(),
@@ -261,7 +262,7 @@ fn opened(window: &mut Standing) -> Result<u32, EnqueueFault> {
     }
 }
 
-/// And of a file that is begun and cut short, where nothing but memory was in its way.
+/// Begins a file and cuts it short, and tries again if only memory was missing.
 fn cut_short(
     alloc: Global,
     window: &mut Standing,
@@ -276,7 +277,7 @@ fn cut_short(
     Ok(window.cut_short(octets_of(alloc, 1, 1)?, piece, missing))
 }
 
-/// How many octets a symbol is sent with, and the first of them.
+/// Sends a symbol. Returns its number of octets and the first of them.
 fn sent(alloc: Global, window: &mut Standing, at: At) -> Result<Option<(u16, u8)>, Memory> {
     let mut out = Datagram::new(alloc)?;
     let octets = window.send(position(at), &mut out);
@@ -296,7 +297,7 @@ fn send_all(alloc: Global, window: &mut Standing, index: u32) -> Result<(), Memo
     Ok(())
 }
 
-/// The length, the flags and the blocks of an object.
+/// Returns the length, the flags and the number of blocks of an object.
 fn says(window: &Standing, index: u32) -> Option<(u64, u8, u32)> {
     match (window.about(index), window.blocks(index)) {
         (Some(about), Some(blocks)) => Some((about.fti.l, about.flags, blocks)),
@@ -304,7 +305,7 @@ fn says(window: &Standing, index: u32) -> Option<(u64, u8, u32)> {
     }
 }
 
-/// Takes in objects of one octet, and sends each.
+/// Enqueues objects of one octet, and sends each.
 fn send_many(alloc: Global, window: &mut Standing, count: u32) -> Result<(), Memory> {
     let mut out = Datagram::new(alloc)?;
     for _ in 0..count {
@@ -315,7 +316,7 @@ fn send_many(alloc: Global, window: &mut Standing, count: u32) -> Result<(), Mem
     Ok(())
 }
 
-/// Makes a call of the open stream, or of a file that is cut short, and says whether it was answered so.
+/// Makes a call of the open stream, or of a file that is cut short. Returns whether it gave the expected answer.
 fn does_stream(alloc: Global, window: &mut Standing, step: Step) -> Result<bool, Memory> {
     match step {
         Step::Opens(answer) => Ok(opened(window) == answer),
@@ -336,7 +337,7 @@ fn does_stream(alloc: Global, window: &mut Standing, step: Step) -> Result<bool,
     }
 }
 
-/// Makes a call, and says whether it was answered so.
+/// Makes a call. Returns whether it gave the expected answer.
 fn does(alloc: Global, window: &mut Standing, step: Step) -> Result<bool, Memory> {
     match step {
         Step::Enqueue(info, len, answer) => Ok(enqueued(alloc, window, (info, len))? == answer),
@@ -379,7 +380,8 @@ fn does(alloc: Global, window: &mut Standing, step: Step) -> Result<bool, Memory
     }
 }
 
-/// A profile with symbols, blocks and encoded symbols of these sizes, and at most so many objects and octets.
+/// Returns a profile. `sizes` are the octets of a symbol and the source and encoded symbols of a block, `most` the most objects and octets
+/// of the window.
 pub fn profile_of(
     rt: &impl Abort,
     mode: Mode,
@@ -402,7 +404,7 @@ pub fn profile_of(
     Profile { mode, ..profile }
 }
 
-/// Makes calls in their order, of a window under a profile.
+/// Makes the calls in order, of one window under a profile. A wrong answer fails the test.
 pub fn play_under(
     rt: &impl Abort,
     alloc: Global,
@@ -417,8 +419,7 @@ pub fn play_under(
     Ok(())
 }
 
-/// Makes calls in their order, of a window for symbols, blocks and encoded symbols of these sizes, and at most so many objects
-/// and octets.
+/// As `play_under`, with a profile of these sizes.
 pub fn play(
     rt: &impl Abort,
     alloc: Global,
