@@ -1,5 +1,5 @@
-//! Blocks and symbols in transport order, and which of two is before the other. Watermarks, acknowledgements, drop points and repairs are
-//! all told with these.
+//! Blocks and symbols in transport order, and which of two is before the other. Watermarks, acknowledgements, drop points and repairs all
+//! name them.
 
 ghost use Rattle.std.specs.Prelude.{◌≡◌, ◌&&◌, ℕ};
 ghost use Rattle.fec_plan.specs.Points.{Position as Place, point_of, point_before, position_before, same_point, same_position, reaches, reached_by, nearer, further, further_point};

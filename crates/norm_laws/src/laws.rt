@@ -24,8 +24,8 @@ pub fn all_is_handed_up()
     ensures { AllIsHandedUp }
 {}
 
-/// In a session of data and files, the counts are bounded by the script's commands and the profile's receivers and octets. So they fit 64
-/// bits.
+/// In a session of data and files whose takes are honest, the counts are bounded by the script's commands and the profile's receivers and
+/// octets. So they fit 64 bits.
 pub fn counts_of_a_session_fit()
     ensures { CountsOfASessionFit }
 {}

@@ -1,5 +1,4 @@
-//! Computes the source symbols of a block from any k of its symbols (RFC 5510 section 8.3). Receivers call it as soon as they hold k
-//! symbols.
+//! Computes the source symbols of a block from any k of its symbols (RFC 5510 section 8.3). Receivers call it when a block has k symbols.
 
 ghost use Rattle.std.specs.Prelude.{◌≡◌, ◌≤◌, ◌*◌, IfOk, length, map};
 ghost use Rattle.norm_base.specs.Octets.{AreOctets};

@@ -50,11 +50,12 @@ fn block_before(block: u32, end: u32) -> Option<u32>
 }
 
 impl Shorts {
-    /// Returns the window of blocks 0 to `count - 1`, all short. One block, or none, takes no memory, others eight octets each.
+    /// Returns the window of blocks 0 to `count - 1`, all short. One block, or none, takes no memory. More take eight octets for each
+    /// block.
     ///
     /// # Errors
     ///
-    /// `Memory` if memory runs out.
+    /// `Memory` if memory runs out. It cannot for one block or none.
     pub fn new(alloc: Global, count: u32) -> Result<Shorts, Memory>
         ensures all { IfOk result (λ shorts. shorts ≡ all_short count) }
         ensures free { count ≤ 1 → IsOk result }

@@ -344,7 +344,7 @@ fn what_is_there_of_streams_before_the_window_is_handed_up(rt: HostRuntime) -> R
     Ok(())
 }
 
-/// If a stream says that it has an info, it waits for it, even at a squelch that its next segment would survive.
+/// If a stream says that it has an info, it waits for it, even at a squelch, if its next segment is held.
 const WITH_INFO: [Step; 11] = [
     Step::Fit(0, (0, 64, 3, 5), 36, Fit::Taken),
     Step::Segment((0, 0, 0), (1, 0, 7), 9, Put::Kept),

@@ -125,7 +125,7 @@ fn does(
 }
 
 /// Returns a profile with segments of 64 octets, blocks of two with three encoded symbols, and room for two blocks. The mode is `hold` if
-/// `hold` says so, else `drop`.
+/// `hold` is 0, else `drop`.
 fn profile_of(rt: &impl Abort, hold: u32) -> Profile {
     let mut given = Given::new();
     for (key, value) in [

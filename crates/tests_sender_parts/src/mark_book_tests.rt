@@ -304,7 +304,8 @@ fn a_restart_cuts_watermarks_and_forgets_listings(rt: HostRuntime) {
     play(&rt, &mut book, &calls);
 }
 
-/// Receivers 2, 3 and 4. A quorum is met by any this many members. It is refused if it is 0 or more than there are receivers.
+/// Receivers 2, 3 and 4. A quorum is met by that many members, whichever they are. It is refused if it is 0 or more than there are
+/// receivers.
 const QUORUMS: [Call; 16] = [
     Call::Quorum(0, None, Err(MarkFault::Quorum { q: 0 })),
     Call::Quorum(4, Some((0, 0)), Err(MarkFault::Quorum { q: 4 })),

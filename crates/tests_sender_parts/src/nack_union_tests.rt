@@ -1,5 +1,5 @@
-//! Tests of unions of one object or stream: what rounds of requests make wanted, requests that come too late, a stream whose first block
-//! went, and the largest object.
+//! Tests of unions of one object or stream: what rounds of requests make wanted, requests for what is before the window, a stream whose
+//! first block was dropped, and the largest object.
 
 ghost use Rattle.std.specs.Prelude.{◌≡◌, ◌<◌, ◌^◌, ◌∷◌, [], false, true};
 ghost use Rattle.norm_base.specs.Settings.{defaults};

@@ -48,7 +48,7 @@ impl Standing {
         }
     }
 
-    /// Puts a symbol into the datagram and notes it as sent. Returns its octets, or `None` if it is not in the window.
+    /// Puts a symbol into the datagram and notes it as sent. Returns its number of octets, or `None` if it is not in the window.
     fn send(&mut self, at: Position, out: &mut Datagram) -> Option<u16> {
         out.clear();
         let Some(octets) = self.window.symbol(at, out) else {
