@@ -681,6 +681,7 @@ unsent() {
 }
 
 unsent 1 'no key is set here: keys are set before every command' 'set e 64\n1 data 61\n'
+unsent 1 'no key is set here: keys are set before every command' 'set producers 2\n1 data 61\n'
 unsent 3 "$contents" '1 data 61\n1 open\n1 data 6\n'
 unsent 2 'the producer is 2, and there are 1' '\n2 data 61\n'
 

@@ -102,6 +102,7 @@ impl HubRun {
         self.begin_turn(number, clock);
         pass_all(fabric, datagram)
     }
+
     fn last_turn(&self) -> u32
         ensures { result ≡ self.entry.now.p.turns }
     {

@@ -65,6 +65,7 @@ impl ReceiverRun {
         self.answer(fabric, datagram)?;
         Ok(())
     }
+
     fn last_turn(&self) -> u32
         ensures { result ≡ self.entry.now.p.turns }
     {

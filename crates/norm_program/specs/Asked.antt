@@ -1,12 +1,10 @@
 -- What is to be run of the input: the script of a session, with what the words put in place of its keys, or that of a sender whose
 -- profile is given.
-use Rattle.std.specs.Prelude.{◌≡◌, ℕ, List, ◌++◌, Bool, true, false, Option, Some, Result, Ok, Err, codes, unwrap_or}
-use Rattle.std.specs.Fmt.{decimal}
+use Rattle.std.specs.Prelude.{◌≡◌, ℕ, List, Bool, true, false, Option, Result, Ok, Err, unwrap_or}
 use Rattle.std.specs.Result.{result_map_both}
 use Rattle.norm_base.specs.Settings.{Settings}
 use Rattle.norm_script.specs.Commands.{Commands}
 use Rattle.norm_script.specs.Reading.{script_of, commands_of}
-use Rattle.norm_script.specs.Refused.{refused_number}
 use Rattle.norm_script.specs.declared.refusal.Refusal.{Refusal}
 use Rattle.norm_args.specs.declared.tasks.Options.{Options}
 
@@ -24,18 +22,6 @@ script_with options script = record script { profile = profile_with options scri
 -- what a session with these options is to run of a text: the script that it is, or the first line without meaning
 abbrev pub script_asked : Options → List ℕ → Result Commands Refusal
 script_asked options text = result_map_both (script_with options) (λ refusal. refusal) (script_of text)
-
--- the line of the one key that commands go by: how many producers there are
-unfoldable pub producers_line : Settings → List ℕ
-producers_line p = codes "set producers " ++ (decimal p.producers ++ codes "\n")
-
--- a text behind that line
-abbrev pub under : Settings → List ℕ → List ℕ
-under p text = producers_line p ++ text
-
--- a line is the first that has no meaning for the profile, as one that sets a key has none
-abbrev pub IsUnsendable : Settings → List ℕ → Refusal → Type 0
-IsUnsendable p text refusal = refused_number (commands_of p text) ≡ Some refusal.line
 
 -- What is to be run: a session of all members with these options, or the sender of this profile alone.
 pub data Asked : Type 0 where
@@ -55,4 +41,4 @@ IsAsked (Sender p) text script = commands_of p text ≡ Ok script
 -- a text has this line that is not run
 abbrev pub IsRefusedLine : Asked → List ℕ → Refusal → Type 0
 IsRefusedLine (Members options) text refusal = script_of text ≡ Err refusal
-IsRefusedLine (Sender p) text refusal = IsUnsendable p text refusal
+IsRefusedLine (Sender p) text refusal = commands_of p text ≡ Err refusal

@@ -1,8 +1,8 @@
 //! Reads the script of a sender whose profile is given. `send` calls [`prepare_commands`].
 
-ghost use Rattle.std.specs.Prelude.{◌≡◌, string_bytes, Ok, IfOk, IfErr, OnOk};
+ghost use Rattle.std.specs.Prelude.{◌≡◌, Err, Ok, IfOk, IfErr, OnOk};
 ghost use Rattle.norm_base.specs.Settings.{InRange};
-ghost use Rattle.norm_program.specs.Asked.{producers_line, under, IsUnsendable, Sender};
+ghost use Rattle.norm_program.specs.Asked.{Sender};
 ghost use Rattle.norm_program.specs.Ends.{EndsEarly, IsTextEnding, Prepared};
 ghost use Rattle.norm_script.specs.Reading.{commands_of};
 ghost use Rattle.norm_script.specs.Scripts.{CanRun};
@@ -11,40 +11,8 @@ use crate::input::read_input;
 use crate::last_line::{refused_line, say};
 use crate::status::Ending;
 use norm_base::{Memory, Profile, Sink, Source};
-use norm_script::{MOST_LINES, Refusal, Script, ScriptFault, Why, read, read_commands};
-use std::alloc::{AllocError, Global};
-
-/// The line that sets `producers`, the only key that decides which commands are read.
-#[tactic(auto, unfolding(crate::specs::Asked::producers_line))]
-fn producers_line(alloc: Global, profile: &Profile) -> Result<String, AllocError>
-    ensures { IfOk result (λ line. string_bytes line ≡ producers_line profile.now) }
-{
-    let producers = profile.producers;
-    format!(in alloc; "set producers {producers}\n")
-}
-
-/// The line that sets `producers`, and the text after it.
-fn under(alloc: Global, profile: &Profile, text: &[u8]) -> Result<Vec<u8>, AllocError>
-    ensures { IfOk result (λ all. all.items ≡ under profile.now text.now) }
-{
-    let line = producers_line(alloc, profile)?;
-    let mut all = Vec::from_slice(alloc, line.as_bytes())?;
-    all.extend_from_slice(text)?;
-    Ok(all)
-}
-
-/// Why line `n` has no meaning. Reads the text again, as a script that begins by setting `producers`. If that script is refused at this line too,
-/// its reason is the answer. Otherwise the line sets a key. A line beyond the most lines is one too many.
-fn why_of(alloc: Global, profile: &Profile, text: &[u8], n: u32) -> Result<Why, Memory> {
-    if n > MOST_LINES {
-        return Ok(Why::ManyLines);
-    }
-    let all = under(alloc, profile, text)?;
-    match read(alloc, &all)? {
-        Err(refusal) if refusal.line.saturating_sub(1) == n => Ok(refusal.why),
-        _ => Ok(Why::AfterCommand),
-    }
-}
+use norm_script::{Refusal, Script, read_under};
+use std::alloc::Global;
 
 // Proof: a profile's numbers are in their ranges, once one of them is read.
 fn is_in_range(profile: &Profile)
@@ -64,18 +32,15 @@ fn commands_in(
     text: &[u8],
 ) -> Result<Result<Script, Refusal>, Memory>
     ensures script { IfOk result (λ read. IfOk read (λ script. (commands_of profile.now text.now ≡ Ok script) × CanRun script)) }
-    ensures refused { IfOk result (λ read. IfErr read (IsUnsendable profile.now text.now)) }
+    ensures refused { IfOk result (λ read. IfErr read (λ refusal. commands_of profile.now text.now ≡ Err refusal)) }
 {
-    match read_commands(alloc, text, profile) {
+    let read = read_under(alloc, text, profile)?;
+    match read {
         Ok(script) => {
             is_in_range(profile);
             Ok(Ok(script))
         }
-        Err(ScriptFault::Line { n }) => {
-            let why = why_of(alloc, profile, text, n)?;
-            Ok(Err(Refusal { line: n, why }))
-        }
-        Err(ScriptFault::Memory) => Err(Memory),
+        Err(refusal) => Ok(Err(refusal)),
     }
 }
 

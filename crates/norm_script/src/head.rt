@@ -16,7 +16,7 @@ use std::marker::Model;
 
 /// The most lines of a script.
 // Our own choice: twice as many as commands, for settings, comments and empty lines. A line more is refused with `ManyLines`.
-pub const MOST_LINES: u32 = 8192;
+pub(crate) const MOST_LINES: u32 = 8192;
 
 /// The settings of a head so far, and the first line that is refused. Each line is taken in with [`take_line`](Head::take_line).
 #[derive(Drop)]

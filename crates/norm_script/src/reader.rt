@@ -1,4 +1,4 @@
-//! Reads scripts: [`read`] one that sets its own profile, [`read_commands`] one whose profile is given. The program calls both.
+//! Reads scripts: [`read`] one that sets its own profile, [`read_under`] one whose profile is given. The program calls both.
 
 ghost use Rattle.std.specs.Prelude.{◌≡◌, ◌+◌, ◌≤◌, ◌==◌, count_by, length, MatchResult, Ok, IfOk};
 ghost use Rattle.std.specs.Result.{result_err};
@@ -165,16 +165,31 @@ pub fn read_script(alloc: Global, text: &[u8]) -> Result<Script, ScriptFault>
     }
 }
 
+/// Reads a script whose profile is given. A line that sets a key is refused. Returns the first line without meaning, and why it has none, if
+/// there is one.
+///
+/// # Errors
+///
+/// `Memory` if memory runs out.
+pub fn read_under(
+    alloc: Global,
+    text: &[u8],
+    profile: &Profile,
+) -> Result<Result<Script, Refusal>, Memory>
+    ensures { IfOk result (λ read. read ≡ commands_of profile.now text.now) }
+{
+    read_from(alloc, *profile, 1, text)
+}
+
 /// Reads a script whose profile is given. A line that sets a key is refused.
 ///
 /// # Errors
 ///
 /// `Line` with the number of the first line without meaning, or `Memory` if memory runs out.
-// It answers the line alone. Why the line has no meaning is found by a second reading, since only people need to know it.
 pub fn read_commands(alloc: Global, text: &[u8], profile: &Profile) -> Result<Script, ScriptFault>
     ensures { MatchResult result (λ script. commands_of profile.now text.now ≡ Ok script) (IsRefused (commands_of profile.now text.now)) }
 {
-    match read_from(alloc, *profile, 1, text) {
+    match read_under(alloc, text, profile) {
         Ok(Ok(script)) => Ok(script),
         Ok(Err(refusal)) => Err(ScriptFault::Line { n: refusal.line }),
         Err(Memory) => Err(ScriptFault::Memory),
