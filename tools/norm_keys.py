@@ -11,18 +11,15 @@ from norm_wire import ToolFault
 
 ROOT = os.path.join(os.path.dirname(os.path.abspath(__file__)), '..')
 TABLE = os.path.join(ROOT, 'crates', 'norm_base', 'specs', 'Keys.antt')
-BUILT = os.path.join(ROOT, 'crates', 'norm_script', 'specs', 'Built.antt')
-NUMBERS = re.compile(r'^row_of key\.(\w+) = number_row (\d+) \(codes "(\w+)"\) (\d+) (\d+) (\d+)$', re.M)
-WORDS = re.compile(r'^row_of key\.(\w+) = word_row (\d+) \(codes "(\w+)"\) \((.*)\)$', re.M)
+NUMBERS = re.compile(r'^row_of key\.\w+ = number_row (\d+) \(codes "(\w+)"\) (\d+) (\d+) (\d+)$', re.M)
+WORDS = re.compile(r'^row_of key\.\w+ = word_row (\d+) \(codes "(\w+)"\) \((.*)\)$', re.M)
 ROWS = re.compile(r'^row_of key\.', re.M)
 MOST_BUFFERED = 16_777_216
 
 
 @dataclass(frozen=True)
 class Key:
-    """A key: its name in the definitions and in scripts, its least and greatest value and its default; of a key of words, its
-    words, from 0."""
-    variant: str
+    """A key: its name, its least and greatest value and its default; of a key of words, its words, from 0."""
     name: str
     least: int
     greatest: int
@@ -34,25 +31,13 @@ class Key:
 def keys() -> list[Key]:
     """All keys in their order."""
     text = wire.text_of(TABLE, wire.read_file(TABLE))
-    rows = {int(at): Key(variant, name, int(least), int(greatest), int(default))
-            for variant, at, name, least, greatest, default in NUMBERS.findall(text)}
-    for variant, at, name, listed in WORDS.findall(text):
+    rows = {int(at): Key(name, int(least), int(greatest), int(default)) for at, name, least, greatest, default in NUMBERS.findall(text)}
+    for at, name, listed in WORDS.findall(text):
         words = tuple(re.findall(r'codes "(\w+)"', listed))
-        rows[int(at)] = Key(variant, name, 0, len(words) - 1, 0, words)
+        rows[int(at)] = Key(name, 0, len(words) - 1, 0, words)
     if not rows or sorted(rows) != list(range(len(ROWS.findall(text)))):
         raise ToolFault(f'{TABLE} is no table of keys as this tool reads it.')
     return [rows[at] for at in sorted(rows)]
-
-
-@functools.cache
-def unbuilt() -> list[str]:
-    """The keys that a script of today cannot set (crates/norm_script/specs/Built.antt says which it can)."""
-    if not os.path.exists(BUILT):
-        return []
-    text = wire.text_of(BUILT, wire.read_file(BUILT))
-    rows = dict(re.findall(r'^is_built_key (key(?:\.\w+)?) = (true|false)$', text, re.M))
-    others = rows.get('key', 'true')
-    return [key.name for key in keys() if rows.get(f'key.{key.variant}', others) == 'false']
 
 
 def defaults() -> dict[str, int]:
