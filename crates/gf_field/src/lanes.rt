@@ -106,7 +106,7 @@ fn four_times(lanes: u8x16) -> u8x64
     lanes.swizzle(FOUR_TIMES)
 }
 
-/// Returns sixteen lanes: all ones in the last `count` of them, and zeros before.
+/// Returns the mask of the last `count` lanes: all ones in them, and zeros before. One read from `EDGE`, so nothing is computed.
 #[inline(always)]
 fn last_lanes(count: usize) -> u8x16
     requires { count < 16 }
@@ -234,7 +234,7 @@ impl Multiples {
         requires { length dst.old ≡ length src.now }
         ensures { (c : ℕ) → HasProducts 16 c self.now.low self.now.high → IsAdded c 0 (length dst.old) dst.old src.now dst.new }
     {
-        // Only here no lane of sixteen lies within the octets, so they are copied.
+        // Fewer than sixteen octets fill no lane, so they are copied into one.
         if dst.len() < 16 {
             self.add_few(dst, src);
             return;

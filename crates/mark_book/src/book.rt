@@ -71,7 +71,7 @@ impl Book {
         ensures begun { IfOk result (λ book. book ≡ begun_book (once_each nodes.now)) }
         ensures stands { IfOk result (λ book. (p : Settings) (instance : ℕ) → nodes.now ≡ receivers_of p p.receivers → Stands p book (sender_opening p instance)) }
     {
-        // Room for each receiver from the start: an acknowledgement has no answer for want of memory.
+        // Room for each receiver from the start: who hears an acknowledgement cannot report that memory ran out.
         let untold = Vec::with_capacity(alloc, nodes.len())?;
         let listings = Listings::begun(alloc, nodes)?;
         Ok(Book {

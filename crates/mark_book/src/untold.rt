@@ -21,7 +21,7 @@ pub fn put_node(nodes: &mut Vec<NodeId>, node: NodeId)
             return;
         }
     }
-    // It does not fail, as above.
+    // It does not fail: the clause says that the list has room for one more node.
     nodes.push(node).unwrap();
 }
 

@@ -13,7 +13,7 @@ use std::alloc::Global;
 use std::marker::Model;
 
 /// The most watermarks that 32 bits can number.
-// A number has 32 bits. One more is answered by want of memory: so many watermarks take more than 80 GB.
+// A number has 32 bits. One more is answered by `Memory`: so many watermarks take more than 80 GB.
 const MOST_WATERMARKS: usize = 4_294_967_295;
 
 /// All watermarks that were ever made.
@@ -111,8 +111,7 @@ impl Watermarks {
     }
 
     /// Satisfies each open watermark that enough members are past.
-    // Proof: only those from done on are written. The rule leaves those before as they are (rest_written), and the open ones are counted as they
-    // are written.
+    // Proof: only those from done on are written. The rule leaves those before as they are (rest_written).
     pub fn settle(&mut self, listings: &Listings)
         requires { length listings.now < 2 ^ 32 }
         ensures settled { self.new ≡ map (settled_by listings.now) self.old }
@@ -202,7 +201,7 @@ fn count_untold(watermarks: &[Watermark]) -> usize
         .count()
 }
 
-/// Returns the first open watermark. `None` if none is open.
+/// Returns the first open watermark. It is the oldest, since the list is in the order of their numbers. `None` if none is open.
 fn first_open(watermarks: &[Watermark]) -> Option<Watermark>
     ensures { result ≡ find (λ k. is_none k.ended) watermarks.now }
 {

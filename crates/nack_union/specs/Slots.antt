@@ -1,5 +1,5 @@
 -- The slots of an object: its info first, and then block by block 256 symbols, in the order in which repairs are sent
--- (RFC 5740 section 5.2).
+-- (RFC 5740 section 5.1).
 use Rattle.std.specs.Prelude.{ℕ, zero, suc, ◌+◌, ◌*◌, ◌/◌, ◌%◌, ◌<◌, Bool, true, not, nat_lt}
 use Rattle.fec_plan.specs.Points.{position}
 use Rattle.norm_send_rules.specs.declared.want.Want.{Want}

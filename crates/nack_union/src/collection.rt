@@ -59,7 +59,7 @@ pub struct Collection {
     high: usize,
     earliest: Option<Point>,
     quiet: usize,
-    // Exact, so what is idle needs no flag beside the sets, and an idle `next` costs one comparison.
+    // Exact, because `next` and `is_wanted` answer by it alone, without a look at the objects.
     wanting: usize,
 }
 

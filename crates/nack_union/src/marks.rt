@@ -30,7 +30,7 @@ use symbol_mask::Mask;
 ///
 /// Of the open round it keeps the slots that the round asks for, and the greatest count of each block. If `is_asked` is `false`, the round asks
 /// for nothing. All sets and counts are numbered from the first kept block on.
-// An object of which the round asks for nothing (`is_asked`) has no asked slots and no counts, and every set has 256 slots for each block that has
+// If `is_asked` is false, the object has no asked slots (its info's neither) and no counts, and every set has 256 slots for each block that has
 // room. Otherwise a closing would pass over an object of which something is asked for, or a slot would lie past its set.
 #[derive(Debug, Drop)]
 pub struct Marks {

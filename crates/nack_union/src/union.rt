@@ -39,7 +39,7 @@ use std::marker::Model;
 /// 5. [`retire`](Union::retire) what the window drops.
 ///
 /// [`clear`](Union::clear) begins another instance.
-// The profile stands beside the collection and not in it: the laws of a collection then hold of any profile.
+// Proof: the profile stands beside the collection and not in it. The laws of a collection then hold of any profile.
 #[derive(Debug, Drop)]
 pub struct Union {
     profile: Profile,

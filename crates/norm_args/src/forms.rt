@@ -68,7 +68,7 @@ pub(crate) fn hub_form<'a>(alloc: Global) -> Result<Command<'a>, AllocError>
 }
 
 /// Whether memory ran out.
-// `clap` takes memory to refuse, so want of memory may come in place of a refusal.
+// `clap` takes memory to refuse, so `Memory` may come in place of a refusal.
 fn is_memory(error: &Error) -> bool
     ensures { Decides result (kind_of error.now ≡ ErrorKind.OutOfMemory) }
 {

@@ -16,7 +16,7 @@ pub const DATAGRAM_ROOM: usize = 1500;
 pub const SYMBOL_ROOM: usize = 1408;
 
 /// A datagram of at most 1,500 octets. Only [`new`](Datagram::new) takes memory: room for all 1,500.
-// All memory is taken by `new`: a tick writes a datagram, and has no answer for want of memory.
+// All memory is taken by `new`: a tick writes a datagram, and cannot report that memory ran out.
 #[derive(Debug, Drop)]
 pub struct Datagram {
     bytes: Vec<u8>,

@@ -151,7 +151,7 @@ impl Key {
             Key::B => numbers("b", 1, 200, 64),
             Key::MaxN => numbers("max_n", 1, 255, 96),
             Key::Auto => numbers("auto", 0, 255, 0),
-            // A receiver has as many places for objects from the hand-up point on.
+            // A receiver has as many slots for objects from the hand-up point on.
             Key::Window => numbers("window", 1, 256, 256),
             // 2^24: the objects of a window lie in one ring, and a receiver takes an object's memory with its plan.
             Key::Octets => numbers("octets", 1, 16_777_216, 16_777_216),

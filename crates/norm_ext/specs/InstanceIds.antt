@@ -1,4 +1,4 @@
--- Instance ids (RFC 5740 section 4.1): 16 bits that go round, of which a sender takes one above the other.
+-- Instance ids (RFC 5740 section 4.2.1): 16 bits that go round, of which a sender takes one above the other.
 use Rattle.std.specs.Prelude.{ℕ, ◌&&◌, Bool, nat_le}
 use Rattle.norm_ext.specs.ObjectIds.{ids_from}
 

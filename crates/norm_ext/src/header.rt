@@ -135,7 +135,7 @@ pub fn check_extensions(bytes: &[u8], from: usize, end: usize) -> Result<&[u8], 
     ensures exact { MatchResult result
         (λ exts. (header_extensions_checked from bytes.now ≡ Ok tt) × (exts.now ≡ header_from from bytes.now))
         (λ refusal. header_extensions_checked from bytes.now ≡ Err refusal) }
-    // They are a list of whole extensions.
+    // Proof: `Extensions` is made only of whole extensions (its invariant), so readers need this by itself.
     ensures whole { IfOk result (λ exts. IsChecked exts.now) }
 {
     let exts = bytes.split_at(from).1.split_at(end - from).0;

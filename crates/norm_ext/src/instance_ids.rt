@@ -1,4 +1,4 @@
-//! Compares instance ids, which wrap around (RFC 5740 section 4.1). Of two ids, at most one lies above the other. A sender that restarts takes an
+//! Compares instance ids, which wrap around (RFC 5740 section 4.2.1). Of two ids, at most one lies above the other. A sender that restarts takes an
 //! id above its last one.
 
 ghost use Rattle.std.specs.Prelude.{◌≡◌};

@@ -43,7 +43,7 @@ pub fn split_pair(items: &[u8]) -> Option<(Item, Item, &[u8])>
 }
 
 /// Returns the symbol that an item names for a node that knows indices up to `known`. Returns `None` if its id names no index.
-// An id is read once, when it is heard: what it names depends on what its hearer knows at that moment.
+// Call it when the item is heard, and keep the position: what an id names depends on what its hearer knows at that moment.
 pub fn position_of(profile: &Profile, known: u32, item: Item) -> Option<Position>
     ensures { result ≡ item_named profile.now known item }
 {

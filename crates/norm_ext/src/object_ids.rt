@@ -14,10 +14,10 @@ const ALL_IDS: u64 = ID_COUNT as u64;
 // taken for another object.
 const BELOW: u64 = 32_768;
 /// The greatest index that an object can have.
-// Our own choice: the index behind it still has 32 bits. An object more is refused with `IdsSpent`.
+// Our own choice: the next index still fits in 32 bits. One more object is refused with `IdsSpent`.
 pub const LAST_INDEX: u32 = 4_294_967_294;
 
-/// Returns the id of an index. The index may be above the last one of an object.
+/// Returns the id of an index. `index` may be above [`LAST_INDEX`].
 fn id_of(profile: &Profile, index: u64) -> u64
     requires { index < 2 ^ 33 }
     ensures exact { result ≡ id_of_index profile.now index }
@@ -38,7 +38,7 @@ pub fn object_id(profile: &Profile, index: u32) -> u16
 pub fn index_named(profile: &Profile, known: u32, object: u16) -> Option<u32>
     ensures { result ≡ index_of_id profile.now known object }
 {
-    // A round above, where the index 32,768 below what is known is no negative number.
+    // One round of ids (65,536) too high: `known` may be less than 32,768, and the numbers have no sign. The last line takes it off again.
     let lowest = u64::from(known) + BELOW;
     let steps = (ALL_IDS + u64::from(object) - id_of(profile, lowest)) % ALL_IDS;
     let named = lowest + steps;

@@ -20,7 +20,7 @@ pub const SEQUENCE_AT: usize = 2;
 pub const SOURCE_AT: usize = 4;
 /// The octets of the common header.
 pub const COMMON: usize = 8;
-/// The words of the common header.
+/// The words of the common header, and of the shortest header: that of a REPORT.
 pub const COMMON_WORDS: u8 = 2;
 
 /// The offset of the instance, except in feedback.

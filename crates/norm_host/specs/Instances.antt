@@ -1,4 +1,4 @@
--- Which instance a send takes: one above each that an earlier send of its user took (RFC 5740 section 4.1), and where it is kept.
+-- Which instance a send takes: one above each that an earlier send of its user took (RFC 5740 section 4.2.1), and where it is kept.
 use Rattle.std.specs.Prelude.{ℕ, ◌+◌, ◌/◌, ◌%◌, ◌==◌, ◌&&◌, nat_le, Bool, List, ◌++◌, length, slice_index, codes, Option, None, Some, if◌then◌else◌}
 use Rattle.std.specs.Fmt.{decimal}
 use Rattle.norm_base.specs.Sizes.{id_count}

@@ -172,7 +172,7 @@ impl Said {
 
 /// The files of one folder, and the paths that it was told ([`tell`](FolderFiles::tell)), each of which is read as it stands. Any other
 /// name that is not the name of a file, such as one with a slash or that begins with a `.`, is absent, and a put of it fails. A put writes
-/// a file beside its name and renames it, so that nobody sees a part of it. A read that finds no octet, and want of memory, are faults.
+/// a file beside its name and renames it, so that nobody sees a part of it. A read that finds no octet, and a lack of memory, are faults.
 /// Contracts cannot rely on what the files hold.
 ///
 /// A read keeps up to 262,144 octets of the file for the next reads, until a length is asked for or a file is put. If a length is asked for again and

@@ -1,5 +1,5 @@
 //! Which instance a send takes, and the line that keeps the last one. An instance lies above each that an earlier send of its user took (RFC 5740
-//! section 4.1): a receiver that runs on passes over any other, or takes its objects for those that it has. `InstanceFile` and `normd` call this.
+//! section 4.2.1): a receiver that runs on passes over any other, or takes its objects for those that it has. `InstanceFile` and `normd` call this.
 
 ghost use Rattle.std.specs.Prelude.{◌≡◌, ◌<◌, ◌^◌, ℕ, decimal, string_bytes, IfNone, IfOk, IfSome};
 ghost use Rattle.std.specs.Duration.{as_nanos};
@@ -86,7 +86,7 @@ fn number_of(digits: &str) -> Option<InstanceId>
     None
 }
 
-/// Returns the number that a line keeps. `None` if it keeps none.
+/// Returns the number that a line of [`number_line`] keeps. `None` for any other text, for example with a leading zero or without its line feed.
 pub(crate) fn number_in(line: &[u8]) -> Option<InstanceId>
     ensures some { IfSome result (λ number. line.now ≡ number_line number) }
     ensures none { IfNone result ((number : ℕ) → number < 2 ^ 16 → line.now ≡ number_line number → ⊥) }

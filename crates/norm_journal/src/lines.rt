@@ -248,7 +248,7 @@ fn no_line(text: &mut Line, by: Origin, word: &str, number: Option<u64>) -> Resu
     text.finish()
 }
 
-/// Makes the line of what the sender gave to a command. `instance` is the sender's before the command. Returns false if there is no line,
+/// Makes the line of what the sender answered to a command. `instance` is the sender's before the command. Returns false if there is no line,
 /// as when the command has to wait.
 pub fn gave_line(
     text: &mut Line,

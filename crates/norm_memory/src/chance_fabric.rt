@@ -131,7 +131,7 @@ impl Fabric for ChanceFabric {
         ensures kept { OnErr result (self.new ≡ self.old) }
         ensures fault { IfErr result (λ e. e ≡ FabricFault.Memory) }
     {
-        // A copy, put back once the offer is kept: want of memory must not leave the draws ahead of the offers.
+        // A copy, put back once the offer is kept: a lack of memory must not leave the draws ahead of the offers.
         let mut draws = self.draws.clone()?;
         let network = &mut self.network;
         let plan = plan_by_chance(

@@ -167,7 +167,7 @@ impl Files for MemFiles {
                 self.calls.pass();
                 Ok(())
             }
-            // `put` has no answer for want of memory, so it counts as a failed call. Any other call fails only if its number is listed.
+            // `put` cannot report that memory ran out, so it counts as a failed call. Any other call fails only if its number is listed.
             Err(_) => {
                 self.calls.fail();
                 Err(Failed)

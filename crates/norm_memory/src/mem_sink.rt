@@ -85,7 +85,7 @@ impl Sink for MemSink {
             self.calls.fail();
             return Err(Failed);
         }
-        // `write` has no answer for want of memory, so it counts as a failed call. Nothing was written then, so no piece is added: that would need
+        // `write` cannot report that memory ran out, so it counts as a failed call. Nothing was written, so no piece is added: that would need
         // memory too.
         if self.add(bytes).is_err() {
             self.calls.fail();

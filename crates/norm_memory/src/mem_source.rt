@@ -51,7 +51,7 @@ impl MemSource {
     }
 }
 
-/// Copies the octets to the beginning of the buffer.
+/// Gives octets to the buffer of a read, as sources and files in memory do. What the buffer has after them stays.
 pub(crate) fn copy_front(buf: &mut [u8], octets: &[u8])
     requires { length octets.now ≤ length buf.old }
     ensures { buf.new ≡ octets.now ++ drop (length octets.now) buf.old }

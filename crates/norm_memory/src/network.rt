@@ -147,7 +147,7 @@ impl MemNetwork {
         ensures err { OnErr result (self.new ≡ self.old) }
     {
         let copies = planned_copies(self.alloc, self.offers.len(), plan)?;
-        // All memory before the offer is kept: an offer without its copies would be one that the network lost for want of memory.
+        // All memory before the offer is kept: an offer without its copies would be one that the network lost for lack of memory.
         self.waiting.reserve(copies.len())?;
         self.offers.push(from, bytes)?;
         self.waiting.put(copies);

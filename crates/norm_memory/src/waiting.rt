@@ -46,7 +46,7 @@ impl Waiting {
         self.heap.peek().copied()
     }
 
-    /// Takes the next copy out.
+    /// Removes and returns the copy that is taken next. `None` if none waits. The cost is logarithmic in the number of copies.
     pub(crate) fn take_first(&mut self) -> Option<WaitingCopy>
         ensures copy { result ≡ first_of self.old.copies }
         ensures rest { self.new.copies ≡ drop 1 self.old.copies }

@@ -1,4 +1,4 @@
--- A receiver that runs alone (RFC 5740 section 5.3), as it goes through its turns, event by event.
+-- A receiver that runs alone (RFC 5740 sections 5.2 and 5.3), as it goes through its turns, event by event.
 use Rattle.std.specs.Prelude.{ℕ, ⊤, ◌≡◌, ◌<◌, ◌+◌, ◌==◌, List, [], Bool, true, false, Option, None, Some, IsSome, option_and_then}
 use Rattle.std.specs.Option.{option_map}
 use Rattle.rand_pcg.specs.Lcg.{Lcg}

@@ -151,7 +151,7 @@ pub fn read_text(alloc: Global, text: &str) -> Result<Result<Document, ProfileRe
     }
     match toml::table_from_str(alloc, text) {
         Ok(table) => document_of(alloc, &table),
-        // Want of memory says nothing about the document, so it is no refusal.
+        // A lack of memory says nothing about the document, so it is no refusal.
         Err(error) if error.is_memory() => Err(Memory),
         Err(_) => Ok(Err(ProfileRefusal::NoDocument)),
     }

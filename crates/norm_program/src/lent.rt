@@ -13,7 +13,7 @@ pub(crate) struct Lent<'a, S, K, F, D, C> {
     pub fabric: &'a mut F,
     /// Reads and puts files.
     pub files: &'a mut D,
-    /// Gives moments.
+    /// Gives the moments of turns if the profile's `step` is 0.
     pub clock: &'a mut C,
 }
 

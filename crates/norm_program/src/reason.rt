@@ -115,7 +115,7 @@ pub(crate) struct Reason<'a> {
     pub words: &'a [String],
 }
 
-// A value that prints itself takes no memory, so want of memory can be said too.
+// A value that prints itself takes no memory, so it can also say that memory ran out.
 impl fmt::Display for Reason<'_> {
     ghost output = { λ r. reason_of r.ending.now (map string_bytes r.words.now) };
 

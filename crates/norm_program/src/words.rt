@@ -15,7 +15,7 @@ use std::rt::Env;
 use std::{env, io};
 
 /// Why the words of the command line were not read.
-// Two, because they end differently: want of memory with status 1, refused words with the usage line and status 2.
+// Two, because they end differently: a lack of memory with status 1, refused words with the usage line and status 2.
 #[derive(Clone, Copy, Debug, PartialEq, Eq)]
 pub enum WordsFault {
     /// A word is not UTF-8.

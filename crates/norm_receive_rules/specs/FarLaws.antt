@@ -1,4 +1,4 @@
--- Handing up goes as far as it can (RFC 5740 section 5.3).
+-- Handing up goes as far as it can (RFC 5740 section 5.2).
 use Rattle.std.specs.Prelude.{◌≡◌, ℕ, Bool, true, not, nat_lt, is_some, None, Some}
 use Rattle.std.specs.List.{list_all}
 use Rattle.norm_base.specs.Settings.{Settings}

@@ -1,4 +1,4 @@
--- Taking up the plan of an object (RFC 5740 section 5.3 on EXT_FTI).
+-- Taking up the plan of an object (RFC 5740 section 4.1 on EXT_FTI).
 use Rattle.std.specs.Prelude.{ℕ, ◌+◌, ◌*◌, ◌==◌, ◌&&◌, ◌||◌, not, [], ◌∷◌, map, filter, sum, Bool, true, false, nat_lt, nat_le, None, Some, is_some, is_none}
 use Rattle.std.specs.Bool.{beq}
 use Rattle.norm_base.specs.Settings.{Settings}

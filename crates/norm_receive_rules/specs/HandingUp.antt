@@ -1,4 +1,4 @@
--- Handing up in transport order (RFC 5740 section 5.3): as far as it can, from the hand-up point on.
+-- Handing up in transport order (RFC 5740 section 5.2): as far as it can, from the hand-up point on.
 use Rattle.std.specs.Prelude.{ℕ, zero, suc, ◌+◌, ◌==◌, ◌&&◌, List, [], ◌∷◌, ◌++◌, length, take, drop, min, Bool, true, false, nat_lt, Option, None, Some, flat_map, if◌then◌else◌}
 use Rattle.std.specs.List.{list_all, range_with_len}
 use Rattle.norm_base.specs.Settings.{Settings}

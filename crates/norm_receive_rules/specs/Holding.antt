@@ -1,4 +1,4 @@
--- What a receiver holds of an instance and handed up of it (RFC 5740 section 5.3).
+-- What a receiver holds of an instance and handed up of it (RFC 5740 section 5.2).
 use Rattle.std.specs.Prelude.{ℕ, List, []}
 use Rattle.fec_plan.specs.Points.{position}
 use Rattle.fec_plan.specs.declared.position.Position.{Position}

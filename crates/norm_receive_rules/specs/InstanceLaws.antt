@@ -1,4 +1,4 @@
--- An instance that a receiver left is never entered again (RFC 5740 section 4.1).
+-- An instance that a receiver left is never entered again (RFC 5740 section 4.2.1).
 use Rattle.std.specs.Prelude.{◌≡◌, ◌<◌, ◌≤◌, ◌+◌, ◌⊎◌, ℕ, List, [], ◌∷◌, fold, Option, None, Some, IfSome}
 use Rattle.norm_base.specs.Settings.{Settings}
 use Rattle.norm_ext.specs.InstanceIds.{rise, most_rise}

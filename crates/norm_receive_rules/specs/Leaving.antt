@@ -1,4 +1,4 @@
--- Instances (RFC 5740 section 4.1): a receiver follows the sender to one whose id lies above its own, and never goes back.
+-- Instances (RFC 5740 section 4.2.1): a receiver follows the sender to one whose id lies above its own, and never goes back.
 use Rattle.std.specs.Prelude.{ℕ, ◌==◌, Bool, true, false, Option, None, Some}
 use Rattle.norm_ext.specs.InstanceIds.{is_above}
 use Rattle.norm_receive_rules.specs.Holding.{holding_nothing}

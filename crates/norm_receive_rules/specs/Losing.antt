@@ -1,4 +1,4 @@
--- What a squelch makes lost (RFC 5740 section 5.3 on NORM_CMD(SQUELCH)).
+-- What a squelch makes lost (RFC 5740 section 5.4.3).
 use Rattle.std.specs.Prelude.{ℕ, zero, suc, ◌-◌, ◌==◌, ◌&&◌, [], ◌∷◌, ◌++◌, Bool, true, false, nat_lt, None, Some, is_none}
 use Rattle.norm_base.specs.Settings.{Settings}
 use Rattle.fec_plan.specs.Points.{Point}

@@ -1,4 +1,4 @@
--- Of a stream's parts none comes before its open (RFC 5740 section 5.3).
+-- Of a stream's parts none comes before its open (RFC 5740 section 5.2).
 use Rattle.std.specs.Prelude.{◌≡◌, ◌==◌, ◌&&◌, ℕ, Bool, true, false, List, [], ◌∷◌, fold, Option, None, Some}
 use Rattle.norm_base.specs.Settings.{Settings}
 use Rattle.fec_plan.specs.Points.{Point}

@@ -1,4 +1,4 @@
--- Keeping symbols and infos (RFC 5740 section 5.3).
+-- Keeping symbols and infos (RFC 5740 section 5.2).
 use Rattle.std.specs.Prelude.{ℕ, ◌+◌, ◌==◌, ◌&&◌, ◌||◌, not, List, [], ◌∷◌, length, Bool, true, false, nat_lt, nat_le, None, Some, is_some}
 use Rattle.norm_base.specs.Settings.{Settings}
 use Rattle.fec_plan.specs.Partition.{blocks, source_symbols, encoding_symbols, sent_octets, coded_octets}

@@ -1,4 +1,4 @@
--- The state of a receiver (RFC 5740 section 5.3): what it holds and handed up, what it knows of the sender, and what it has
+-- The state of a receiver (RFC 5740 sections 5.2 and 5.3): what it holds and handed up, what it knows of the sender, and what it has
 -- to say.
 use Rattle.std.specs.Prelude.{ℕ, Option, None}
 use Rattle.fec_plan.specs.Points.{Point}

@@ -24,7 +24,7 @@ pub data ReceiverAnswer : Type 0 where
 abbrev pub answer_as : {A : Type 0} → (A → ReceiverAnswer) → ReceiverState × A → ReceiverState × ReceiverAnswer
 answer_as word step = (step.0, word step.1)
 
--- A step of the receiver is a function of its state and of what happens (RFC 5740 section 5.3).
+-- A step of the receiver is a function of its state and of what happens (RFC 5740 sections 5.2 and 5.3).
 abbrev pub receiver_step : Settings → ReceiverState → ReceiverEvent → ReceiverState × ReceiverAnswer
 receiver_step p s (Delivered datagram now draw) = (received p s datagram now draw, Silent)
 receiver_step p s (Ticked now) = answer_as Sent (ticked p s now)

@@ -1,4 +1,4 @@
--- What a receiver does with a datagram (RFC 5740 section 5.3).
+-- What a receiver does with a datagram (RFC 5740 section 5.2).
 use Rattle.std.specs.Prelude.{ℕ, ◌==◌, List, max, true, false, Option, None, Some, unwrap_or, option_and_then, Result, Ok}
 use Rattle.norm_base.specs.Settings.{Settings}
 use Rattle.fec_plan.specs.Points.{point, position, point_of}

@@ -1,4 +1,4 @@
--- How far the sender was seen to be (RFC 5740 section 5.3): the farthest point, and of each stream its greatest block.
+-- How far the sender was seen to be (RFC 5740 section 5.2): the farthest point, and of each stream its greatest block.
 use Rattle.std.specs.Prelude.{◌==◌, ◌&&◌, map, max, true, false}
 use Rattle.fec_plan.specs.Points.{Point, further_point}
 use Rattle.norm_receive_rules.specs.Holding.{Holding, Plan}

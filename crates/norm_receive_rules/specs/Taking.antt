@@ -1,4 +1,4 @@
--- Taking what was handed up (RFC 5740 section 5.3), one by one in order.
+-- Taking what was handed up (RFC 5740 section 5.2), one by one in order.
 use Rattle.std.specs.Prelude.{[], ◌∷◌, Option, None, Some}
 use Rattle.norm_order.specs.declared.up.Up.{Up}
 use Rattle.norm_receive_rules.specs.Holding.{Holding}

@@ -1,4 +1,4 @@
--- Which datagrams a receiver may want memory for (RFC 5740 section 5.3): those of which it may keep something. For any other, as for
+-- Which datagrams a receiver may want memory for (RFC 5740 section 5.2): those of which it may keep something. For any other, as for
 -- octets that spell no message, an ACK, a REPORT and the other commands, it wants none.
 use Rattle.std.specs.Prelude.{ℕ, ◌==◌, ◌&&◌, List, Bool, false, is_some, Result, Ok}
 use Rattle.norm_base.specs.Settings.{Settings}

@@ -1,4 +1,4 @@
-//! Taking in datagrams, message by message (RFC 5740 section 5.3). [`Receiver::deliver`](crate::Receiver::deliver) calls it.
+//! Taking in datagrams, message by message (RFC 5740 section 5.2). [`Receiver::deliver`](crate::Receiver::deliver) calls it.
 
 ghost use Rattle.std.specs.Prelude.{◌≡◌, Ok, IfOk, OnErr, true};
 ghost use Rattle.norm_ext.specs.Extensions.{IsChecked};

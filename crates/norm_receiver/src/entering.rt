@@ -1,4 +1,4 @@
-//! Messages of the sender by their instance (RFC 5740 section 4.1): the current one, one that the receiver goes on to, or one that is over.
+//! Messages of the sender by their instance (RFC 5740 section 4.2.1): the current one, one that the receiver goes on to, or one that is over.
 
 ghost use Rattle.std.specs.Prelude.{◌≡◌, ◌<◌, ◌==◌, IfOk, OnErr, true, unwrap_or, option_and_then};
 ghost use Rattle.norm_receive_rules.specs.ReceiverState.{ReceiverState};

@@ -32,7 +32,7 @@ impl Parts {
         }
         let requests = requests_in(requests);
         // Heard as a whole or not at all, and kept merged: spans that share no position, and the greatest count of each block. Without a bound, a
-        // member that lies could have a receiver keep some 184 items more for each datagram. If too much were an error, two dozen datagrams would
+        // member that lies could add some 184 spans to each list with each datagram. If too much were an error, two dozen datagrams would
         // end the receiver. A message that is passed over costs a request that others made too.
         hear_requests(
             &mut self.heard,

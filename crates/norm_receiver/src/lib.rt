@@ -1,4 +1,4 @@
-//! The receiver of a session, without I/O (RFC 5740 section 5.3).
+//! The receiver of a session, without I/O (RFC 5740 sections 5.2 and 5.3).
 //!
 //! Callers meet [`Receiver`]; `norm_world`, `norm_node` and `replay` drive it. `delivering` decodes a datagram, `entering` checks its
 //! instance, and `receiving` does what the sender says. `hearing` notes what other receivers ask for. `ticking` decides what to send:

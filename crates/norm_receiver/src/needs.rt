@@ -144,7 +144,7 @@ fn is_quiet(hold: &Hold, numbers: &Numbers, index: u32) -> bool
     is_object_quiet(hold, numbers, index, &plan)
 }
 
-/// Returns the number after the last index that was seen or flushed.
+/// Returns the number after the last index that was seen or flushed, or 1 if none was.
 pub(crate) fn last_known(numbers: &Numbers) -> u64
     ensures exact { result ≡ last_known numbers.now.farthest numbers.now.flush }
     ensures most { result ≤ 4294967296 }

@@ -16,7 +16,7 @@ use norm_order::Up;
 use std::alloc::Global;
 use std::marker::Model;
 
-/// A NORM receiver without I/O (RFC 5740 section 5.3). It hands up the sender's objects in order, instance by instance. In each turn:
+/// A NORM receiver without I/O (RFC 5740 sections 5.2 and 5.3). It hands up the sender's objects in order, instance by instance. In each turn:
 /// 1. [`deliver`](Receiver::deliver) each datagram that arrived, in any order. Any octets are allowed.
 /// 2. [`take_up`](Receiver::take_up) until it returns `None`.
 /// 3. [`tick`](Receiver::tick). Last, because an acknowledgement may leave only after the user has what it confirms.

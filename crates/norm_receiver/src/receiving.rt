@@ -1,4 +1,4 @@
-//! What a receiver does with a message of the sender (RFC 5740 section 5.3).
+//! What a receiver does with a message of the sender (RFC 5740 section 5.2).
 
 ghost use Rattle.std.specs.Prelude.{◌≡◌, ◌^◌, ◌<◌, ◌%◌, ◌&&◌, IfOk, OnErr, IfSome, false, length};
 ghost use Rattle.fec_plan.specs.Points.{IsBlock, position, point as point_at, point_of};
@@ -148,7 +148,7 @@ fn keep(hold: &mut Hold, index: u32, brought: &Brought<'_>) -> Result<(), Memory
         → HoldStands hold.new (handed_up hold.old.p (puts hold.old.p index brought.now (sees_block (point_of (place_of index brought.now)) s)))) }
     ensures refused { OnErr result (hold.new ≡ hold.old) }
 {
-    // The block is seen once nothing can fail any more, which is the same: no word looks at what was seen.
+    // Notes the block only after nothing can fail any more. The rules note it first, with the same result: what is put does not depend on it.
     put_brought(hold, index, brought)?;
     see_brought(hold, index, brought);
     hold.advance();

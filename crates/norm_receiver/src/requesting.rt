@@ -19,7 +19,7 @@ use norm_ext::{Form, RequestWriter};
 pub enum Need {
     /// An object of which nothing is known, and its info.
     Object { index: u32 },
-    /// The info of an object.
+    /// The info of an object that has a plan. Its flags have INFO, and the info is not held.
     ObjectInfo { index: u32 },
     /// This many symbols of a block.
     Symbols { index: u32, block: u32, wanted: u8 },

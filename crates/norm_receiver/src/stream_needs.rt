@@ -142,14 +142,14 @@ fn open_block(hold: &Hold, index: u32, plan: &Plan, seen: u32) -> u32
     seen
 }
 
-/// Returns how many source symbols of a block a flush up to `symbol` names. A symbol that is no source symbol counts as the last.
+/// Returns how many source symbols of a block lie up to and including `symbol`. A parity symbol counts as the last source symbol.
 fn symbols_through(plan: &Plan, symbol: u8, block: u32) -> u8
     ensures { result ≡ min (symbol + 1) (source_symbols plan.now block) }
 {
     (u16::from(symbol) + 1).min(u16::from(plan.source_len(block))) as u8
 }
 
-/// Returns how many source symbols of a block a flush names.
+/// Returns how many source symbols of a block lie up to and including the flush, if that is in this block. Returns 0 otherwise.
 fn symbols_flushed(plan: &Plan, within: &Option<Position>, block: u32) -> u8
     ensures { result ≡ symbols_named plan.now within.now block }
 {
@@ -211,8 +211,9 @@ fn rest_from(end: &Option<Position>, behind: bool, least: u32) -> Option<u32>
     if !behind {
         return None;
     }
-    // Block 16,777,215 is done and no end came: no request can name more of the stream. It waits for a squelch, and what comes after it is asked for
-    // all the same. Only then may something be needed without anything of the object at the hand-up point (`FrontLaws`).
+    // Block 16,777,215 is done and no end came: no request can name more of the stream. The stream waits for a squelch, and later objects are
+    // requested all the same. Only in this case may something be needed although nothing of the object at the hand-up point is
+    // (`norm_receive_rules::laws::front`).
     if least > LAST_BLOCK {
         return None;
     }

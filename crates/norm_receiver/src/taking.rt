@@ -1,4 +1,4 @@
-//! Creating a receiver, and what callers take from it (RFC 5740 section 5.3).
+//! Creating a receiver, and what callers take from it (RFC 5740 section 5.2).
 
 ghost use Rattle.std.specs.Prelude.{◌≡◌, [], IfOk, IfNone, length, not};
 ghost use Rattle.norm_receive_rules.specs.ReceiverState.{ReceiverState, receiver_opening};
@@ -41,7 +41,7 @@ impl Parts {
         self.hold.next_up()
     }
 
-    /// Returns how many hand-ups wait to be taken.
+    /// Returns how many hand-ups [`take_up`](Parts::take_up) still returns before `None`. Takes constant time.
     pub(crate) fn ups(&self) -> usize
         ensures exact { result ≡ length self.now.hold.ups }
         ensures state { (s : ReceiverState) → Stands (kept_of self.now) s → result ≡ length s.holding.ups }
@@ -56,7 +56,7 @@ impl Parts {
         self.numbers.instance
     }
 
-    /// Whether an object was lost in this instance.
+    /// Whether an object, or the rest of a stream, was lost in this instance. If so, the receiver acknowledges nothing more in it.
     pub(crate) fn has_lost(&self) -> bool
         ensures { (s : ReceiverState) → Stands (kept_of self.now) s → lost_nothing s.holding ≡ not result }
     {

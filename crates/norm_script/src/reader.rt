@@ -16,9 +16,9 @@ use crate::script::{Line, Script, Verb};
 use norm_base::{Memory, Profile};
 use std::alloc::Global;
 
-/// The most commands of a script.
+/// The most commands of a script. One more is refused with `ManyCommands`.
 // Our own choice. Far below the 32,768 objects within which every id is unambiguous, so that no datagram of a session comes so late that its id
-// means another object. One more command is refused with `ManyCommands`.
+// means another object.
 const MOST_COMMANDS: usize = 4096;
 
 /// How many of these commands are this producer's.

@@ -1,4 +1,4 @@
--- Dropping from the front of the window (RFC 5740 section 5.2 on NORM_CMD(SQUELCH)).
+-- Dropping from the front of the window (RFC 5740 section 5.4.3).
 use Rattle.std.specs.Prelude.{not, ◌||◌, filter}
 use Rattle.std.specs.List.{list_any}
 use Rattle.fec_plan.specs.Points.{Point}

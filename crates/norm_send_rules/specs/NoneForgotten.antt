@@ -1,4 +1,4 @@
--- No want is forgotten (RFC 5740 sections 5.2 and 5.4): in each step of a sender it stays, or is sent, or is dropped, which makes a squelch
+-- No want is forgotten (RFC 5740 sections 5.1 and 5.4): in each step of a sender it stays, or is sent, or is dropped, which makes a squelch
 -- due, or another instance begins.
 use Rattle.std.specs.Prelude.{ℕ, ◌≡◌, [], ◌∷◌, Contains, true, false, Some}
 use Rattle.norm_base.specs.Settings.{Settings}

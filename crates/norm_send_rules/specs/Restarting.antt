@@ -1,4 +1,4 @@
--- A restart (RFC 5740 section 4.1 on instance_id): a new instance with an order of its own.
+-- A restart (RFC 5740 section 4.2.1 on instance_id): a new instance with an order of its own.
 use Rattle.std.specs.Prelude.{ℕ, ◌||◌, nat_le, nat_lt, List, [], ◌∷◌, ◌++◌, Bool, true, false, None, Result, Ok, Err}
 use Rattle.norm_ext.specs.InstanceIds.{rise, most_rise}
 use Rattle.norm_send_rules.specs.SenderState.{SenderState, Instance, begun, unlisted}

@@ -1,4 +1,4 @@
--- The state of a sender (RFC 5740 section 5.2): what it was given, sent, was asked for, and has to tell.
+-- The state of a sender (RFC 5740 section 5.1): what it was given, sent, was asked for, and has to tell.
 use Rattle.std.specs.Prelude.{ℕ, List, [], Bool, false, Option, None, map}
 use Rattle.norm_base.specs.Settings.{Settings}
 use Rattle.norm_base.specs.Members.{receivers_of}

@@ -31,7 +31,7 @@ pub data SenderAnswer : Type 0 where
 abbrev pub answer_as : {A : Type 0} → (A → SenderAnswer) → SenderState × A → SenderState × SenderAnswer
 answer_as word step = (step.0, word step.1)
 
--- A step of the sender is a function of its state and of what happens (RFC 5740 section 5.2).
+-- A step of the sender is a function of its state and of what happens (RFC 5740 section 5.1).
 abbrev pub sender_step : Settings → SenderState → SenderEvent → SenderState × SenderAnswer
 sender_step p s (Commanded by job now) = answer_as Answered (commanded p s by job)
 sender_step p s (Delivered datagram now) = (heard p s datagram now, Silent)

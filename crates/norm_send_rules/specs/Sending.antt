@@ -1,4 +1,4 @@
--- What a sender sends of its objects (RFC 5740 section 5.2): repairs, the lowest first, and then what is new.
+-- What a sender sends of its objects (RFC 5740 section 5.1): repairs, the lowest first, and then what is new.
 use Rattle.std.specs.Prelude.{ℕ, ◌+◌, ◌%◌, ◌&&◌, not, List, [], ◌∷◌, ◌++◌, drop, map, find, min, true, false, nat_lt, slice_get, Option, None, Some, flat_map, if◌then◌else◌}
 use Rattle.std.specs.List.{range_with_len}
 use Rattle.norm_base.specs.Settings.{Settings}

@@ -1,4 +1,4 @@
--- What a tick sends and when, and what it gives up (RFC 5740 sections 5.2 and 5.5.3).
+-- What a tick sends and when, and what it gives up (RFC 5740 sections 5.1 and 5.5.3).
 use Rattle.std.specs.Prelude.{◌≡◌, ◌≤◌, ◌⊎◌, ◌==◌, ◌&&◌, ℕ, List, map, find, None, Some, ⊤, if◌then◌else◌}
 use Rattle.norm_base.specs.Settings.{Settings}
 use Rattle.norm_ext.specs.Written.{Written}

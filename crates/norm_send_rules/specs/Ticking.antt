@@ -1,4 +1,4 @@
--- A tick of a sender (RFC 5740 section 5.2): it sends one datagram or none.
+-- A tick of a sender (RFC 5740 section 5.1): it sends one datagram or none.
 use Rattle.std.specs.Prelude.{ℕ, [], ◌∷◌, Bool, true, false, nat_lt, nat_le, Option, None, Some}
 use Rattle.norm_base.specs.Settings.{Settings}
 use Rattle.norm_ext.specs.Written.{Written, writes}

@@ -1,4 +1,4 @@
--- The order of wants, in which repairs are sent (RFC 5740 section 5.2): by index, then the info, then block and symbol.
+-- The order of wants, in which repairs are sent (RFC 5740 section 5.1): by index, then the info, then block and symbol.
 use Rattle.std.specs.Prelude.{ℕ, Bool, nat_lt, nat_le}
 use Rattle.fec_plan.specs.Points.{position_before}
 use Rattle.norm_send_rules.specs.declared.want.Want.{Want}

@@ -68,7 +68,7 @@ pub enum SendFault {
     Enqueue(EnqueueFault),
     Mark(MarkFault),
     Strike(StrikeFault),
-    /// The id is not above that of the current instance, or it is more than 32,767 above that of the first one (RFC 5740 section 4.1).
+    /// The id is not above that of the current instance, or it is more than 32,767 above that of the first one (RFC 5740 section 4.2.1).
     IdUsed { instance: InstanceId },
     /// Memory ran out. The sender returns this for the `Memory` of any part.
     Memory,

@@ -29,9 +29,8 @@ pub fn wants()
 {}
 
 /// What holds in every state that a sender reaches. Its wants are in its window, its objects fit the profile, and watermarks are numbered
-/// from
-/// 1. Each change to report is of a member that is listed or of a watermark that was made. If there is nothing to report, asking for news
-/// changes nothing.
+/// from 1 on. Each change to report is of a member that is listed or of a watermark that was made. If there is nothing to report, asking for
+/// news changes nothing.
 // Proof: that an order grew is a recursion over two lists of shapes (HaveAll).
 #[tactic(auto, using(crate::proofs::ReachedLemmas::reached_laws))]
 pub fn reached()

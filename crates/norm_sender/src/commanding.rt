@@ -62,7 +62,7 @@ impl Parts {
                 Some((info, bytes)) => {
                     Err((Some(Job::Data { info, bytes }), SendFault::Enqueue(fault)))
                 }
-                // Want of memory: the one fault with which the octets do not come back.
+                // `Memory`: the one fault with which the octets do not come back.
                 None => Err((None, SendFault::Memory)),
             },
         }

@@ -28,7 +28,7 @@ impl Parts {
         ensures memory { why.now ≡ fault.Memory → self.new ≡ self.old }
     {
         match why {
-            // The rule has no answer for want of memory, so nothing changes: the same command may come once more as if it came first.
+            // The rule cannot say that memory ran out, so nothing changes: the same command may come once more as if it came first.
             MarkFault::Memory => {}
             MarkFault::Quorum { .. } | MarkFault::NothingEnqueued | MarkFault::TooMany { .. } => {
                 self.cut();
@@ -74,7 +74,7 @@ impl Parts {
         if let Some(fault) = self.book.quorum_fault(quorum) {
             return Err(fault);
         }
-        // Where the order would end is asked before the stream is cut: what takes memory comes first, and want of memory then leaves all as it
+        // Where the order would end is asked before the stream is cut: what takes memory comes first, and a lack of memory then leaves all as it
         // was.
         let Some(at) = self.window.end_cut() else {
             self.cut();

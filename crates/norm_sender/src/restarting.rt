@@ -1,4 +1,4 @@
-//! Restarts (RFC 5740 section 4.1 on instance_id): begins a new instance with an order of its own.
+//! Restarts (RFC 5740 section 4.2.1 on instance_id): begins a new instance with an order of its own.
 
 ghost use Rattle.std.specs.Prelude.{◌≡◌};
 ghost use Rattle.norm_base.specs.Settings.{InRange};

@@ -1,4 +1,4 @@
-//! A tick of a sender (RFC 5740 section 5.2): it sends one datagram or none.
+//! A tick of a sender (RFC 5740 section 5.1): it sends one datagram or none.
 
 ghost use Rattle.std.specs.Prelude.{◌≡◌, true};
 ghost use Rattle.norm_base.specs.Settings.{InRange};

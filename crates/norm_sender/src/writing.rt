@@ -157,7 +157,7 @@ pub(crate) fn write_info_front(
 }
 
 /// Clears the datagram, and writes a DATA without its symbol.
-// The front alone: the symbol is pushed behind it from where it lies, so its octets are copied once.
+// Without the symbol: the caller appends it from the window, so its octets are copied once.
 pub(crate) fn write_data_front(
     profile: &Profile,
     pace: &Pace,

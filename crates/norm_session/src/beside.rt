@@ -2,7 +2,7 @@
 
 ghost use Rattle.std.specs.Prelude.{◌≡◌};
 
-/// Work that is done once.
+/// What a session does while another thread runs the producers. [`Lent`] makes it of a closure.
 // Proof: what is lent for the work stands behind a type parameter. A scope whose closures hold the loans themselves is dear to prove.
 pub(crate) trait Work {
     /// What the work returns.

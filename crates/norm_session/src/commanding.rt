@@ -162,7 +162,7 @@ fn offer_job(world: &mut World, by: Origin, job: Job, now: Moment) -> Result<Giv
 fn count(totals: &mut Totals, gave: &Gives) -> Result<(), Memory>
     ensures { OnOk result (totals.new ≡ with_gave gave.now totals.old) }
 {
-    // The counts are exact, so one that does not fit 64 bits ends the run as want of memory does. No script has lines enough for that.
+    // The counts are exact, so one that does not fit 64 bits ends the run with `Memory`. No script has lines enough for that.
     if !totals.has_room_for_gave(gave) {
         return Err(Memory);
     }

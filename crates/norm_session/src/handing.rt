@@ -34,7 +34,7 @@ fn note_up(
     ensures noted { OnOk result (journal.new ≡ noted journal.old (event.Up node instance up)) }
     ensures cause { NeedsMemory result }
 {
-    // As for a command: a count that does not fit 64 bits ends the run as want of memory does.
+    // The counts are exact, so one that does not fit 64 bits ends the run. It has no fault of its own: that takes 2^64 hand-ups.
     if !totals.has_room_for_up(&up) {
         return Err(SessionFault::Memory);
     }

@@ -153,7 +153,7 @@ impl KeptJournal {
         }
     }
 
-    /// Notes a take that found no datagram ready.
+    /// Notes a take that found no datagram ready. `Memory` if a journal is kept and cannot grow.
     pub(crate) fn push_empty(&mut self) -> Result<(), Memory>
         ensures { OnOk result (self.new ≡ noted self.old event.Empty) }
     {

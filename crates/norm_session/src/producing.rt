@@ -169,7 +169,7 @@ fn ring_for(alloc: Global, script: &Script) -> Result<(Gate, Vec<Seat>, PullSeat
     Gate::new(alloc, u32::from(script.profile.producers), places)
 }
 
-/// Runs a script over what comes out of the ring.
+/// Runs a script whose lines come out of the ring, in this thread. Waits for each line: for ever if no producer submits it.
 fn run_pulled<R: Wait, K: Sink, F: Fabric, D: Files, C: Clock>(
     rt: &R,
     alloc: Global,

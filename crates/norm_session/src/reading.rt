@@ -63,7 +63,7 @@ impl Copied {
             return Ok(Copied { octets: None });
         }
         let mut octets = Vec::new(alloc);
-        // All room before the first read, so that want of memory is reported before a large file is read in vain.
+        // All room before the first read, so that a lack of memory is reported before a large file is read in vain.
         octets.reserve(len as usize)?;
         Ok(Copied {
             octets: Some(octets),
@@ -117,8 +117,8 @@ fn fault_of(alloc: Global, fault: FileFault, name: &str) -> SessionFault
 }
 
 /// Returns the length of a file in octets.
-// Asked each time a file is offered, also while its command waits: what is sent is the file as it is then, and a file that waits takes no memory
-// for its octets.
+// Asked each time a file is offered, also while its command waits: the file is sent as it is when it is accepted, and takes no memory before.
+// `FolderFiles` may repeat an old length up to 64 times.
 fn length_of<D: Files>(alloc: Global, files: &mut D, name: &str) -> Result<u64, SessionFault>
     ensures same { D.contents files.new ≡ D.contents files.old }
     ensures value { IfOk result (λ len. IsLength (D.contents files.old) name.now len) }
@@ -284,7 +284,7 @@ fn refusal_of(back: Option<Octets>, fault: SendFault) -> Result<FileGave, Sessio
 {
     match back {
         Some(name) => Ok(FileGave::Refused { name, fault }),
-        // The sender gives the name back with every refusal except for want of memory.
+        // The sender gives the name back with every refusal except `Memory`.
         None => Err(SessionFault::Memory),
     }
 }

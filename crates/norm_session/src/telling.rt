@@ -42,7 +42,7 @@ impl Run {
             ≡ record self.old { journal = noted self.old.journal (event.News news); totals = with_news news self.old.totals }) }
         ensures cause { NeedsMemory result }
     {
-        // As for a command: a count that does not fit 64 bits ends the run as want of memory does.
+        // The counts are exact, so one that does not fit 64 bits ends the run. It has no fault of its own: that takes 2^64 changes.
         if !self.totals.has_room_for_news(&news) {
             return Err(SessionFault::Memory);
         }

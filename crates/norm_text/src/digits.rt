@@ -16,7 +16,7 @@ const LANES: usize = 64;
 // The look-up stays within sixteen lanes, so each of the four groups of lanes needs the table.
 const DIGITS: [u8; 64] = *b"0123456789abcdef0123456789abcdef0123456789abcdef0123456789abcdef";
 
-/// Returns the digit of the high half of each lane.
+/// Returns the lower-case hexadecimal digit of each lane's high four bits. One table look-up for all lanes.
 #[inline(always)]
 fn high_digits(lanes: u8x64) -> u8x64
     ensures { result ≡ map (λ x. slice_index lower_digits (x / 16)) lanes }
@@ -24,7 +24,7 @@ fn high_digits(lanes: u8x64) -> u8x64
     u8x64::from_array(DIGITS).swizzle_dyn_within::<16>(lanes >> u8x64::splat(4))
 }
 
-/// Returns the digit of the low half of each lane.
+/// Returns the lower-case hexadecimal digit of each lane's low four bits.
 #[inline(always)]
 fn low_digits(lanes: u8x64) -> u8x64
     ensures { result ≡ map (λ x. slice_index lower_digits (x % 16)) lanes }

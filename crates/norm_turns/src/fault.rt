@@ -7,7 +7,7 @@ ghost use Rattle.norm_turns.specs.declared.fault.SessionFault.TheVariants as fau
 use norm_base::{FabricFault, Failed, Memory, Text};
 use std::alloc::{AllocError, AllocFailed};
 
-/// Why a run stops before it is done. `From` makes one of a failed write, a failed call of the network, and want of memory.
+/// Why a run stops before it is done. `From` makes one of a failed write, a failed call of the network, and a lack of memory.
 #[derive(Debug, Drop)]
 pub enum SessionFault {
     /// A write of the output failed.

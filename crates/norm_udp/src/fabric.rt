@@ -233,7 +233,8 @@ impl<R: Net + Wait + Clock + Drop> UdpFabric<R> {
     }
 
     /// Looks again after a look that found nothing, as [`Pace::pause`] says: not at all, until a sender's gap is over, or after a sleep. If it still
-    /// finds nothing, it notes that; after a sleep there is nothing to note. Reads the clock once, and for a sender once more after each look.
+    /// finds nothing, it notes that; after a sleep there is nothing to note. Reads the clock once. While a gap lasts, also after each look that found
+    /// nothing.
     fn look_later(&mut self, into: &mut Datagram) -> Result<Option<Located>, SocketCause>
         requires { into.old ≡ [] }
         ensures none { IfOk result (λ node. IfNone node (into.new ≡ [])) }

@@ -48,13 +48,13 @@ pub(crate) struct Posted {
 }
 
 /// What a node and the thread that sends for it share. The node takes a free slot, fills it and posts it. The thread does what it says and frees it.
-// All memory is there from the start, in place of a channel that makes room as it goes. A place is in `places`, `posted` or `failures`, or the node
+// All memory is there from the start, in place of a channel that makes room as it goes. A slot is in `places`, `posted` or `failures`, or the node
 // or the thread holds it. A lost one would leave less room for good, and `drain` would wait for it in vain.
 #[derive(Drop)]
 pub(crate) struct Lane {
     /// What the thread has to do, in the order of posting.
     posted: ArrayQueue<Box<Posted>>,
-    /// Free slots.
+    /// Free slots, each with the room of a datagram.
     places: ArrayQueue<Box<Posted>>,
     /// The slot of a datagram that the thread failed to send, until a call reports that.
     failures: ArrayQueue<Box<Posted>>,

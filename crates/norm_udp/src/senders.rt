@@ -50,7 +50,7 @@ fn serve<R: Wait + Clock>(rt: &R, lane: &Lane) {
     let mut way = Way::Nowhere;
     let mut sleeps = 0;
     for _ in rt.forever() {
-        // Asked first: what was posted before the lane was over is seen by the look behind it.
+        // Asked first: what was posted before the lane was over is seen by the look after it.
         let over = lane.is_over();
         if let Some(posted) = lane.next(rt) {
             way = follow(rt, lane, way, posted);
@@ -63,7 +63,7 @@ fn serve<R: Wait + Clock>(rt: &R, lane: &Lane) {
     }
 }
 
-/// Returns how many threads send on this machine. None if it has few processors, or does not tell how many.
+/// Returns how many sending threads to start: one for two processors, at most 4. 0 below four processors, or if the number is unknown.
 fn threads_here<R: Threads>(rt: &R) -> usize {
     let processors = match thread::available_parallelism(rt) {
         Ok(number) => number.get(),

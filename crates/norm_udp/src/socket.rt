@@ -38,7 +38,7 @@ fn bound_to<R: Net>(rt: &R, address: SocketAddr) -> io::Result<UdpSocket> {
     Ok(socket)
 }
 
-/// Opens such a socket, and says what failed.
+/// Opens a socket that is bound to this address and never waits. If that fails, the error names the address.
 fn at<R: Net>(rt: &R, address: SocketAddr) -> Result<UdpSocket, SocketCause> {
     match bound_to(rt, address) {
         Ok(socket) => Ok(socket),

@@ -216,8 +216,8 @@ fn tell_way<R: Wait + Clock>(
         receivers,
     };
     if !senders.tell(rt, place, way) {
-        // The lane had no free place for ten milliseconds, so its thread does not know where to send. It counts as want of memory: a lane is the
-        // room for datagrams.
+        // The lane had no free slot for some ten milliseconds, so its thread does not know where to send. Reported as `Memory`: a lane is room for
+        // datagrams.
         return Err(OpenFault::Memory);
     }
     Ok(())

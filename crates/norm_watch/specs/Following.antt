@@ -1,4 +1,4 @@
--- Which instance a receiver is in, by what it takes (RFC 5740 section 4.1): it follows its sender to one that lies above its own, and never goes back.
+-- Which instance a receiver is in, by what it takes (RFC 5740 section 4.2.1): it follows its sender to one that lies above its own, and never goes back.
 use Rattle.std.specs.Prelude.{ℕ, ◌==◌, ◌&&◌, ◌||◌, not, Bool, true, false, Option, None, Some, is_some, if◌then◌else◌}
 use Rattle.norm_base.specs.Settings.{Settings}
 use Rattle.norm_ext.specs.InstanceIds.{is_above}

@@ -21,7 +21,7 @@ use std::time::{Clock, Duration};
 // Our own choice: as often as a person can read it.
 const PAUSE: u64 = 1;
 
-/// The clock is read at one take in this many. If nothing comes, each take sleeps a millisecond, so that all of them take well under a second.
+/// The clock is read at one take in this many. If nothing comes, each take sleeps at most a millisecond, so that all of them take well under a second.
 // Our own choice. While datagrams come a read of the clock at each would show in the rate.
 const TAKES: u32 = 64;
 
@@ -64,7 +64,7 @@ impl fmt::Display for Spent {
     }
 }
 
-/// Whether a node of this role, if it ends well, is ended only by its turns.
+/// Whether only its turns end a node of this role, if it ends well. A sender ends when its work is done.
 fn is_ended_by_turns(role: Role) -> bool
     ensures { result ≡ is_ended_by_turns role }
 {

@@ -11,7 +11,7 @@ use std::fmt;
 use std::time::Duration;
 
 /// After this many seconds a second datagram shows that the first was not just late. Our own choice.
-// A network that delays gives an old datagram for a moment, and a sender that is passed over sends on.
+// A slow network delivers old datagrams only for a moment. A sender whose datagrams are passed over keeps sending.
 const LATE: u64 = 1;
 
 /// The offset after the instance of a sender's datagram, which comes after the sender's id (RFC 5740 section 4.2).

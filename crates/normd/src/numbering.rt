@@ -51,7 +51,7 @@ impl Numbers {
         self.file.draw(minute_at(now))
     }
 
-    /// Returns what to say if none could be taken.
+    /// Returns the fault to report if no instance could be taken.
     fn into_fault(self, error: io::Error) -> InstanceFault {
         self.file.into_fault(error)
     }

@@ -74,7 +74,7 @@ fn push_parity(
     let start = plan.symbol_number(block, 0) as usize * e;
     let len = usize::from(plan.source_len(block)) * e;
     let (first, rest) = range_of(front, back, start, len);
-    // On the stack: a symbol is made for each datagram, and a sender has no answer for want of memory there.
+    // On the stack: a symbol is made while a datagram is written, and a sender cannot report there that memory ran out.
     let mut room = [0; SYMBOL_ROOM];
     let parity = &mut room[..e];
     code.parity_in_two(first, rest, e, symbol, parity);

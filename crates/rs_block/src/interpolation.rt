@@ -15,7 +15,7 @@ ghost use Rattle.rs_block.specs.Row.{coefficients, combined};
 use gf_field::{add_scaled, alpha_log, alpha_pow};
 
 /// The order of alpha. Exponents with the same remainder by it give the same power.
-// RFC 5510 section 8.1: alpha generates all 255 octets but 0.
+// RFC 5510 section 8.1: the powers of alpha are all octets except 0.
 pub const ORDER: u32 = 255;
 
 /// Returns the point of the symbol with this id.
@@ -88,7 +88,7 @@ pub fn weigh(places: &[u8], weights: &mut [u8])
 
 /// Returns a point's coefficient at `x`. `all` is the logarithm of the product of the differences between `x` and all points, `weight` that
 /// of the point's weight.
-// One product of all differences serves every place: the place's own difference is taken out again, which costs one look-up in place of k.
+// One product of all differences serves every point: the point's own difference is taken out again, which costs one look-up in place of k.
 #[tactic(auto, using(crate::proofs::Formula::differ))]
 fn coefficient(all: u32, x: u8, place: u8, weight: u8) -> u8
     requires away { place ≢ x }

@@ -66,7 +66,7 @@ fn next_weight(log: u8, i: u8, last: u8) -> u8
 }
 
 /// Fills `weights` with the logarithms of the weights of the first powers of alpha, as many as it is long.
-// From one weight to the next by a few look-ups. Each by itself would take a pass over all places.
+// From one weight to the next by a few look-ups. Each by itself would take a pass over all points.
 fn weigh_powers(weights: &mut [u8])
     requires some { 1 ≤ length weights.old }
     requires few { length weights.old ≤ 255 }

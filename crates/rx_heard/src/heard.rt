@@ -16,7 +16,7 @@ use std::alloc::Global;
 use std::marker::Model;
 
 /// The most spans of symbols, the most spans of infos, and the most counts that are kept.
-// Our own choice. A message that might pass it is not heard at all: at worst the receiver asks for what others asked for.
+// Our own choice. A message that might exceed it is not heard at all: at worst the receiver asks for what others asked for.
 const MOST_HEARD: usize = 4096;
 
 /// The positions from `first` to `last`, both included.
@@ -129,7 +129,7 @@ fn note_spans(spans: &mut Vec<Span>, more: &[Span])
     }
 }
 
-/// This many symbols of a block.
+/// How many symbols of a block a request asks for.
 #[derive(Clone, Copy, Debug)]
 pub(crate) struct Count {
     pub of: Point,
@@ -228,7 +228,7 @@ fn are_kept(kept: usize, more: usize) -> bool
 }
 
 /// What others asked for: source symbols and infos as spans of which no two share a position, and for each block the greatest count. All
-/// lists are in ascending order, so that they can be searched by halves.
+/// lists are in ascending order, so that binary search finds an item.
 #[derive(Debug, Drop)]
 pub struct Heard {
     alloc: Global,
@@ -245,7 +245,7 @@ impl Model for Heard {
 
     ghost view = { λ h. record { symbols = h.symbols.items; infos = h.infos.items; counts = h.counts.items } };
 
-    // If two spans shared a position, or did not rise, the search by halves could miss what was heard.
+    // If two spans shared a position, or did not rise, binary search could miss what was heard.
     ghost invariant = { λ h. IsOrderly (record { symbols = h.symbols.items; infos = h.infos.items; counts = h.counts.items }) };
 }
 

@@ -1,5 +1,5 @@
 -- What a receiver holds of objects of either kind from its hand-up point on, which may lie within a stream, and for which states of the
--- rules that stands (RFC 5740 section 5.3).
+-- rules that stands (RFC 5740 section 5.2).
 use Rattle.std.specs.Prelude.{ℕ, zero, suc, ◌≡◌, ◌<◌, Bool, not, List, [], ◌∷◌, map, filter, filter_map, flat_map, slice_get, Option, Some, None}
 use Rattle.std.specs.List.{AllByRecursion}
 use Rattle.norm_base.specs.Settings.{Settings}

@@ -1,4 +1,4 @@
--- When an object may be taken up (RFC 5740 section 5.3 on EXT_FTI), and what it is then.
+-- When an object may be taken up (RFC 5740 section 4.1 on EXT_FTI), and what it is then.
 use Rattle.std.specs.Prelude.{ℕ, ◌≡◌, ◌<◌, ◌≤◌, ◌+◌, ◌-◌, ◌==◌, ◌&&◌, ◌||◌, [], Bool, true, false, None}
 use Rattle.std.specs.Bool.{beq}
 use Rattle.fec_plan.specs.Partition.{Cut, IsSound}

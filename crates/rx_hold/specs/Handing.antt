@@ -1,5 +1,5 @@
 -- What is handed up of what is at the first place, and what becomes of a front as its first place is left behind (RFC 5740
--- section 5.3).
+-- section 5.2).
 use Rattle.std.specs.Prelude.{ℕ, nat_lt, is_none, ◌≡◌, ◌<◌, ◌+◌, ◌-◌, ◌&&◌, ◌++◌, Bool, true, false, List, [], ◌∷◌, drop, length, sum_by, IfSome, Option, Some, None}
 use Rattle.std.specs.VecDeque.{deque_capacity}
 use Rattle.norm_base.specs.Settings.{Settings}

@@ -1,4 +1,4 @@
--- What is told of what a receiver holds, in the words of the rules (RFC 5740 section 5.3).
+-- What is told of what a receiver holds, in the words of the rules (RFC 5740 section 5.2).
 use Rattle.std.specs.Prelude.{ℕ, zero, suc, ◌≡◌, not, List, filter, slice_get, Bool, true, false, Option, Some, None, option_map, unwrap_or, IfSome, ◌<◌}
 use Rattle.std.specs.List.{range_with_len}
 use Rattle.fec_plan.specs.Partition.{Cut, blocks}

@@ -1,7 +1,7 @@
 //! What is held of one object: data or a file, or a stream.
 //!
-//! Only this module knows which of the two an object is. `making` creates an [`Entry`], `asking` tells what it needs, and `handing` tells
-//! what it hands up.
+//! Only this module matches on which of the two an object is. Others ask `is_stream` or `says_stream`, because hand-ups of a stream are counted
+//! segment by segment. `making` creates an [`Entry`], `asking` tells what it needs, and `handing` tells what it hands up.
 
 ghost use Rattle.std.specs.Prelude.{ℕ, ◌≡◌, ◌≤◌, ◌<◌, ◌+◌, ◌*◌, IfOk, OnErr, None, Some, is_some, length};
 ghost use Rattle.norm_base.specs.Settings.{Settings};

@@ -1,4 +1,4 @@
-//! Taking objects up if their transmission information fits (RFC 5740 section 5.3 on EXT_FTI).
+//! Taking objects up if their transmission information fits (RFC 5740 section 4.1 on EXT_FTI).
 
 ghost use Rattle.std.specs.Prelude.{ℕ, ◌≡◌, ◌==◌, ◌&&◌, ◌||◌, ◌<◌, ◌≤◌, ◌+◌, ◌^◌, false, if◌then◌else◌, IfErr, IfOk, OnErr, MatchResult, None, Some, nat_le, nat_lt};
 ghost use Rattle.norm_ext.specs.declared.fti.Fti.{Fti as FtiValue};
@@ -88,7 +88,7 @@ impl Front {
         let Ok(plan) = plan_by(fti, flags) else {
             return Err(Fit::Unfit);
         };
-        // Our own choice: a plan has the numbers of the profile. The room to solve blocks is made for these.
+        // Our own choice: `e`, `b` and `max_n` have to be the profile's. The solvers have room for `b` symbols of `e` octets.
         if !is_of(&self.profile, plan.e(), fti) {
             return Err(Fit::Unfit);
         }

@@ -1,4 +1,4 @@
-//! Handing up in transport order (RFC 5740 section 5.3): what is ready of the object in the first slot.
+//! Handing up in transport order (RFC 5740 section 5.2): what is ready of the object in the first slot.
 
 ghost use Rattle.std.specs.Prelude.{ℕ, ◌≡◌, ◌==◌, ◌&&◌, ◌+◌, ◌<◌, ◌≤◌, ◌++◌, ◌∷◌, [], MatchOption, IsTrue, None, Some, false, length, slice_set, true};
 ghost use Rattle.std.specs.VecDeque.{deque_capacity};

@@ -118,7 +118,7 @@ impl Hold {
     }
 
     /// Forgets everything, for another instance. It takes no memory.
-    // Only tests call it so far. It stays for programs over this crate: a receiver takes `anew`, and keeps the old hold if memory runs out.
+    // Only tests call it. It is there for programs over this crate: a receiver uses `anew`, to keep the old hold if memory runs out.
     pub fn clear(&mut self)
         ensures empty { self.new ≡ empty_hold self.old.p }
         ensures begun { StandsFor self.new holding_nothing }

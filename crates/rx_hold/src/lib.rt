@@ -1,4 +1,4 @@
-//! What a NORM receiver holds of the sender's objects (data, files and streams) until it hands them up (RFC 5740 section 5.3).
+//! What a NORM receiver holds of the sender's objects (data, files and streams) until it hands them up (RFC 5740 section 5.2).
 //!
 //! Callers meet [`Hold`]; `norm_receiver` drives it. A `Hold` wraps a `Front`: the hand-up point, the hand-ups that wait to be taken, and a
 //! ring of 256 slots for the objects from the hand-up point on. Each object is an `Entry` in its `Seat`. Only `Entry` knows whether it is an

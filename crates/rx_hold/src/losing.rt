@@ -1,4 +1,4 @@
-//! What a squelch makes lost (RFC 5740 section 5.3 on NORM_CMD(SQUELCH)).
+//! What a squelch makes lost (RFC 5740 section 5.4.3).
 
 ghost use Rattle.std.specs.Prelude.{ℕ, ◌≡◌, ◌==◌, ◌&&◌, ◌+◌, ◌-◌, ◌<◌, ◌≤◌, IfOk, IsTrue, OnErr};
 ghost use Rattle.fec_plan.specs.Points.{point as point_at};

@@ -19,7 +19,7 @@ pub const PLACES: usize = 256;
 
 /// An object in its slot.
 // `waiting` counts one hand-up for each symbol of a stream that was kept, and two for its open and its loss, less those that were handed up. Data
-// and files take two with the object. That much room is there before a symbol is kept; if it were not, handing up could fail for want of memory.
+// and files take two with the object. That much room is there before a symbol is kept; if it were not, handing up could fail for lack of memory.
 #[derive(Debug, Drop)]
 pub struct Seat {
     pub entry: Entry,
@@ -38,7 +38,7 @@ pub fn entry_at(ring: &VecDeque<Option<Seat>>, point: u32, index: u32) -> Option
     }
 }
 
-/// Fills a ring that has room for them with empty slots.
+/// Fills an empty ring with 256 empty slots. The ring has room for them.
 pub fn fill(ring: &mut VecDeque<Option<Seat>>)
     requires empty { ring.old.items ≡ [] }
     requires room { 256 ≤ deque_capacity ring.old }
@@ -51,7 +51,7 @@ pub fn fill(ring: &mut VecDeque<Option<Seat>>)
     }
 }
 
-/// Whether a slot has a stream.
+/// Whether a slot has a stream. `false` if it is empty, or if the ring has no such slot.
 pub fn is_stream_at(ring: &VecDeque<Option<Seat>>, place: usize) -> bool
     ensures { result ≡ stream_at (at_place ring.now.items place) }
 {

@@ -1,4 +1,4 @@
--- What is held of one object, and what the rules say of it by itself (RFC 5740 section 5.3).
+-- What is held of one object, and what the rules say of it by itself (RFC 5740 section 5.2).
 use Rattle.std.specs.Prelude.{ℕ, List, [], ◌∷◌, filter, not, Option, Some, None}
 use Rattle.std.specs.List.{range_with_len}
 use Rattle.fec_plan.specs.Partition.{blocks}

@@ -1,4 +1,4 @@
-//! What a NORM receiver holds of one object of data or a file until it hands it up (RFC 5740 section 5.3).
+//! What a NORM receiver holds of one object of data or a file until it hands it up (RFC 5740 section 5.2).
 //!
 //! Callers meet [`Object`]; `rx_hold` has one for each data object or file that was taken up. Any k symbols of a block give back its source
 //! symbols (RFC 5510 section 8.3), and a whole object gives away its octets. An object keeps its blocks one after another in `Rows`, which

@@ -43,7 +43,8 @@ pub struct Object {
     info: Option<Octets>,
     rows: Rows,
     /// How many symbols are held of each block.
-    // Always as many as the block has places that are not free. A greater count would end a block early, with zeros for what did not come.
+    // Always as many as the block has places that are not free. A greater count would have a block solved too early, with wrong
+    // octets for what did not come.
     counts: Vec<u8>,
     /// The incomplete blocks.
     shorts: Shorts,

@@ -1,4 +1,4 @@
--- When a symbol may be kept of a stream (RFC 5740 section 4.2.1), and what its next segment is handed up as (section 5.3).
+-- When a symbol may be kept of a stream (RFC 5740 section 4.2.1), and what its next segment is handed up as (section 5.2).
 use Rattle.std.specs.Prelude.{ℕ, ◌≡◌, ◌==◌, ◌&&◌, ◌<◌, ◌+◌, ◌-◌, Bool, List, length, filter, not, nat_lt, true, false, Option, Some, None}
 use Rattle.norm_base.specs.Settings.{Settings}
 use Rattle.fec_plan.specs.Partition.{Cut, blocks, source_symbols, encoding_symbols, coded_octets}

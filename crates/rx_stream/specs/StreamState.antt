@@ -1,4 +1,4 @@
--- What is held of one stream from its next segment on, and what the rules say of it by itself (RFC 5740 section 5.3).
+-- What is held of one stream from its next segment on, and what the rules say of it by itself (RFC 5740 section 5.2).
 use Rattle.std.specs.Prelude.{ℕ, ◌≡◌, List, [], ◌∷◌, Option, Some, None}
 use Rattle.norm_base.specs.Settings.{Settings}
 use Rattle.fec_plan.specs.Points.{position}

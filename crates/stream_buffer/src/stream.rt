@@ -355,7 +355,7 @@ impl StreamBuf {
         let b = usize::from(self.b);
         let size = usize::from(self.e) + PLACE;
         let sources = self.rows.run(block as usize * b, b);
-        // On the stack: a symbol is made for each datagram, and a sender has no answer for want of memory there.
+        // On the stack: parity is made while a datagram is written, and a sender cannot report there that memory ran out.
         let mut room = [0; SYMBOL_ROOM];
         let parity = &mut room[..size];
         self.code.parity(sources, size, symbol, parity);

@@ -1,4 +1,4 @@
--- Which symbol of an object is sent next by itself (RFC 5740 section 5.2).
+-- Which symbol of an object is sent next by itself (RFC 5740 section 5.1).
 use Rattle.std.specs.Prelude.{ℕ, ◌≡◌, ◌+◌, ◌<◌, ◌≤◌, ◌⊎◌, min, Option, None, Some}
 use Rattle.fec_plan.specs.Partition.{Cut, blocks, source_symbols, encoding_symbols}
 use Rattle.fec_plan.specs.Points.{position}

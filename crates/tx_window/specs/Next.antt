@@ -1,4 +1,4 @@
--- What is new next of an object (RFC 5740 section 5.2).
+-- What is new next of an object (RFC 5740 section 5.1).
 use Rattle.std.specs.Prelude.{◌<◌, ⊤, Bool, not, ◌&&◌}
 use Rattle.fec_plan.specs.Points.{Point}
 use Rattle.norm_send_rules.specs.InWindow.{stands_behind}

@@ -13,8 +13,8 @@ use std::collections::VecDeque;
 use tx_object::plan_of;
 
 /// The extents of this many entries are kept, the last ones. No id names an entry before them.
-// By ids of 16 bits: they name one of the 32,769 indices up to the last one, and nothing before them. What is forgotten can be named by no
-// acknowledgement.
+// RFC 5740 section 4.2.1: an id has 16 bits. It names the last index, one of the 32,768 before it, or a later one (`index_named`). So no
+// acknowledgement can name what is forgotten.
 const MOST_KEPT: usize = 32_769;
 
 /// How far an entry reaches: how many octets an object has, or how many segments of a stream are closed.

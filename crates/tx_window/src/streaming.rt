@@ -189,7 +189,7 @@ impl Window {
     }
 
     /// The last closed source symbol once the open stream is cut, even if its entry was dropped. Cuts nothing.
-    // Asked before the cut: what takes memory for a mark comes first, so that want of memory leaves the whole sender as it was.
+    // Asked before the cut: what takes memory for a mark comes first, so that a lack of memory leaves the whole sender as it was.
     pub fn end_cut(&self) -> Option<Position>
         ensures { (s : SenderState) → Stands self.now s → result ≡ last_source (current_shapes self.now.p (cut self.now.p s)) }
     {

@@ -41,8 +41,8 @@ use tx_object::{Held, Ring};
 ///   [`note_past`](Window::note_past) after the listings changed. Before that, the window does not know that an entry may go.
 ///
 /// Entries are dropped only by calls that need room, the first ones first.
-// Objects lie in the ring one after the other, up to `free`, and `octets` is the sum of the sizes of all entries, streams included. Otherwise a new
-// object could be written over one that may still be repaired.
+// Objects lie in the ring one after the other, up to `free`. `octets` is the sum of the sizes of all entries, streams included, and of the object
+// that is being filled. Otherwise a new object could be written over one that may still be repaired.
 #[derive(Debug, Drop)]
 pub struct Window {
     pub(crate) alloc: Global,

@@ -59,7 +59,7 @@ impl Entry {
         }
     }
 
-    /// Hands up the next segment of a stream, or its end, if it is there. `None` for data and files.
+    /// Hands up the next segment of a stream, or its end, if it is there. `None` as long as the stream's info is missing, and for data and files.
     pub fn hand_on(&mut self) -> Option<Up>
         ensures { GoesOn self.old result self.new }
     {
