@@ -98,7 +98,7 @@ def program_of(given: str | None) -> str:
     chooser = os.path.join(norm_keys.ROOT, 'tools', 'program')
     found = given or subprocess.run([chooser], stdout=subprocess.PIPE, text=True).stdout.strip() or shutil.which('normd')
     if not found or not os.access(found, os.X_OK):
-        raise ToolFault("no program is there that is newer than its sources: './build --unproved' makes one in a few minutes, and './build' proves one.",
+        raise ToolFault("no program is there that is newer than its sources: './build --unproved' makes one in a minute or two, and './build' proves one.",
                         wire.FAILED)
     return os.path.abspath(found)
 
