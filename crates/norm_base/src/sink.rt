@@ -5,6 +5,7 @@ ghost use Rattle.norm_base.specs.Faults.{Counts};
 ghost use Rattle.norm_base.specs.Told.{Pieces, gained, GainsFront};
 
 use crate::fault::Failed;
+use crate::notice::Notice;
 
 /// An output, appended to. Its contents are the pieces that were written, in order.
 pub trait Sink {
@@ -20,6 +21,13 @@ pub trait Sink {
         ensures ok { OnOk result (pieces self.new ≡ gained (pieces self.old) (bytes.now ∷ [])) }
         ensures err { OnErr result (GainsFront (pieces self.old) (pieces self.new) bytes.now) }
         ensures cause { Counts (fault_count self.old) (fault_count self.new) (is_err result) };
+
+    /// Learns what the line says that was written last. Call it after the write of each line of an event. It writes nothing itself.
+    // Most sinks do not count, so by default nothing is done.
+    fn note(&mut self, _notice: &Notice)
+        ensures same { pieces self.new ≡ pieces self.old }
+        ensures cause { fault_count self.new ≡ fault_count self.old }
+    {}
 
     /// Returns how many writes failed. The count never falls.
     fn faults(&self) -> u64
