@@ -4,6 +4,7 @@ pub mod NumberLemmas
 pub mod RequestLemmas
 pub mod ItemLemmas
 pub mod MessageLemmas
+pub mod Lent
 pub mod Takes
 pub mod ReadIsSpelled
 pub mod AgainLemmas

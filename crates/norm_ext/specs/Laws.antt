@@ -5,11 +5,12 @@ use Rattle.norm_base.specs.Settings.{Settings}
 use Rattle.norm_base.specs.Sizes.{id_count}
 use Rattle.norm_ext.specs.ObjectIds.{last_index, ids_below, ids_above, object_id, index_named}
 use Rattle.norm_ext.specs.Message.{Message}
-use Rattle.norm_ext.specs.Octets.{octets_of}
 use Rattle.norm_ext.specs.Reading.{decoded}
 use Rattle.norm_ext.specs.Spells.{Spells, IsMessage}
 use Rattle.std.specs.List.{AllByRecursion, last_or}
-use Rattle.norm_ext.specs.Requests.{IsRequests, requests_of}
+use Rattle.norm_ext.specs.Extensions.{Extension, IsExtension, IsChecked, extensions_of}
+use Rattle.norm_ext.specs.Requests.{Request, IsRequest, IsRequests, requests_of}
+use Rattle.norm_ext.specs.Octets.{octets_of, extensions_octets, requests_octets}
 use Rattle.norm_ext.specs.Asked.{Asked, IsAsked, requests_asked, asked_octets, octets_behind}
 use Rattle.norm_ext.specs.Applies.{Applies, IsFirst}
 use Rattle.norm_ext.specs.declared.refusal.Refusal.{Refusal}
@@ -41,6 +42,21 @@ FirstIsRefused = (refusal : Refusal) (octets : List ℕ) → AreOctets octets �
 -- no refusal applies to octets that spell a message
 abbrev pub SpelledIsNotRefused : Type 0
 SpelledIsNotRefused = (m : Message) (octets : List ℕ) → AreOctets octets → Spells m octets → (refusal : Refusal) → Applies refusal octets → ⊥
+
+-- Extensions that are lent stand for their list. Octets that were checked are the octets of what is read of them, which can be spelled. And of the
+-- octets of extensions that can be spelled, these extensions are read.
+pub record LentExtensions : Type 0 where
+  pub fit : (octets : List ℕ) → AreOctets octets → IsChecked octets → AllByRecursion IsExtension (extensions_of octets)
+  pub spelled : (octets : List ℕ) → AreOctets octets → IsChecked octets → extensions_octets (extensions_of octets) ≡ octets
+  pub whole : (extensions : List Extension) → AllByRecursion IsExtension extensions → IsChecked (extensions_octets extensions)
+  pub read : (extensions : List Extension) → AllByRecursion IsExtension extensions → extensions_of (extensions_octets extensions) ≡ extensions
+
+-- the same of requests that are lent
+pub record LentRequests : Type 0 where
+  pub fit : (octets : List ℕ) → AreOctets octets → IsRequests octets → AllByRecursion IsRequest (requests_of octets)
+  pub spelled : (octets : List ℕ) → AreOctets octets → IsRequests octets → requests_octets (requests_of octets) ≡ octets
+  pub whole : (requests : List Request) → AllByRecursion IsRequest requests → IsRequests (requests_octets requests)
+  pub read : (requests : List Request) → AllByRecursion IsRequest requests → requests_of (requests_octets requests) ≡ requests
 
 -- what is asked for within its widths is a list of whole requests, and is read again as these
 abbrev pub AskedIsRead : Type 0

@@ -1,7 +1,9 @@
-//! Lists of header extensions (RFC 5740 section 4.1). [`Extensions::check`] checks a list, and the result is an iterator over it.
+//! Lists of header extensions (RFC 5740 section 4.1). [`Extensions::check`] checks a list once. The result stands for the list, and is an
+//! iterator over it.
 
 ghost use Rattle.std.specs.Prelude.{◌≡◌, ◌+◌, ◌≤◌, ◌<◌, ◌^◌, [], ◌∷◌, MatchOption, MatchResult, OnOk, length, drop, take};
-ghost use Rattle.norm_ext.specs.Extensions.{extensions_of, extensions_checked, extension_checked, extension_length, extension_of, content_at as content_place, IsChecked};
+ghost use Rattle.norm_ext.specs.Extensions.{extensions_of as all_extensions, extensions_checked, extension_checked, extension_length, extension_of, content_at as content_place, IsChecked};
+ghost use Rattle.norm_ext.specs.Octets.{extensions_octets};
 
 use crate::places::WORD;
 use crate::refusal::ExtFault;
@@ -14,8 +16,9 @@ const FIRST_SHORT_TYPE: u8 = 128;
 // RFC 5740 section 4.1.
 const LENGTH_AT: usize = 1;
 
-/// Iterates over the extensions of a list as pairs of type and content.
+/// A list of whole extensions, which messages lend, and an iterator over them as pairs of type and content.
 // The list was checked. So the walk trusts each length, and need not answer a refusal.
+// Proof: a struct with a model and a lifetime cannot be `Copy`. So `iter` gives another one.
 #[derive(Debug, Drop)]
 pub struct Extensions<'a> {
     words: &'a [u8],
@@ -93,8 +96,8 @@ pub(crate) fn check_list(words: &[u8], from: usize) -> Result<(), ExtFault>
 fn cut_first(words: &[u8]) -> Option<(u8, &[u8], &[u8])>
     requires { IsChecked words.now }
     ensures { MatchOption result
-        (extensions_of words.now ≡ [])
-        (λ x. (extensions_of words.now ≡ extension_of x.0 x.1.now ∷ extensions_of x.2.now) × IsChecked x.2.now) }
+        (all_extensions words.now ≡ [])
+        (λ x. (all_extensions words.now ≡ extension_of x.0 x.1.now ∷ all_extensions x.2.now) × IsChecked x.2.now) }
 {
     if words.is_empty() {
         return None;
@@ -105,19 +108,57 @@ fn cut_first(words: &[u8]) -> Option<(u8, &[u8], &[u8])>
     Some((kind, content, rest))
 }
 
+/// Returns the octets of a list that was checked. They spell its extensions.
+fn spelled(words: &[u8]) -> &[u8]
+    requires { IsChecked words.now }
+    ensures { result.now ≡ extensions_octets (all_extensions words.now) }
+{
+    words
+}
+
+/// Returns the extensions of a list that is known to be whole, as [`fti_words`](crate::fti_words) makes it.
+pub fn extensions_of(words: &[u8]) -> Extensions<'_>
+    requires { IsChecked words.now }
+    ensures list { result ≡ all_extensions words.now }
+    ensures octets { extensions_octets result ≡ words.now }
+{
+    Extensions { words }
+}
+
 impl<'a> Extensions<'a> {
-    /// Checks a list and returns an iterator over it. Takes time in proportion to the number of extensions.
+    /// Checks a list and returns its extensions. Takes time in proportion to their number.
     ///
     /// # Errors
     ///
     /// The first fault, with its offset in the list.
     pub fn check(words: &'a [u8]) -> Result<Extensions<'a>, ExtFault>
         ensures { MatchResult result
-            (λ exts. (extensions_checked 0 words.now ≡ Ok tt) × (exts ≡ extensions_of words.now))
+            (λ exts. (extensions_checked 0 words.now ≡ Ok tt) × (exts ≡ all_extensions words.now))
             (λ fault. extensions_checked 0 words.now ≡ Err fault) }
     {
         check_list(words, 0)?;
         Ok(Extensions { words })
+    }
+
+    /// Returns a list without extensions.
+    pub fn none() -> Extensions<'a>
+        ensures { result ≡ [] }
+    {
+        Extensions { words: &[] }
+    }
+
+    /// Returns an iterator over the extensions, from the first on.
+    pub fn iter(&self) -> Extensions<'a>
+        ensures { result ≡ self.now }
+    {
+        Extensions { words: self.words }
+    }
+
+    /// Returns the octets that spell the extensions.
+    pub fn octets(&self) -> &'a [u8]
+        ensures { result.now ≡ extensions_octets self.now }
+    {
+        spelled(self.words)
     }
 }
 

@@ -1,14 +1,14 @@
 //! Checks and reads the parts that messages share. The readers of single messages call these in the order in which refusals are reported:
 //! first the header, then the encoding, the extensions, the requests, the nodes, and the length of a list.
 
-ghost use Rattle.std.specs.Prelude.{◌≡◌, ◌+◌, ◌*◌, ◌%◌, ◌≤◌, ◌<◌, Ok, Err, MatchResult, IfOk, OnOk, length};
+ghost use Rattle.std.specs.Prelude.{◌≡◌, ◌+◌, ◌*◌, ◌%◌, ◌≤◌, ◌<◌, Ok, Err, MatchResult, OnOk, length};
 ghost use Rattle.norm_base.specs.Member.{IsMember};
 ghost use Rattle.norm_ext.specs.Places.{word_size, common, sub_type_at, info_header};
 ghost use Rattle.norm_ext.specs.Numbers.{number, octet};
-ghost use Rattle.norm_ext.specs.Extensions.{IsChecked};
+ghost use Rattle.norm_ext.specs.Extensions.{extensions_of as all_extensions};
 ghost use Rattle.norm_ext.specs.Reading.{version_checked, header_checked, words_of, least_words, content_of, header_from, encoding_checked, header_extensions_checked, member_checked, list_checked, object_head_of, command_head_of, source_of};
 
-use crate::extensions::check_list;
+use crate::extensions::{Extensions, check_list, extensions_of};
 use crate::head::{CmdHead, ObjHead};
 use crate::kinds::{MessageType, SubType};
 use crate::numbers::{read_16, read_32};
@@ -123,24 +123,22 @@ pub fn check_encoding(id: u8) -> Result<(), Refusal>
     Ok(())
 }
 
-/// Returns the header's extensions: the octets between the offsets `from` and `end`. `end` is the header's length, as `check_header` returns it.
+/// Returns the header's extensions, which stand between the offsets `from` and `end`. `end` is the header's length, as `check_header` returns it.
 ///
 /// # Errors
 ///
 /// `Ext` with the offset of the first bad extension in the datagram.
-pub fn check_extensions(bytes: &[u8], from: usize, end: usize) -> Result<&[u8], Refusal>
+pub fn check_extensions(bytes: &[u8], from: usize, end: usize) -> Result<Extensions<'_>, Refusal>
     requires end { end ≡ word_size * words_of bytes.now }
     requires from { from ≤ end }
     requires long { end ≤ length bytes.now }
-    ensures exact { MatchResult result
-        (λ exts. (header_extensions_checked from bytes.now ≡ Ok tt) × (exts.now ≡ header_from from bytes.now))
+    ensures { MatchResult result
+        (λ exts. (header_extensions_checked from bytes.now ≡ Ok tt) × (exts ≡ all_extensions (header_from from bytes.now)))
         (λ refusal. header_extensions_checked from bytes.now ≡ Err refusal) }
-    // Proof: `Extensions` is made only of whole extensions (its invariant), so readers need this by itself.
-    ensures whole { IfOk result (λ exts. IsChecked exts.now) }
 {
     let exts = bytes.split_at(from).1.split_at(end - from).0;
     match check_list(exts, from) {
-        Ok(()) => Ok(exts),
+        Ok(()) => Ok(extensions_of(exts)),
         Err(ExtFault::ZeroLength { at }) => Err(Refusal::Ext { at }),
         Err(ExtFault::Overrun { at }) => Err(Refusal::Ext { at }),
     }

@@ -1,6 +1,6 @@
 //! What is proved of the grammar and of object ids. Each law is the contract of an empty function.
 
-ghost use Rattle.norm_ext.specs.Laws.{ReadIsSpelled, SpelledIsRead, SpellsOne, ReadAgain, RefusedIsFirst, FirstIsRefused, SpelledIsNotRefused, AskedIsRead, OneMoreTakes, NamesNearest, NamedAgain};
+ghost use Rattle.norm_ext.specs.Laws.{LentExtensions, LentRequests, ReadIsSpelled, SpelledIsRead, SpellsOne, ReadAgain, RefusedIsFirst, FirstIsRefused, SpelledIsNotRefused, AskedIsRead, OneMoreTakes, NamesNearest, NamedAgain};
 
 /// If octets are read as a message, they spell it.
 pub fn read_is_spelled()
@@ -36,6 +36,17 @@ pub fn first_is_refused()
 /// No refusal applies to octets that spell a message. So octets spell a message if and only if no refusal applies.
 pub fn spelled_is_not_refused()
     ensures { SpelledIsNotRefused }
+{}
+
+/// The extensions that a message lends stand for their list: the octets are those of one list that can be spelled, and each such list is read of
+/// its octets.
+pub fn lent_extensions()
+    ensures { LentExtensions }
+{}
+
+/// The same of repair requests.
+pub fn lent_requests()
+    ensures { LentRequests }
 {}
 
 /// If the items fit their widths, what a `RequestWriter` writes of them is a list of whole requests, and it is read as the requests that the

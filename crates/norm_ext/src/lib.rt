@@ -2,8 +2,8 @@
 //! Information, and repair requests.
 //!
 //! `specs/` has the whole grammar. `norm_objmsg`, `norm_cmdmsg`, `norm_fbmsg` and `norm_codec` read messages with [`header`] and
-//! [`check_requests`], write them with [`pushing`], and check with [`fitting`] if a message can be written. Senders and receivers iterate over
-//! [`Extensions`] and [`Requests`]. A receiver writes its requests with a [`RequestWriter`].
+//! [`Requests::check`], write them with [`pushing`], and check with [`fitting`] if a message can be written. What they read lends [`Extensions`] and
+//! [`Requests`], over which senders and receivers iterate. A receiver writes its requests with a [`RequestWriter`].
 #![tactic(auto)]
 
 mod extensions;
@@ -23,7 +23,7 @@ mod refusal;
 mod requests;
 mod writer;
 
-pub use crate::extensions::Extensions;
+pub use crate::extensions::{Extensions, extensions_of};
 pub use crate::fti::{Fti, fti_words, read_fti, write_fti};
 pub use crate::head::{CmdHead, Item, ObjHead};
 pub use crate::instance_ids::{MOST_RISE, is_above, rise};

@@ -1,9 +1,10 @@
 //! Lists of repair requests (RFC 5740 section 4.3.1). Check a list with [`check_requests`] and then iterate over it with [`requests_of`].
 
-ghost use Rattle.std.specs.Prelude.{◌≡◌, ◌+◌, ◌*◌, ◌/◌, ◌≤◌, ◌<◌, ◌^◌, [], ◌∷◌, Ok, Err, Some, MatchOption, MatchResult, OnOk, min, length, drop, take, slice_get};
+ghost use Rattle.std.specs.Prelude.{◌≡◌, ◌+◌, ◌*◌, ◌/◌, ◌==◌, ◌≤◌, ◌<◌, ◌^◌, [], ◌∷◌, Ok, Err, Some, MatchOption, MatchResult, OnOk, min, length, drop, take, slice_get};
 ghost use Rattle.norm_ext.specs.Places.{request_front, item_width};
 ghost use Rattle.norm_ext.specs.Requests.{requests_of as all_requests, requests_checked, request_checked, request_length, request_length_checked, items_length, items_checked, items_of, items_named, item_size, IsRequests};
 ghost use Rattle.norm_ext.specs.RequestView.{request_of};
+ghost use Rattle.norm_ext.specs.Octets.{requests_octets};
 
 use crate::head::Item;
 use crate::header::ENCODING_ID;
@@ -124,8 +125,9 @@ pub fn check_requests(list: &[u8], at: usize) -> Result<(), Refusal>
     Ok(())
 }
 
-/// Iterates over the requests of a list.
+/// A list of whole requests, which messages lend, and an iterator over them.
 // The list was checked. So the walk trusts each length, and need not answer a refusal.
+// Proof: a struct with a model and a lifetime cannot be `Copy`. So `iter` gives another one.
 #[derive(Debug, Drop)]
 pub struct Requests<'a> {
     list: &'a [u8],
@@ -142,12 +144,73 @@ impl<'a> Model for Requests<'a> {
     ghost invariant = { λ r. IsRequests r.list.now };
 }
 
-/// Returns an iterator over a list that `check_requests` accepted.
+/// Returns the octets of a list that was checked. They spell its requests.
+fn spelled(list: &[u8]) -> &[u8]
+    requires { IsRequests list.now }
+    ensures { result.now ≡ requests_octets (all_requests list.now) }
+{
+    list
+}
+
+/// Whether a list has no requests.
+fn has_none(list: &[u8]) -> bool
+    ensures { result ≡ (length (all_requests list.now) == 0) }
+{
+    list.is_empty()
+}
+
+/// Returns the requests of a list that `check_requests` accepted.
 pub fn requests_of(list: &[u8]) -> Requests<'_>
     requires { IsRequests list.now }
-    ensures { result ≡ all_requests list.now }
+    ensures list { result ≡ all_requests list.now }
+    ensures octets { requests_octets result ≡ list.now }
 {
     Requests { list }
+}
+
+impl<'a> Requests<'a> {
+    /// Checks a list, which begins at the offset `at` of its datagram, and returns its requests. Takes time in proportion to its length.
+    ///
+    /// # Errors
+    ///
+    /// Those of [`check_requests`].
+    pub fn check(list: &'a [u8], at: usize) -> Result<Requests<'a>, Refusal>
+        requires { at + length list.now < 2 ^ 64 }
+        ensures { MatchResult result
+            (λ requests. (requests_checked at list.now ≡ Ok tt) × (requests ≡ all_requests list.now))
+            (λ refusal. requests_checked at list.now ≡ Err refusal) }
+    {
+        check_requests(list, at)?;
+        Ok(Requests { list })
+    }
+
+    /// Returns a list without requests.
+    pub fn none() -> Requests<'a>
+        ensures { result ≡ [] }
+    {
+        Requests { list: &[] }
+    }
+
+    /// Returns an iterator over the requests, from the first on.
+    pub fn iter(&self) -> Requests<'a>
+        ensures { result ≡ self.now }
+    {
+        Requests { list: self.list }
+    }
+
+    /// Whether there is no request.
+    pub fn is_empty(&self) -> bool
+        ensures { result ≡ (length self.now == 0) }
+    {
+        has_none(self.list)
+    }
+
+    /// Returns the octets that spell the requests.
+    pub fn octets(&self) -> &'a [u8]
+        ensures { result.now ≡ requests_octets self.now }
+    {
+        spelled(self.list)
+    }
 }
 
 /// Splits off the first request of a list of whole requests. Returns `None` if the list is empty.
