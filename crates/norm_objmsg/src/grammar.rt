@@ -1,11 +1,10 @@
 //! Reads and writes INFO and DATA with any header extensions (RFC 5740 sections 4.2.1 and 4.2.2), and reads the segment in a stream's symbol.
 
-ghost use Rattle.std.specs.Prelude.{◌≡◌, ◌↔◌, ◌+◌, ◌≤◌, ◌<◌, IsTrue, Ok, Err, MatchResult, IfOk, [], length};
+ghost use Rattle.std.specs.Prelude.{◌≡◌, ◌↔◌, ◌+◌, ◌≤◌, ◌<◌, IsTrue, Ok, Err, MatchResult, [], length};
 ghost use Rattle.norm_ext.specs.Reading.{info_read, data_read};
 ghost use Rattle.norm_ext.specs.Segment.{segment_in};
 ghost use Rattle.norm_objmsg.specs.MessageView.{info_of, data_of, part_of};
 ghost use Rattle.std.specs.Option.{option_map};
-ghost use Rattle.norm_ext.specs.Extensions.{extensions_of, IsChecked};
 ghost use Rattle.norm_ext.specs.Message.{Info, Data};
 ghost use Rattle.norm_ext.specs.Octets.{octets_of};
 ghost use Rattle.norm_ext.specs.Places.{info_header, data_header};
@@ -19,48 +18,48 @@ use norm_ext::header::{
 };
 use norm_ext::places::{DATA, DATA_WORDS, ENCODING_AT, INFO, INFO_WORDS, NAME_AT, WORD};
 use norm_ext::pushing::{push_front, push_name, push_object_head};
-use norm_ext::{MessageType, ObjHead, Refusal, read_16, read_32, read_name};
+use norm_ext::{Extensions, MessageType, ObjHead, Refusal, read_16, read_32, read_name};
 
 const MSG_START_AT: usize = 2;
 
 const OFFSET_AT: usize = 4;
 
-/// NORM_INFO: the info of an object. Its slices borrow from the datagram.
-#[derive(Clone, Copy, Debug, PartialEq, Eq)]
+/// NORM_INFO: the info of an object. It borrows from the datagram.
+#[derive(Debug, Drop)]
 pub struct InfoMsg<'a> {
     pub head: ObjHead,
-    /// The header extensions, in whole words.
-    pub exts: &'a [u8],
+    /// The header extensions.
+    pub exts: Extensions<'a>,
     pub info: &'a [u8],
 }
 
-/// NORM_DATA: one symbol of an object. Its slices borrow from the datagram.
-#[derive(Clone, Copy, Debug, PartialEq, Eq)]
+/// NORM_DATA: one symbol of an object. It borrows from the datagram.
+#[derive(Debug, Drop)]
 pub struct DataMsg<'a> {
     pub head: ObjHead,
     pub id: PayloadId,
-    /// The header extensions, in whole words.
-    pub exts: &'a [u8],
+    /// The header extensions.
+    pub exts: Extensions<'a>,
     pub payload: &'a [u8],
 }
 
 impl<'a> InfoMsg<'a> {
-    /// Whether [`write_info`] can write it: its extensions are whole, its header has at most 255 words, the datagram at most 1,500 octets, and
-    /// `backoff` and `gsize` are below 16.
+    /// Whether [`write_info`] can write it: its header has at most 255 words, the datagram at most 1,500 octets, and `backoff` and `gsize` are
+    /// below 16.
     pub fn fits(&self) -> bool
-        ensures { IsTrue result ↔ CanWrite info_header self.now.head self.now.exts.now self.now.info.now }
+        ensures { IsTrue result ↔ CanWrite info_header self.now.head self.now.exts self.now.info.now }
     {
-        is_narrow(self.head.backoff, self.head.gsize) && has_room(INFO, self.exts, self.info.len())
+        is_narrow(self.head.backoff, self.head.gsize) && has_room(INFO, &self.exts, self.info.len())
     }
 }
 
 impl<'a> DataMsg<'a> {
     /// Whether [`write_data`] can write it: the conditions are those of [`InfoMsg::fits`].
     pub fn fits(&self) -> bool
-        ensures { IsTrue result ↔ CanWrite data_header self.now.head self.now.exts.now self.now.payload.now }
+        ensures { IsTrue result ↔ CanWrite data_header self.now.head self.now.exts self.now.payload.now }
     {
         is_narrow(self.head.backoff, self.head.gsize)
-            && has_room(DATA, self.exts, self.payload.len())
+            && has_room(DATA, &self.exts, self.payload.len())
     }
 }
 
@@ -84,9 +83,7 @@ pub struct StreamPart<'a> {
 /// If the octets spell no NORM_INFO, the first refusal that applies, in the order of [`Refusal`].
 #[tactic(auto, unfolding(norm_ext::specs::Reading::info_read))]
 pub fn read_info(bytes: &[u8]) -> Result<InfoMsg<'_>, Refusal>
-    ensures exact { MatchResult result (λ m. info_read bytes.now ≡ Ok (info_of m)) (λ refusal. info_read bytes.now ≡ Err refusal) }
-    // Its extensions may be walked.
-    ensures whole { IfOk result (λ m. IsChecked m.exts.now) }
+    ensures { MatchResult result (λ m. info_read bytes.now ≡ Ok (info_of m)) (λ refusal. info_read bytes.now ≡ Err refusal) }
 {
     let end = check_header(MessageType::Info, bytes)?;
     check_encoding(bytes[ENCODING_AT])?;
@@ -106,9 +103,7 @@ pub fn read_info(bytes: &[u8]) -> Result<InfoMsg<'_>, Refusal>
 /// If the octets spell no NORM_DATA, the first refusal that applies, in the order of [`Refusal`].
 #[tactic(auto, unfolding(norm_ext::specs::Reading::data_read))]
 pub fn read_data(bytes: &[u8]) -> Result<DataMsg<'_>, Refusal>
-    ensures exact { MatchResult result (λ m. data_read bytes.now ≡ Ok (data_of m)) (λ refusal. data_read bytes.now ≡ Err refusal) }
-    // Its extensions may be walked.
-    ensures whole { IfOk result (λ m. IsChecked m.exts.now) }
+    ensures { MatchResult result (λ m. data_read bytes.now ≡ Ok (data_of m)) (λ refusal. data_read bytes.now ≡ Err refusal) }
 {
     let end = check_header(MessageType::Data, bytes)?;
     check_encoding(bytes[ENCODING_AT])?;
@@ -144,12 +139,13 @@ pub fn read_part(payload: &[u8]) -> Option<StreamPart<'_>>
 }
 
 /// Writes a NORM_INFO from its parts.
-fn write_info_parts(head: &ObjHead, exts: &[u8], info: &[u8], out: &mut Datagram)
+fn write_info_parts(head: &ObjHead, exts: &Extensions<'_>, info: &[u8], out: &mut Datagram)
     requires empty { out.old ≡ [] }
     requires parts { CanWrite info_header head.now exts.now info.now }
-    ensures { out.new ≡ octets_of (Info (record { head = head.now; extensions = extensions_of exts.now; info = info.now })) }
+    ensures { out.new ≡ octets_of (Info (record { head = head.now; extensions = exts.now; info = info.now })) }
 {
-    let words = INFO_WORDS + (exts.len() / WORD) as u8;
+    let spelled = exts.octets();
+    let words = INFO_WORDS + (spelled.len() / WORD) as u8;
     push_front(
         MessageType::Info.number(),
         words,
@@ -158,26 +154,33 @@ fn write_info_parts(head: &ObjHead, exts: &[u8], info: &[u8], out: &mut Datagram
         out,
     );
     push_object_head(head, out);
-    out.push(exts);
+    out.push(spelled);
     out.push(info);
 }
 
 /// Writes a NORM_INFO into an empty datagram. Ask [`fits`](InfoMsg::fits) first if it may not fit.
 pub fn write_info(msg: &InfoMsg<'_>, out: &mut Datagram)
     requires empty { out.old ≡ [] }
-    requires message { CanWrite info_header msg.now.head msg.now.exts.now msg.now.info.now }
+    requires message { CanWrite info_header msg.now.head msg.now.exts msg.now.info.now }
     ensures { out.new ≡ octets_of (info_of msg.now) }
 {
-    write_info_parts(&msg.head, msg.exts, msg.info, out);
+    write_info_parts(&msg.head, &msg.exts, msg.info, out);
 }
 
 /// Writes a NORM_DATA from its parts.
-fn write_data_parts(head: &ObjHead, id: &PayloadId, exts: &[u8], payload: &[u8], out: &mut Datagram)
+fn write_data_parts(
+    head: &ObjHead,
+    id: &PayloadId,
+    exts: &Extensions<'_>,
+    payload: &[u8],
+    out: &mut Datagram,
+)
     requires empty { out.old ≡ [] }
     requires parts { CanWrite data_header head.now exts.now payload.now }
-    ensures { out.new ≡ octets_of (Data (record { head = head.now; id = id.now; extensions = extensions_of exts.now; payload = payload.now })) }
+    ensures { out.new ≡ octets_of (Data (record { head = head.now; id = id.now; extensions = exts.now; payload = payload.now })) }
 {
-    let words = DATA_WORDS + (exts.len() / WORD) as u8;
+    let spelled = exts.octets();
+    let words = DATA_WORDS + (spelled.len() / WORD) as u8;
     push_front(
         MessageType::Data.number(),
         words,
@@ -187,15 +190,15 @@ fn write_data_parts(head: &ObjHead, id: &PayloadId, exts: &[u8], payload: &[u8],
     );
     push_object_head(head, out);
     push_name(id, out);
-    out.push(exts);
+    out.push(spelled);
     out.push(payload);
 }
 
 /// Writes a NORM_DATA into an empty datagram. Ask [`fits`](DataMsg::fits) first if it may not fit.
 pub fn write_data(msg: &DataMsg<'_>, out: &mut Datagram)
     requires empty { out.old ≡ [] }
-    requires message { CanWrite data_header msg.now.head msg.now.exts.now msg.now.payload.now }
+    requires message { CanWrite data_header msg.now.head msg.now.exts msg.now.payload.now }
     ensures { out.new ≡ octets_of (data_of msg.now) }
 {
-    write_data_parts(&msg.head, &msg.id, msg.exts, msg.payload, out);
+    write_data_parts(&msg.head, &msg.id, &msg.exts, msg.payload, out);
 }
