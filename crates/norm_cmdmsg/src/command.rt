@@ -1,22 +1,22 @@
 //! The commands of a sender as values, and which of them can be written.
 
 ghost use Rattle.std.specs.Prelude.{◌≡◌, ◌*◌, ◌≤◌, ◌↔◌, ◌%◌, ◌⊎◌, IsTrue, [], length};
-ghost use Rattle.norm_ext.specs.Requests.{IsRequests};
-ghost use Rattle.norm_ext.specs.Places.{word_size, most_header_words};
+ghost use Rattle.norm_ext.specs.Octets.{requests_octets};
+ghost use Rattle.norm_ext.specs.Places.{word_size, most_header_words, command_header};
 ghost use Rattle.norm_cmdmsg.specs.CanWrite.{CanWrite, IsNarrow, HasRoom, IsUnread};
 
 use fec_plan::PayloadId;
 use norm_base::DATAGRAM_ROOM;
-use norm_ext::fitting::{are_requests, has_room, is_narrow};
+use norm_ext::fitting::{has_room, is_narrow};
 use norm_ext::places::{COMMAND, COMMAND_WORDS, NAMING, NODE, OBJECT, SUB_TYPE_AT, WORD};
-use norm_ext::{CmdHead, SubType};
+use norm_ext::{CmdHead, Extensions, Requests, SubType};
 
 /// The octets before the `rest` of a command that is kept unread.
 // The common header and the fields of each command up to its sub-type (RFC 5740 section 4.2.3).
 pub(crate) const BEFORE_REST: usize = SUB_TYPE_AT + 1;
 
-/// A command. Its slices borrow from the datagram.
-#[derive(Clone, Copy, Debug, PartialEq, Eq)]
+/// A command. It borrows from the datagram.
+#[derive(Debug, Drop)]
 pub enum CommandMsg<'a> {
     /// The sender sent everything up to this symbol, and these nodes should acknowledge it.
     Flush {
@@ -24,22 +24,22 @@ pub enum CommandMsg<'a> {
         /// The object transport id.
         object: u16,
         id: PayloadId,
-        /// The header extensions, in whole words.
-        exts: &'a [u8],
+        /// The header extensions.
+        exts: Extensions<'a>,
         /// Node ids of 32 bits. If the command was read, some may still be no members.
         nodes: &'a [u8],
     },
     /// The sender's transmission ends.
     Eot {
         head: CmdHead,
-        exts: &'a [u8],
+        exts: Extensions<'a>,
     },
     /// The sender no longer repairs anything before this symbol, nor these objects.
     Squelch {
         head: CmdHead,
         object: u16,
         id: PayloadId,
-        exts: &'a [u8],
+        exts: Extensions<'a>,
         /// Object transport ids of 16 bits.
         invalid: &'a [u8],
     },
@@ -47,16 +47,15 @@ pub enum CommandMsg<'a> {
     RepairAdv {
         head: CmdHead,
         flags: u8,
-        exts: &'a [u8],
-        /// A list of whole requests.
-        requests: &'a [u8],
+        exts: Extensions<'a>,
+        requests: Requests<'a>,
     },
     /// These nodes should send an acknowledgement of this type and id.
     AckReq {
         head: CmdHead,
         ack_type: u8,
         ack_id: u8,
-        exts: &'a [u8],
+        exts: Extensions<'a>,
         nodes: &'a [u8],
     },
     /// A command for congestion control, or one of an application. Its content is kept unread.
@@ -79,11 +78,18 @@ fn head_fits(head: &CmdHead) -> bool
 }
 
 /// Whether extensions and content have room after `fixed` octets of fixed fields.
-fn parts_fit(fixed: usize, exts: &[u8], content: &[u8]) -> bool
+fn parts_fit(fixed: usize, exts: &Extensions<'_>, content: &[u8]) -> bool
     requires { fixed ≤ word_size * most_header_words }
     ensures { IsTrue result ↔ HasRoom fixed exts.now content.now }
 {
     has_room(fixed, exts, content.len())
+}
+
+/// Whether extensions and requests have room in a REPAIR_ADV.
+fn adv_fits(exts: &Extensions<'_>, requests: &Requests<'_>) -> bool
+    ensures { IsTrue result ↔ HasRoom command_header exts.now (requests_octets requests.now) }
+{
+    parts_fit(COMMAND, exts, requests.octets())
 }
 
 /// Whether an unread command has sub-type 4 or 7, has a whole header of `words` words, and fits into a datagram.
@@ -102,7 +108,7 @@ fn unread_fits(sub_type: u8, words: u8, rest: &[u8]) -> bool
 impl<'a> CommandMsg<'a> {
     /// Whether [`write_command`](crate::write_command) can write it:
     /// - `backoff` and `gsize` are below 16;
-    /// - its extensions and requests are whole, its node ids have four octets each and its object ids two;
+    /// - its node ids have four octets each, and its object ids two;
     /// - its header has at most 255 words, and the datagram at most 1,500 octets;
     /// - if it is kept unread, it has sub-type 4 or 7, and at least the header that `words` says, of four words or more.
     pub fn fits(&self) -> bool
@@ -127,7 +133,7 @@ impl<'a> CommandMsg<'a> {
                 exts,
                 requests,
                 ..
-            } => head_fits(head) && parts_fit(COMMAND, exts, requests) && are_requests(requests),
+            } => head_fits(head) && adv_fits(exts, requests),
             CommandMsg::AckReq {
                 head,
                 exts,

@@ -15,7 +15,7 @@ use norm_ext::places::{
     ACK_ID_AT, ACK_TYPE_AT, ADV_FLAGS_AT, COMMAND, ENCODING_AT, NAME_AT, NAMING, NODE, OBJECT,
     OBJECT_AT, SUB_TYPE_AT, WORDS_AT,
 };
-use norm_ext::{MessageType, Refusal, SubType, check_requests, read_16, read_name};
+use norm_ext::{MessageType, Refusal, Requests, SubType, read_16, read_name};
 
 /// Reads a FLUSH whose header has `end` octets. The list of nodes follows the header.
 #[tactic(auto, unfolding(norm_ext::specs::Reading::flush_read))]
@@ -94,8 +94,7 @@ fn read_repair_adv(bytes: &[u8], end: usize) -> Result<CommandMsg<'_>, Refusal>
     ensures whole { IfOk result IsWhole }
 {
     let exts = check_extensions(bytes, COMMAND, end)?;
-    let requests = bytes.split_at(end).1;
-    check_requests(requests, end)?;
+    let requests = Requests::check(bytes.split_at(end).1, end)?;
     let source = check_source(bytes)?;
     Ok(CommandMsg::RepairAdv {
         head: read_command_head(bytes, source),

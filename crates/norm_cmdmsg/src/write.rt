@@ -5,10 +5,8 @@ ghost use Rattle.norm_base.specs.Sizes.{datagram_room};
 ghost use Rattle.norm_ext.specs.Places.{node_size, object_size, command_header, naming_header};
 ghost use Rattle.norm_ext.specs.Numbers.{type_number};
 ghost use Rattle.norm_ext.specs.declared.kinds.MessageType.TheVariants as types;
-ghost use Rattle.norm_ext.specs.Octets.{octets_of, front_octets, command_octets};
+ghost use Rattle.norm_ext.specs.Octets.{octets_of, front_octets, command_octets, requests_octets};
 ghost use Rattle.norm_ext.specs.Message.{Flush, Eot, Squelch, RepairAdv, AckReq, Opaque};
-ghost use Rattle.norm_ext.specs.Extensions.{extensions_of};
-ghost use Rattle.norm_ext.specs.Requests.{requests_of, IsRequests};
 ghost use Rattle.norm_ext.specs.Lists.{nodes_of, objects_of};
 ghost use Rattle.norm_cmdmsg.specs.View.{command_of};
 ghost use Rattle.norm_cmdmsg.specs.CanWrite.{CanWrite, IsNarrow, HasRoom, IsUnread};
@@ -20,7 +18,7 @@ use norm_base::Datagram;
 use norm_ext::header::ENCODING_ID;
 use norm_ext::places::{COMMAND_WORDS, NAMING_WORDS, WORD};
 use norm_ext::pushing::{push_16, push_command_head, push_front, push_name};
-use norm_ext::{CmdHead, MessageType, SubType};
+use norm_ext::{CmdHead, Extensions, MessageType, Requests, SubType};
 
 /// Writes the common header and the fields at the beginning of a command. `words` is the length of the whole header.
 fn push_head(head: &CmdHead, words: u8, sub_type: u8, out: &mut Datagram)
@@ -52,7 +50,7 @@ fn write_flush(
     head: &CmdHead,
     object: u16,
     id: &PayloadId,
-    exts: &[u8],
+    exts: &Extensions<'_>,
     nodes: &[u8],
     out: &mut Datagram,
 )
@@ -60,33 +58,35 @@ fn write_flush(
     requires head { IsNarrow head.now }
     requires room { HasRoom naming_header exts.now nodes.now }
     requires whole { length nodes.now % node_size ≡ 0 }
-    ensures { out.new ≡ octets_of (Flush (record { head = head.now; object = object; id = id.now; extensions = extensions_of exts.now; nodes = nodes_of nodes.now })) }
+    ensures { out.new ≡ octets_of (Flush (record { head = head.now; object = object; id = id.now; extensions = exts.now; nodes = nodes_of nodes.now })) }
 {
-    let words = NAMING_WORDS + (exts.len() / WORD) as u8;
+    let spelled = exts.octets();
+    let words = NAMING_WORDS + (spelled.len() / WORD) as u8;
     push_head(head, words, SubType::Flush.number(), out);
     push_symbol(object, id, out);
-    out.push(exts);
+    out.push(spelled);
     out.push(nodes);
 }
 
 /// Writes an EOT. Its three reserved octets are 0.
-fn write_eot(head: &CmdHead, exts: &[u8], out: &mut Datagram)
+fn write_eot(head: &CmdHead, exts: &Extensions<'_>, out: &mut Datagram)
     requires empty { out.old ≡ [] }
     requires head { IsNarrow head.now }
     requires room { HasRoom command_header exts.now [] }
-    ensures { out.new ≡ octets_of (Eot (record { head = head.now; extensions = extensions_of exts.now })) }
+    ensures { out.new ≡ octets_of (Eot (record { head = head.now; extensions = exts.now })) }
 {
-    let words = COMMAND_WORDS + (exts.len() / WORD) as u8;
+    let spelled = exts.octets();
+    let words = COMMAND_WORDS + (spelled.len() / WORD) as u8;
     push_head(head, words, SubType::EndOfTransmission.number(), out);
     out.push(&[0; 3]);
-    out.push(exts);
+    out.push(spelled);
 }
 
 fn write_squelch(
     head: &CmdHead,
     object: u16,
     id: &PayloadId,
-    exts: &[u8],
+    exts: &Extensions<'_>,
     invalid: &[u8],
     out: &mut Datagram,
 )
@@ -94,34 +94,41 @@ fn write_squelch(
     requires head { IsNarrow head.now }
     requires room { HasRoom naming_header exts.now invalid.now }
     requires whole { length invalid.now % object_size ≡ 0 }
-    ensures { out.new ≡ octets_of (Squelch (record { head = head.now; object = object; id = id.now; extensions = extensions_of exts.now; invalid = objects_of invalid.now })) }
+    ensures { out.new ≡ octets_of (Squelch (record { head = head.now; object = object; id = id.now; extensions = exts.now; invalid = objects_of invalid.now })) }
 {
-    let words = NAMING_WORDS + (exts.len() / WORD) as u8;
+    let spelled = exts.octets();
+    let words = NAMING_WORDS + (spelled.len() / WORD) as u8;
     push_head(head, words, SubType::Squelch.number(), out);
     push_symbol(object, id, out);
-    out.push(exts);
+    out.push(spelled);
     out.push(invalid);
 }
 
-fn write_repair_adv(head: &CmdHead, flags: u8, exts: &[u8], requests: &[u8], out: &mut Datagram)
+fn write_repair_adv(
+    head: &CmdHead,
+    flags: u8,
+    exts: &Extensions<'_>,
+    requests: &Requests<'_>,
+    out: &mut Datagram,
+)
     requires empty { out.old ≡ [] }
     requires head { IsNarrow head.now }
-    requires room { HasRoom command_header exts.now requests.now }
-    requires whole { IsRequests requests.now }
-    ensures { out.new ≡ octets_of (RepairAdv (record { head = head.now; flags = flags; extensions = extensions_of exts.now; requests = requests_of requests.now })) }
+    requires room { HasRoom command_header exts.now (requests_octets requests.now) }
+    ensures { out.new ≡ octets_of (RepairAdv (record { head = head.now; flags = flags; extensions = exts.now; requests = requests.now })) }
 {
-    let words = COMMAND_WORDS + (exts.len() / WORD) as u8;
+    let spelled = exts.octets();
+    let words = COMMAND_WORDS + (spelled.len() / WORD) as u8;
     push_head(head, words, SubType::RepairAdvertisement.number(), out);
     out.push(&[flags, 0, 0]);
-    out.push(exts);
-    out.push(requests);
+    out.push(spelled);
+    out.push(requests.octets());
 }
 
 fn write_ack_req(
     head: &CmdHead,
     ack_type: u8,
     ack_id: u8,
-    exts: &[u8],
+    exts: &Extensions<'_>,
     nodes: &[u8],
     out: &mut Datagram,
 )
@@ -129,12 +136,13 @@ fn write_ack_req(
     requires head { IsNarrow head.now }
     requires room { HasRoom command_header exts.now nodes.now }
     requires whole { length nodes.now % node_size ≡ 0 }
-    ensures { out.new ≡ octets_of (AckReq (record { head = head.now; ack_type = ack_type; ack_id = ack_id; extensions = extensions_of exts.now; nodes = nodes_of nodes.now })) }
+    ensures { out.new ≡ octets_of (AckReq (record { head = head.now; ack_type = ack_type; ack_id = ack_id; extensions = exts.now; nodes = nodes_of nodes.now })) }
 {
-    let words = COMMAND_WORDS + (exts.len() / WORD) as u8;
+    let spelled = exts.octets();
+    let words = COMMAND_WORDS + (spelled.len() / WORD) as u8;
     push_head(head, words, SubType::AckRequest.number(), out);
     out.push(&[0, ack_type, ack_id]);
-    out.push(exts);
+    out.push(spelled);
     out.push(nodes);
 }
 
