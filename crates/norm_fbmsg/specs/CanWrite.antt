@@ -4,8 +4,8 @@ use Rattle.std.specs.List.{repeat}
 use Rattle.norm_base.specs.Sizes.{datagram_room}
 use Rattle.norm_ext.specs.Places.{word_size, most_header_words, feedback_header, item_width}
 use Rattle.norm_ext.specs.Numbers.{flush_ack}
-use Rattle.norm_ext.specs.Extensions.{IsChecked}
-use Rattle.norm_ext.specs.Requests.{IsRequests}
+use Rattle.norm_ext.specs.Extensions.{Extension}
+use Rattle.norm_ext.specs.Octets.{extensions_octets, requests_octets}
 use Rattle.norm_fbmsg.specs.declared.message.NackMsg.{NackMsg}
 use Rattle.norm_fbmsg.specs.declared.message.AckMsg.{AckMsg}
 use Rattle.norm_fbmsg.specs.declared.message.AckBody.{AckBody}
@@ -15,15 +15,13 @@ use Rattle.norm_fbmsg.specs.declared.message.AckBody.TheVariants as lent
 abbrev pub zero_list : ℕ → List ℕ
 zero_list n = repeat n (0 ∷ [])
 
--- whole extensions, a header of at most 255 words, and 1,500 octets in all
-pub record CanWriteParts (exts : List ℕ) (content : ℕ) : Type 0 where
-  pub extensions : IsChecked exts
-  pub header : feedback_header + length exts ≤ word_size * most_header_words
-  pub most : feedback_header + length exts + content ≤ datagram_room
+-- with so many octets of content: a header of at most 255 words, and 1,500 octets in all
+pub record CanWriteParts (extensions : List Extension) (content : ℕ) : Type 0 where
+  pub header : feedback_header + length (extensions_octets extensions) ≤ word_size * most_header_words
+  pub most : feedback_header + length (extensions_octets extensions) + content ≤ datagram_room
 
-pub record CanWriteNack (m : NackMsg) : Type 0 where
-  pub parts : CanWriteParts m.exts.now (length m.requests.now)
-  pub requests : IsRequests m.requests.now
+abbrev pub CanWriteNack : NackMsg → Type 0
+CanWriteNack m = CanWriteParts m.exts (length (requests_octets m.requests))
 
 -- the octets of what an acknowledgement holds
 abbrev pub body_length : AckBody → ℕ
@@ -36,5 +34,5 @@ HasBody ack_type (lent.Mark item) = ack_type ≡ flush_ack
 HasBody ack_type (lent.Opaque octets) = ack_type ≢ flush_ack
 
 pub record CanWriteAck (m : AckMsg) : Type 0 where
-  pub parts : CanWriteParts m.exts.now (body_length m.body)
+  pub parts : CanWriteParts m.exts (body_length m.body)
   pub body : HasBody m.ack_type m.body

@@ -1,7 +1,5 @@
 -- Feedback that is lent, as what it says.
 use Rattle.norm_ext.specs.Message.{Message, Nack, Ack, AckContent, Mark, Unread}
-use Rattle.norm_ext.specs.Extensions.{extensions_of}
-use Rattle.norm_ext.specs.Requests.{requests_of}
 use Rattle.norm_fbmsg.specs.declared.message.NackMsg.{NackMsg}
 use Rattle.norm_fbmsg.specs.declared.message.AckMsg.{AckMsg}
 use Rattle.norm_fbmsg.specs.declared.message.AckBody.{AckBody}
@@ -15,8 +13,8 @@ nack_of m =
       sequence = m.sequence;
       sender = m.sender;
       instance = m.instance;
-      extensions = extensions_of m.exts.now;
-      requests = requests_of m.requests.now;
+      extensions = m.exts;
+      requests = m.requests;
     })
 
 abbrev pub content_of : AckBody → AckContent
@@ -33,6 +31,6 @@ ack_of m =
       instance = m.instance;
       ack_type = m.ack_type;
       ack_id = m.ack_id;
-      extensions = extensions_of m.exts.now;
+      extensions = m.exts;
       content = content_of m.body;
     })

@@ -1,30 +1,28 @@
 //! Feedback as values, and which of it can be written.
 
 ghost use Rattle.std.specs.Prelude.{◌≡◌, ◌↔◌, IsTrue, length};
-ghost use Rattle.norm_ext.specs.Requests.{requests_of, IsRequests};
 ghost use Rattle.norm_fbmsg.specs.CanWrite.{CanWriteNack, CanWriteAck, CanWriteParts, HasBody, body_length};
 
 use norm_base::{InstanceId, NodeId};
-use norm_ext::fitting::{are_requests, has_room};
+use norm_ext::fitting::has_room;
 use norm_ext::places::{FEEDBACK, ITEM};
-use norm_ext::{Item, Requests, requests_of as requests_in};
+use norm_ext::{Extensions, Item, Requests};
 
 /// The type of an acknowledgement that answers a FLUSH (RFC 5740 section 4.3.2).
 // NORM_ACK_FLUSH. An acknowledgement of any other type is lent as it is, and not read.
 pub const FLUSH_ACK: u8 = 2;
 
-/// A NACK: a receiver requests repairs. Its slices borrow from the datagram.
-#[derive(Clone, Copy, Debug, PartialEq, Eq)]
+/// A NACK: a receiver requests repairs. It borrows from the datagram.
+#[derive(Debug, Drop)]
 pub struct NackMsg<'a> {
     pub source: NodeId,
     pub sequence: u16,
     /// The sender that should repair.
     pub sender: NodeId,
     pub instance: InstanceId,
-    /// The header extensions, in whole words.
-    pub exts: &'a [u8],
-    /// A list of whole requests.
-    pub requests: &'a [u8],
+    /// The header extensions.
+    pub exts: Extensions<'a>,
+    pub requests: Requests<'a>,
 }
 
 /// The content of an acknowledgement.
@@ -36,8 +34,8 @@ pub enum AckBody<'a> {
     Opaque(&'a [u8]),
 }
 
-/// An ACK. Its slices borrow from the datagram.
-#[derive(Clone, Copy, Debug, PartialEq, Eq)]
+/// An ACK. It borrows from the datagram.
+#[derive(Debug, Drop)]
 pub struct AckMsg<'a> {
     pub source: NodeId,
     pub sequence: u16,
@@ -46,33 +44,31 @@ pub struct AckMsg<'a> {
     pub instance: InstanceId,
     pub ack_type: u8,
     pub ack_id: u8,
-    /// The header extensions, in whole words.
-    pub exts: &'a [u8],
+    /// The header extensions.
+    pub exts: Extensions<'a>,
     pub body: AckBody<'a>,
 }
 
 /// Whether extensions and `content` octets of content have room after the fixed fields.
-fn parts_fit(exts: &[u8], content: usize) -> bool
+fn parts_fit(exts: &Extensions<'_>, content: usize) -> bool
     ensures { IsTrue result ↔ CanWriteParts exts.now content }
 {
     has_room(FEEDBACK, exts, content)
 }
 
 impl<'a> NackMsg<'a> {
-    /// Whether [`write_nack`](crate::write_nack) can write it: its extensions and requests are whole, its header has at most 255 words, and the
-    /// datagram at most 1,500 octets.
+    /// Whether [`write_nack`](crate::write_nack) can write it: its header has at most 255 words, and the datagram at most 1,500 octets.
     pub fn fits(&self) -> bool
         ensures { IsTrue result ↔ CanWriteNack self.now }
     {
-        parts_fit(self.exts, self.requests.len()) && are_requests(self.requests)
+        parts_fit(&self.exts, self.requests.octets().len())
     }
 
-    /// Returns an iterator over its requests. They are whole if the message was read.
+    /// Returns an iterator over its requests.
     pub fn requests(&self) -> Requests<'a>
-        requires { IsRequests self.now.requests.now }
-        ensures { result ≡ requests_of self.now.requests.now }
+        ensures { result ≡ self.now.requests }
     {
-        requests_in(self.requests)
+        self.requests.iter()
     }
 }
 
@@ -99,11 +95,11 @@ impl<'a> AckBody<'a> {
 }
 
 impl<'a> AckMsg<'a> {
-    /// Whether [`write_ack`](crate::write_ack) can write it: its extensions are whole, its header has at most 255 words, the datagram at most 1,500
-    /// octets, and it has an item if and only if its type is `FLUSH_ACK`.
+    /// Whether [`write_ack`](crate::write_ack) can write it: its header has at most 255 words, the datagram at most 1,500 octets, and it has an item
+    /// if and only if its type is `FLUSH_ACK`.
     pub fn fits(&self) -> bool
         ensures { IsTrue result ↔ CanWriteAck self.now }
     {
-        parts_fit(self.exts, self.body.len()) && self.body.is_of(self.ack_type)
+        parts_fit(&self.exts, self.body.len()) && self.body.is_of(self.ack_type)
     }
 }

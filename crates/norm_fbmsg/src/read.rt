@@ -1,11 +1,10 @@
 //! Reads feedback (RFC 5740 section 4.3).
 
-ghost use Rattle.std.specs.Prelude.{◌≡◌, ◌+◌, ◌*◌, ◌≤◌, ◌<◌, ◌^◌, Ok, Err, MatchResult, IfOk, OnOk, length};
+ghost use Rattle.std.specs.Prelude.{◌≡◌, ◌+◌, ◌*◌, ◌≤◌, ◌<◌, ◌^◌, Ok, Err, MatchResult, OnOk, length};
 ghost use Rattle.norm_ext.specs.Places.{item_width};
 ghost use Rattle.norm_ext.specs.Numbers.{flush_ack};
 ghost use Rattle.norm_ext.specs.Reading.{nack_read, ack_read, ack_encoding_checked, ack_length_checked, ack_content_of};
 ghost use Rattle.norm_fbmsg.specs.View.{nack_of, ack_of, content_of};
-ghost use Rattle.norm_fbmsg.specs.Whole.{IsWholeNack, IsWholeAck};
 
 use crate::message::{AckBody, AckMsg, FLUSH_ACK, NackMsg};
 use norm_base::InstanceId;
@@ -14,7 +13,7 @@ use norm_ext::places::{
     ACK_ID_AT, ACK_TYPE_AT, FEEDBACK, FEEDBACK_INSTANCE_AT, ITEM, ITEM_NAME_AT, ITEM_OBJECT_AT,
     SENDER_AT, SEQUENCE_AT,
 };
-use norm_ext::{Item, MessageType, Refusal, check_requests, read_16, read_32, read_name};
+use norm_ext::{Item, MessageType, Refusal, Requests, read_16, read_32, read_name};
 
 /// Reads a NACK. It takes no memory: the result borrows from the octets.
 ///
@@ -23,13 +22,11 @@ use norm_ext::{Item, MessageType, Refusal, check_requests, read_16, read_32, rea
 /// If the octets spell no NACK, the first refusal that applies, in the order of [`Refusal`].
 #[tactic(auto, unfolding(norm_ext::specs::Reading::nack_read))]
 pub fn read_nack(bytes: &[u8]) -> Result<NackMsg<'_>, Refusal>
-    ensures exact { MatchResult result (λ m. nack_read bytes.now ≡ Ok (nack_of m)) (λ refusal. nack_read bytes.now ≡ Err refusal) }
-    ensures whole { IfOk result IsWholeNack }
+    ensures { MatchResult result (λ m. nack_read bytes.now ≡ Ok (nack_of m)) (λ refusal. nack_read bytes.now ≡ Err refusal) }
 {
     let end = check_header(MessageType::Nack, bytes)?;
     let exts = check_extensions(bytes, FEEDBACK, end)?;
-    let requests = bytes.split_at(end).1;
-    check_requests(requests, end)?;
+    let requests = Requests::check(bytes.split_at(end).1, end)?;
     let source = check_source(bytes)?;
     let sender = check_member(read_32(bytes, SENDER_AT))?;
     Ok(NackMsg {
@@ -90,8 +87,7 @@ fn body_of(ack_type: u8, content: &[u8]) -> AckBody<'_>
 /// If the octets spell no ACK, the first refusal that applies, in the order of [`Refusal`].
 #[tactic(auto, unfolding(norm_ext::specs::Reading::ack_read))]
 pub fn read_ack(bytes: &[u8]) -> Result<AckMsg<'_>, Refusal>
-    ensures exact { MatchResult result (λ m. ack_read bytes.now ≡ Ok (ack_of m)) (λ refusal. ack_read bytes.now ≡ Err refusal) }
-    ensures whole { IfOk result IsWholeAck }
+    ensures { MatchResult result (λ m. ack_read bytes.now ≡ Ok (ack_of m)) (λ refusal. ack_read bytes.now ≡ Err refusal) }
 {
     let end = check_header(MessageType::Ack, bytes)?;
     let exts = check_extensions(bytes, FEEDBACK, end)?;

@@ -2,28 +2,31 @@
 
 ghost use Rattle.std.specs.Prelude.{◌≡◌, ◌+◌, ◌≤◌, ◌++◌, [], length};
 ghost use Rattle.norm_base.specs.Sizes.{datagram_room};
-ghost use Rattle.norm_ext.specs.Octets.{octets_of, content_octets};
+ghost use Rattle.norm_ext.specs.Octets.{octets_of, content_octets, requests_octets};
 ghost use Rattle.norm_fbmsg.specs.View.{nack_of, ack_of, content_of};
 ghost use Rattle.norm_fbmsg.specs.CanWrite.{CanWriteParts, CanWriteNack, CanWriteAck, body_length, zero_list};
-ghost use Rattle.norm_ext.specs.Extensions.{extensions_of};
-ghost use Rattle.norm_ext.specs.Requests.{requests_of, IsRequests};
 ghost use Rattle.norm_ext.specs.Message.{Nack, Ack};
 
 use crate::message::{AckBody, AckMsg, NackMsg};
 use norm_base::Datagram;
-use norm_ext::MessageType;
 use norm_ext::header::ENCODING_ID;
 use norm_ext::places::{FEEDBACK_WORDS, WORD};
 use norm_ext::pushing::{push_16, push_front, push_instance, push_name, push_node};
+use norm_ext::{Extensions, MessageType, Requests};
 
 /// Writes a NACK with these extensions and requests, and the other fields of `msg`.
-fn write_nack_parts(msg: &NackMsg<'_>, exts: &[u8], requests: &[u8], out: &mut Datagram)
+fn write_nack_parts(
+    msg: &NackMsg<'_>,
+    exts: &Extensions<'_>,
+    requests: &Requests<'_>,
+    out: &mut Datagram,
+)
     requires empty { out.old ≡ [] }
-    requires parts { CanWriteParts exts.now (length requests.now) }
-    requires whole { IsRequests requests.now }
-    ensures { out.new ≡ octets_of (Nack (record { source = msg.now.source; sequence = msg.now.sequence; sender = msg.now.sender; instance = msg.now.instance; extensions = extensions_of exts.now; requests = requests_of requests.now })) }
+    requires parts { CanWriteParts exts.now (length (requests_octets requests.now)) }
+    ensures { out.new ≡ octets_of (Nack (record { source = msg.now.source; sequence = msg.now.sequence; sender = msg.now.sender; instance = msg.now.instance; extensions = exts.now; requests = requests.now })) }
 {
-    let words = FEEDBACK_WORDS + (exts.len() / WORD) as u8;
+    let spelled = exts.octets();
+    let words = FEEDBACK_WORDS + (spelled.len() / WORD) as u8;
     push_front(
         MessageType::Nack.number(),
         words,
@@ -35,8 +38,8 @@ fn write_nack_parts(msg: &NackMsg<'_>, exts: &[u8], requests: &[u8], out: &mut D
     push_instance(msg.instance, out);
     // Two reserved octets and the time stamp of RFC 5740 section 4.3.1. Without congestion control nobody reads it.
     out.push(&[0; 10]);
-    out.push(exts);
-    out.push(requests);
+    out.push(spelled);
+    out.push(requests.octets());
 }
 
 /// Writes a NACK into an empty datagram. Reserved octets and the time stamp are 0. Ask [`fits`](NackMsg::fits) first if it may not fit.
@@ -45,7 +48,7 @@ pub fn write_nack(msg: &NackMsg<'_>, out: &mut Datagram)
     requires message { CanWriteNack msg.now }
     ensures { out.new ≡ octets_of (nack_of msg.now) }
 {
-    write_nack_parts(msg, msg.exts, msg.requests, out);
+    write_nack_parts(msg, &msg.exts, &msg.requests, out);
 }
 
 /// Appends the content of an acknowledgement.
@@ -64,12 +67,13 @@ fn push_body(body: &AckBody<'_>, out: &mut Datagram)
 }
 
 /// Writes an ACK with these extensions, and the other fields of `msg`.
-fn write_ack_parts(msg: &AckMsg<'_>, exts: &[u8], out: &mut Datagram)
+fn write_ack_parts(msg: &AckMsg<'_>, exts: &Extensions<'_>, out: &mut Datagram)
     requires empty { out.old ≡ [] }
     requires parts { CanWriteParts exts.now (body_length msg.now.body) }
-    ensures { out.new ≡ octets_of (Ack (record { source = msg.now.source; sequence = msg.now.sequence; sender = msg.now.sender; instance = msg.now.instance; ack_type = msg.now.ack_type; ack_id = msg.now.ack_id; extensions = extensions_of exts.now; content = content_of msg.now.body })) }
+    ensures { out.new ≡ octets_of (Ack (record { source = msg.now.source; sequence = msg.now.sequence; sender = msg.now.sender; instance = msg.now.instance; ack_type = msg.now.ack_type; ack_id = msg.now.ack_id; extensions = exts.now; content = content_of msg.now.body })) }
 {
-    let words = FEEDBACK_WORDS + (exts.len() / WORD) as u8;
+    let spelled = exts.octets();
+    let words = FEEDBACK_WORDS + (spelled.len() / WORD) as u8;
     push_front(
         MessageType::Ack.number(),
         words,
@@ -82,7 +86,7 @@ fn write_ack_parts(msg: &AckMsg<'_>, exts: &[u8], out: &mut Datagram)
     out.push(&[msg.ack_type, msg.ack_id]);
     // The time stamp, as in a NACK.
     out.push(&[0; 8]);
-    out.push(exts);
+    out.push(spelled);
     push_body(&msg.body, out);
 }
 
@@ -92,5 +96,5 @@ pub fn write_ack(msg: &AckMsg<'_>, out: &mut Datagram)
     requires message { CanWriteAck msg.now }
     ensures { out.new ≡ octets_of (ack_of msg.now) }
 {
-    write_ack_parts(msg, msg.exts, out);
+    write_ack_parts(msg, &msg.exts, out);
 }
