@@ -15,8 +15,8 @@ pub record IsReport (words : ℕ) (rest : List ℕ) : Type 0 where
   pub most : common + length rest ≤ datagram_room
 
 abbrev pub CanEncode : Message → Type 0
-CanEncode (lent.Info m) = CanWriteObject info_header m.head m.exts.now m.info.now
-CanEncode (lent.Data m) = CanWriteObject data_header m.head m.exts.now m.payload.now
+CanEncode (lent.Info m) = CanWriteObject info_header m.head m.exts m.info.now
+CanEncode (lent.Data m) = CanWriteObject data_header m.head m.exts m.payload.now
 CanEncode (lent.Command m) = CanWriteCommand m
 CanEncode (lent.Nack m) = CanWriteNack m
 CanEncode (lent.Ack m) = CanWriteAck m

@@ -9,8 +9,8 @@ use norm_ext::places::{COMMON, COMMON_WORDS, WORD};
 use norm_fbmsg::{AckMsg, NackMsg};
 use norm_objmsg::grammar::{DataMsg, InfoMsg};
 
-/// A message. Its slices borrow from the datagram.
-#[derive(Clone, Copy, Debug, PartialEq, Eq)]
+/// A message. It borrows from the datagram.
+#[derive(Debug, Drop)]
 pub enum Message<'a> {
     Info(InfoMsg<'a>),
     Data(DataMsg<'a>),

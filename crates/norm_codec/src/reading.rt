@@ -93,7 +93,7 @@ fn read_any(bytes: &[u8]) -> Result<Message<'_>, Refusal>
 pub fn decode(bytes: &[u8]) -> Result<Message<'_>, Refusal>
     // It is what the grammar's reading gives.
     ensures exact { MatchResult result (λ m. decoded bytes.now ≡ Ok (message_of m)) (λ refusal. decoded bytes.now ≡ Err refusal) }
-    // What it lends is whole.
+    // The lists of numbers that it lends are whole.
     ensures whole { IfOk result IsWhole }
     // A message that is given is spelled by the octets.
     ensures found { IfOk result (λ m. Spells (message_of m) bytes.now) }
