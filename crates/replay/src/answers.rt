@@ -1,28 +1,17 @@
 //! Makes the lines that a replay prints. `receiving` and `sending` call one function for each kind of answer.
 
-use crate::fault::Fault;
-use norm_base::{Datagram, InstanceId, Sent, Sink};
+use norm_base::{Datagram, InstanceId, Sent};
 use norm_order::Up;
 use norm_send_rules::{
     EnqueueFault, MarkFault, News, Outcome, Receipt, SendFault, StreamFault, StrikeFault,
 };
 use norm_text::{Line, kind_word};
+use row_words::Fault;
 use std::alloc::Global;
 
 /// Begins a line with one word.
 pub(crate) fn said(alloc: Global, word: &str) -> Result<Line, Fault> {
     Ok(Line::begin(alloc, word.as_bytes(), 0)?)
-}
-
-/// Ends a line and writes it.
-///
-/// # Errors
-///
-/// `Write` if the write fails, and `Memory` if memory runs out.
-pub(crate) fn print<K: Sink>(answer: Line, output: &mut K) -> Result<(), Fault> {
-    let answer = answer.end()?;
-    output.write(&answer)?;
-    Ok(())
 }
 
 /// Begins a line with a word and numbers.

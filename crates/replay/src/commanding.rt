@@ -1,9 +1,8 @@
 //! Reads the commands of a sender from the words of an event. `sending` calls [`job_of`].
 
-use crate::fault::Fault;
-use crate::words::Words;
-use norm_base::{InstanceId, NodeId, Octets};
+use norm_base::{InstanceId, Octets};
 use norm_send_rules::Job;
+use row_words::{Fault, Words};
 use std::alloc::Global;
 
 /// Reads data and, if there is one more word, its info.
@@ -59,7 +58,7 @@ fn restart(words: &mut Words<'_>) -> Option<Job> {
 /// Reads the node that is struck.
 fn strike(words: &mut Words<'_>) -> Option<Job> {
     Some(Job::Strike {
-        node: NodeId::of(words.number32()?)?,
+        node: words.node()?,
     })
 }
 

@@ -3,9 +3,8 @@
 ghost use Rattle.std.specs.Prelude.{IfOk};
 ghost use Rattle.replay.specs.Left.{GoesOn};
 
-use crate::fault::Fault;
-use crate::words::Words;
 use norm_base::{InstanceId, Key, NodeId};
+use row_words::{Fault, Words};
 use std::str::Lines;
 
 /// A call of a node.
@@ -47,8 +46,9 @@ fn set(words: &mut Words<'_>) -> Option<Event> {
 
 /// Reads the node id of a receiver.
 fn receiver(words: &mut Words<'_>) -> Option<Event> {
-    let node = NodeId::of(words.number32()?)?;
-    Some(Event::Receiver { node })
+    Some(Event::Receiver {
+        node: words.node()?,
+    })
 }
 
 /// Reads the instance of a sender.

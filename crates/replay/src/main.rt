@@ -4,23 +4,19 @@
 
 mod answers;
 mod commanding;
-mod driven;
 mod events;
-mod fault;
-mod input;
 mod node;
 mod receiving;
 mod run;
 mod sending;
-mod words;
 
-use crate::fault::Fault;
 use crate::run::replay;
 use norm_host::{StdSink, StdSource};
+use row_words::Fault;
 use std::io;
 use std::process::ExitCode;
 
-/// Replays standard input onto standard output. `Fault::status` has the exit status.
+/// Replays standard input onto standard output. `Fault::status` of `row_words` has the exit status.
 fn main(rt: HostRuntime) -> ExitCode {
     let alloc = rt.alloc();
     let mut input = StdSource::of(rt.reader());

@@ -3,12 +3,11 @@
 ghost use Rattle.std.specs.Prelude.{◌≡◌, IfOk};
 ghost use Rattle.replay.specs.Left.{GoesOn};
 
-use crate::answers::{print, said};
+use crate::answers::said;
 use crate::events::{Event, Events, Verb};
-use crate::fault::Fault;
-use crate::words::Words;
 use norm_base::{Datagram, Sink};
 use norm_text::Line;
+use row_words::{Fault, Words, print};
 use std::alloc::Global;
 
 /// A sender or a receiver that events drive.

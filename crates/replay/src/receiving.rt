@@ -5,12 +5,11 @@ ghost use Rattle.replay.specs.Left.{GoesOn};
 
 use crate::answers::{counted, decided, instance, said, sent, taken};
 use crate::events::{Event, Events, Verb};
-use crate::fault::Fault;
 use crate::node::{Node, drive};
-use crate::words::Words;
 use norm_base::{Datagram, Memory, Moment, NodeId, Profile, Sink};
 use norm_receiver::Receiver;
 use norm_text::Line;
+use row_words::{Fault, Words};
 use std::alloc::Global;
 
 /// Reads a moment, a draw and a datagram, and delivers the datagram. The draw decides a back-off.

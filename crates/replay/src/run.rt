@@ -3,14 +3,13 @@
 ghost use Rattle.std.specs.Prelude.{IfOk};
 ghost use Rattle.replay.specs.Left.{GoesOn};
 
-use crate::answers::{print, said};
+use crate::answers::said;
 use crate::events::{Event, Events};
-use crate::fault::Fault;
-use crate::input::read_all;
 use crate::node::name_row;
 use crate::receiving::run_receiver;
 use crate::sending::run_sender;
 use norm_base::{Given, Key, Profile, Sink, Source};
+use row_words::{Fault, print, read_all};
 use std::alloc::Global;
 
 /// The keys that were set for the next node.

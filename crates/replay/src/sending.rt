@@ -5,14 +5,13 @@ ghost use Rattle.replay.specs.Left.{GoesOn};
 
 use crate::answers::{commanded, counted, decided, instance, said, sent, told};
 use crate::commanding::job_of;
-use crate::driven::Driven;
 use crate::events::{Event, Events, Verb};
-use crate::fault::Fault;
 use crate::node::{Node, drive};
-use crate::words::Words;
+use driven_sender::Driven;
 use norm_base::{Datagram, InstanceId, Moment, Origin, Profile, Sink};
 use norm_sender::Sender;
 use norm_text::Line;
+use row_words::{Fault, Words};
 use std::alloc::Global;
 
 /// Reads a datagram and delivers it. A sender ignores the draw.

@@ -1,14 +1,20 @@
 //! Tests of files that a sender gets in two pieces, and of one that is given up. The expected datagrams are written in hexadecimal, after the
 //! formats of their messages.
 
-use crate::driven::Driven;
 use crate::spelled::{Runs, filled, octets_of, profile_of};
+use driven_sender::Driven;
 use fec_plan::Position;
-use norm_base::{Datagram, InstanceId, Key, Memory, Moment, NodeId, Sent};
+use norm_base::{Datagram, InstanceId, Key, Memory, Moment, NodeId, Origin, Sent};
 use norm_send_rules::{EnqueueFault, MarkFault, News, Outcome, Receipt, SendFault};
 use std::alloc::Global;
 use std::process::Abort;
 use std::test::Fail;
+
+/// The origin of each file.
+const BY: Origin = Origin {
+    producer: 1,
+    number: 1,
+};
 
 /// News of the sender, as a step compares them.
 #[derive(Clone, Copy, PartialEq, Eq)]
@@ -112,7 +118,7 @@ impl Files {
         let name = filled(alloc, &[(1, letter)])?;
         let octets = filled(alloc, runs)?;
         let wanted = answer_of(wanted, octets.bytes().len() as u64);
-        Ok(self.sender.file_in_two(name, octets.bytes(), first) == wanted)
+        Ok(self.sender.file_in_two(BY, name, octets.bytes(), first) == wanted)
     }
 
     fn gives_up(&mut self, alloc: Global, runs: Runs, missing: u32) -> Result<bool, Memory> {
@@ -185,7 +191,7 @@ fn plays(rt: &impl Abort, alloc: Global, keys: &[(Key, u32)], steps: &[Step]) ->
         panic!(rt; "no profile");
     };
     let mut files = Files {
-        sender: Driven::new(alloc, &profile)?,
+        sender: Driven::new(alloc, &profile, InstanceId(7))?,
         out: Datagram::new(alloc)?,
     };
     for (place, step) in steps.iter().enumerate() {

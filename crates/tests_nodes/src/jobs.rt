@@ -1,16 +1,24 @@
 //! A test that passes more objects than there are transport ids from a sender to a receiver, one after the other.
 
-use crate::driven::Driven;
 use crate::spelled::{filled, octets_of, profile_of};
-use norm_base::{Datagram, Key, Memory, Moment, NodeId, Octets, Profile, Sent};
+use driven_sender::Driven;
+use norm_base::{
+    Datagram, InstanceId, Key, Memory, Moment, NodeId, Octets, Origin, Profile, Sent,
+};
 use norm_order::Up;
 use norm_receiver::Receiver;
-use norm_send_rules::Receipt;
+use norm_send_rules::{Job, Receipt};
 use std::alloc::Global;
 use std::test::Fail;
 
 /// The DATA of the first object, which has one octet. Octets 2 and 3 are its sequence number, and octets 14 and 15 its id.
 const FIRST: &str = "12080000 00000001 00074041 00050000 00000000 40030000 00000001 00400406 61";
+
+/// The origin of each command.
+const BY: Origin = Origin {
+    producer: 1,
+    number: 1,
+};
 
 /// A sender, a receiver, and the last datagram that the sender wrote.
 #[derive(Drop)]
@@ -45,7 +53,11 @@ fn is_object(up: &Option<Up>, wanted: u32) -> bool {
 impl Jobs {
     /// Whether the sender accepts an object and gives it this index.
     fn joins(&mut self, octet: Octets, index: u32) -> bool {
-        self.sender.data(octet) == Ok(Receipt::Object { index, len: 1 })
+        let job = Job::Data {
+            info: None,
+            bytes: octet,
+        };
+        self.sender.command(BY, job, Moment(0)) == Ok(Receipt::Object { index, len: 1 })
     }
 
     /// Whether a tick of the sender sends exactly these octets.
@@ -90,7 +102,7 @@ fn begun(alloc: Global) -> Result<Jobs, Fail> {
         _ => Err("no profile")?,
     };
     Ok(Jobs {
-        sender: Driven::new(alloc, &profile)?,
+        sender: Driven::new(alloc, &profile, InstanceId(7))?,
         receiver: receiver_of(alloc, &profile, node)?,
         out: Datagram::new(alloc)?,
     })

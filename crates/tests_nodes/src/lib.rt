@@ -2,8 +2,6 @@
 #![tactic(auto)]
 
 #[cfg(test)]
-mod driven;
-#[cfg(test)]
 mod files;
 #[cfg(test)]
 mod jobs;

@@ -1,7 +1,6 @@
 //! What a row asks of the objects after the program has ended.
 
-use crate::fault::Fault;
-use crate::words::Words;
+use row_words::{Fault, Words};
 use std::alloc::Global;
 
 /// What is printed of the objects after each call, in addition to the status and the lines.

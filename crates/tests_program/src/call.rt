@@ -1,8 +1,7 @@
 //! What the program is called with. The lines of a row fill a [`Call`], and `playing` makes the objects from it.
 
-use crate::fault::Fault;
-use crate::words::Words;
 use norm_memory::{MemFiles, MemSink, MemSource};
+use row_words::{Fault, Words};
 use std::alloc::{AllocError, Global};
 
 /// The most words of the program's command line. Its longest forms have five.
@@ -144,7 +143,7 @@ impl Call {
         let Some(octets) = words.octets(alloc)? else {
             return Ok(false);
         };
-        self.files.push((name, octets))?;
+        self.files.push((name, octets.into_inner()))?;
         Ok(true)
     }
 

@@ -1,10 +1,10 @@
 //! Prints what the program left, as lines.
 
 use crate::asked::Asked;
-use crate::fault::Fault;
 use norm_base::{NodeId, Sink};
 use norm_memory::{MemFiles, MemSink};
 use norm_text::Line;
+use row_words::{Fault, print};
 use std::alloc::Global;
 
 /// The status of a call of the program, how many reads it asked for, what it wrote, and the files.
@@ -14,13 +14,6 @@ pub(crate) struct Left {
     pub(crate) reads: u64,
     pub(crate) output: MemSink,
     pub(crate) files: MemFiles,
-}
-
-/// Prints a line.
-fn print<K: Sink>(line: Line, output: &mut K) -> Result<(), Fault> {
-    let octets = line.end()?;
-    output.write(&octets)?;
-    Ok(())
 }
 
 /// Prints the name of a row.

@@ -4,18 +4,15 @@
 mod asked;
 mod call;
 mod disturbed;
-mod fault;
 mod hostile;
-mod input;
 mod left;
 mod net;
 mod playing;
 mod rows;
-mod words;
 
-use crate::fault::Fault;
 use crate::rows::play_rows;
 use norm_host::{StdSink, StdSource};
+use row_words::Fault;
 use std::io;
 use std::process::ExitCode;
 

@@ -4,11 +4,10 @@ ghost use Rattle.std.specs.Prelude.{◌≤◌, length, IfOk};
 
 use crate::call::{Fails, numbers};
 use crate::disturbed::DisturbedFabric;
-use crate::fault::Fault;
 use crate::hostile::HostileFabric;
-use crate::words::Words;
 use norm_base::{NodeId, Octets};
 use norm_memory::{FeedFabric, ListFabric, Rule};
+use row_words::{Fault, Words};
 use std::alloc::{AllocError, Global};
 
 /// The most octets of a datagram.
@@ -124,7 +123,7 @@ impl Net {
             return Ok(false);
         }
         self.kind = Kind::Fed;
-        self.datagrams.push((node, octets))?;
+        self.datagrams.push((node, octets.into_inner()))?;
         Ok(true)
     }
 
@@ -134,7 +133,7 @@ impl Net {
             return Ok(false);
         };
         self.kind = Kind::Hostile;
-        self.refused.push(octets)?;
+        self.refused.push(octets.into_inner())?;
         Ok(true)
     }
 

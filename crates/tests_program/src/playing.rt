@@ -2,12 +2,12 @@
 
 use crate::asked::Asked;
 use crate::call::Call;
-use crate::fault::Fault;
 use crate::left::{Left, print_counts, print_files, print_left, print_no_offer, print_offer};
 use crate::net::{Kind, Net};
 use norm_base::{Fabric, Sink, Source};
 use norm_memory::{FeedFabric, ListFabric, MemClock, MemFiles};
 use norm_program::{Status, norm_main};
+use row_words::Fault;
 use std::alloc::Global;
 use std::sync::Wait;
 use std::thread::Threads;

@@ -2,13 +2,11 @@
 
 use crate::asked::Asked;
 use crate::call::Call;
-use crate::fault::Fault;
-use crate::input::read_all;
 use crate::left::print_name;
 use crate::net::Net;
 use crate::playing::play;
-use crate::words::Words;
 use norm_base::{Sink, Source};
+use row_words::{Fault, Words, read_all};
 use std::alloc::Global;
 use std::sync::Wait;
 use std::thread::Threads;

@@ -1,4 +1,4 @@
-//! Reads the whole input before any of it is replayed.
+//! Reads the input whole, before any of it is done.
 
 use crate::fault::Fault;
 use norm_base::Source;
@@ -9,7 +9,7 @@ use std::alloc::Global;
 /// # Errors
 ///
 /// `Read` if a read fails, and `Memory` if the octets do not fit.
-pub(crate) fn read_all<S: Source>(alloc: Global, input: &mut S) -> Result<Vec<u8>, Fault> {
+pub fn read_all<S: Source>(alloc: Global, input: &mut S) -> Result<Vec<u8>, Fault> {
     let mut text = Vec::new(alloc);
     let mut buffer = [0u8; 4096];
     loop {

@@ -2,7 +2,7 @@ use Rattle.std.proofs.Common.{◌≡◌, ◌+◌, ◌≤◌, length, Option, sym
 use Rattle.std.proofs.lemmas.List.{length-append}
 use Rattle.std.specs.Prelude.{MatchOption}
 use Rattle.tx_window.specs.WindowState.{Filling}
-use Rattle.tests_nodes.proofs.driven.Driven.file_in_two.Goals as goal
+use Rattle.driven_sender.proofs.driven.Driven.file_in_two.Goals as goal
 
 pub file_piece-requires-in-Ok : goal.file_piece-requires-in-Ok
 file_piece-requires-in-Ok c =

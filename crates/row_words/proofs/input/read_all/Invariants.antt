@@ -1,5 +1,5 @@
 use Rattle.std.proofs.Common.{◌-◌, ◌^◌}
-use Rattle.replay.proofs.input.read_all.Given as goal
+use Rattle.row_words.proofs.input.read_all.Given as goal
 
 -- a source gives fewer than 2^63 octets
 abbrev pub decreases-loop-n : goal.decreases-loop-n

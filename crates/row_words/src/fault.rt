@@ -1,14 +1,14 @@
-//! Why the rows end before the input does.
+//! Why a program ends before its input does, and the exit status of each reason.
 
 use norm_base::{Failed, Memory};
 use std::alloc::{AllocError, AllocFailed};
 use std::error::Error;
 use std::fmt;
 
-/// Why the rows end before the input does.
+/// Why a program ends before its input does.
 #[derive(Clone, Copy, Debug, PartialEq, Eq, Drop)]
 pub enum Fault {
-    /// This line, counted from 1, is no line of a row.
+    /// This line, counted from 1, has no meaning where it stands.
     Line { number: usize },
     /// The input is not UTF-8.
     NotText,
@@ -16,12 +16,12 @@ pub enum Fault {
     Read,
     /// A write failed.
     Write,
-    /// Memory ran out in this program, and not in the one that it tests.
+    /// Memory ran out in the program itself. If it runs out in what the program calls, that is an answer to print.
     Memory,
 }
 
 impl Fault {
-    /// The exit status.
+    /// Returns the exit status of the program.
     pub fn status(self) -> u8 {
         match self {
             Fault::Memory => 1,
@@ -34,7 +34,7 @@ impl Fault {
 impl fmt::Display for Fault {
     fn fmt<W: fmt::Write>(&self, f: &mut fmt::Formatter<W>) -> fmt::Result {
         match self {
-            Fault::Line { number } => write!(f, "line {number} is no line of a row"),
+            Fault::Line { number } => write!(f, "line {number} has no meaning here"),
             Fault::NotText => write!(f, "the input is not UTF-8"),
             Fault::Read => write!(f, "the input can't be read"),
             Fault::Write => write!(f, "the output can't be written"),

@@ -1,4 +1,4 @@
-//! The sender that these tests drive.
+//! A sender that is never in the middle of a file.
 
 use norm_base::{Datagram, InstanceId, Memory, Moment, Octets, Origin, Profile, Sent};
 use norm_send_rules::{Job, MarkFault, News, Receipt, SendFault};
@@ -6,15 +6,10 @@ use norm_sender::Sender;
 use std::alloc::Global;
 use std::marker::Model;
 
-/// The origin of each command of these tests.
-const BY: Origin = Origin {
-    producer: 1,
-    number: 1,
-};
-
-/// A sender that is not in the middle of a file between two calls. So any call may come next.
+/// A sender whose calls may come in any order, because a file that a call begins is ended or given up in the same call.
+// A type of its own for one fact: no file is begun between two calls. So each call of a sender may come, and its condition needs no clause here.
 #[derive(Drop)]
-pub(crate) struct Driven {
+pub struct Driven {
     sender: Sender,
 }
 
@@ -30,44 +25,58 @@ impl Model for Driven {
 }
 
 impl Driven {
-    /// Returns a new sender with instance 7. `Memory` if memory runs out.
-    pub(crate) fn new(alloc: Global, profile: &Profile) -> Result<Driven, Memory> {
-        let sender = Sender::new(alloc, profile, InstanceId(7))?;
+    /// Returns a new sender.
+    ///
+    /// # Errors
+    ///
+    /// `Memory` if memory runs out.
+    pub fn new(alloc: Global, profile: &Profile, instance: InstanceId) -> Result<Driven, Memory> {
+        let sender = Sender::new(alloc, profile, instance)?;
         Ok(Driven { sender })
     }
 
-    pub(crate) fn deliver(&mut self, bytes: &[u8], now: Moment) {
+    /// Hands the sender a datagram.
+    pub fn deliver(&mut self, bytes: &[u8], now: Moment) {
         self.sender.deliver(bytes, now);
     }
 
-    pub(crate) fn tick(&mut self, now: Moment, out: &mut Datagram) -> Sent {
+    /// Lets the sender write its next datagram, if one is due.
+    pub fn tick(&mut self, now: Moment, out: &mut Datagram) -> Sent {
         self.sender.tick(now, out)
     }
 
-    /// Enqueues a data object without an info. If it is refused, it is dropped.
-    pub(crate) fn data(&mut self, bytes: Octets) -> Result<Receipt, SendFault> {
-        let job = Job::Data { info: None, bytes };
-        match self.sender.command(BY, job, Moment(0)) {
+    /// Gives the sender a command. If the sender refuses it, its octets are dropped.
+    pub fn command(&mut self, by: Origin, job: Job, now: Moment) -> Result<Receipt, SendFault> {
+        match self.sender.command(by, job, now) {
             Ok(receipt) => Ok(receipt),
             Err((_given_back, fault)) => Err(fault),
         }
     }
 
-    pub(crate) fn mark(&mut self) -> Result<Receipt, MarkFault> {
+    /// Makes a watermark that all members shall be past.
+    pub fn mark(&mut self) -> Result<Receipt, MarkFault> {
         self.sender.mark(None)
     }
 
-    pub(crate) fn restart(&mut self, instance: InstanceId) -> Result<Receipt, SendFault> {
+    /// Begins another instance.
+    pub fn restart(&mut self, instance: InstanceId) -> Result<Receipt, SendFault> {
         self.sender.restart(instance)
     }
 
-    pub(crate) fn news(&mut self) -> Option<News> {
+    /// Takes the sender's next news, if there are any.
+    pub fn news(&mut self) -> Option<News> {
         self.sender.news()
     }
 
-    /// Enqueues a file in two pieces. The first has `first` octets, or all of them if there are fewer.
-    pub(crate) fn file_in_two(
+    /// Borrows the sender to read its state.
+    pub fn sender(&self) -> &Sender {
+        &self.sender
+    }
+
+    /// Enqueues a file in two pieces. The first has `first` octets, or all of them if there are fewer. If the sender refuses it, its name is dropped.
+    pub fn file_in_two(
         &mut self,
+        by: Origin,
         name: Octets,
         octets: &[u8],
         first: usize,
@@ -79,14 +88,14 @@ impl Driven {
             Ok(()) => {
                 self.sender.file_piece(front);
                 self.sender.file_piece(back);
-                Ok(self.sender.end_file(BY, Moment(0)))
+                Ok(self.sender.end_file(by, Moment(0)))
             }
             Err((_given_back, fault)) => Err(fault),
         }
     }
 
     /// Begins a file that has `missing` octets more than `piece`, adds `piece`, and gives the file up. Returns whether the file was begun.
-    pub(crate) fn file_given_up(&mut self, name: Octets, piece: &[u8], missing: u32) -> bool {
+    pub fn file_given_up(&mut self, name: Octets, piece: &[u8], missing: u32) -> bool {
         let len = piece.len() as u64 + u64::from(missing);
         match self.sender.begin_file(name, len) {
             Ok(()) => {
