@@ -89,11 +89,11 @@ module _ (f g : Front) (front : IsFront f) (opens : Bool) (start : opens ≡ ((p
   goes_on = nat_lt (w.o.point.symbol + 1) w.o.plan.fti.b
 
   segment : (symbol : List ℕ) × (u ≡ segment_up f.profile w.o.point.index symbol)
-  segment = segment_of f.profile w.o u (w.on.up f.profile same_e)
+  segment = segment_of f.profile w.o u (w.on.gone.up f.profile same_e)
 
   kept : w.next.entry ≡ kinds.Stream (passed_by goes_on w.o)
   kept =
-      w.on.entry
+      w.on.gone.entry
       ∙ ap (λ (x : StreamState). kinds.Stream x)
       (ap (λ (v : Up). handed_on (Some v) w.o) segment.1
       ∙ on_long (segment_length f.profile segment.0) w.o.point.index segment.0 w.o (ap is_end_up (sym segment.1) ∙ goes))
@@ -106,7 +106,7 @@ module _ (f g : Front) (front : IsFront f) (opens : Bool) (start : opens ≡ ((p
       behind_long long w.o.point.index symbol (passed_by goes_on w.o) w.o still
       (subst (λ (v : Up). left_behind v (passed_by goes_on w.o) < left w.o) segment.1
       (subst (λ (x : StreamState). left_behind u x < left w.o)
-      (ap (λ (v : Up). handed_on (Some v) w.o) segment.1 ∙ on_long long w.o.point.index symbol w.o still) w.on.fewer))
+      (ap (λ (v : Up). handed_on (Some v) w.o) segment.1 ∙ on_long long w.o.point.index symbol w.o still) w.on.gone.fewer))
 
   pub goes_sound : IsFront g
   goes_sound = on_sound f g front opens start u w is told goes goes_on refl kept fewer
@@ -120,7 +120,7 @@ module _ (f g : Front) (front : IsFront f) (opens : Bool) (start : opens ≡ ((p
   pub goes_hands : (s : Holding) → StandsFor (front_view f) s → HandsFirst true (front_view f) (front_view g) s
   goes_hands s stands =
       let one : IsSegment f.profile s w.o.plan w.o.point.index u (hands_one f.profile s) =
-      stream_segment f s front stands w.seat w.there w.o w.kind u (w.on.up f.profile same_e) in
+      stream_segment f s front stands w.seat w.there w.o w.kind u (w.on.gone.up f.profile same_e) in
       let long = goes_long (segment_length f.profile one.symbol) w.o.point.index one.symbol (ap is_end_up (sym one.up) ∙ goes) in
       let after = handed more (behind 1 goes_on (point_of_front f)) s in
       let same : hands_segment f.profile s w.o.plan one.symbol ≡ after =
@@ -154,7 +154,7 @@ module _ (f m : Front) (front : IsFront f) (opens : Bool) (start : opens ≡ ((p
   e_of = subst (λ kind. f.profile.e ≡ (entry_of kind).plan.fti.e) w.kind (front.seats 0 w.seat w.there).entry.profile.e
 
   stays : w.next.entry ≡ w.seat.entry
-  stays = w.on.entry ∙ ap (λ (x : StreamState). kinds.Stream x) (end_on u w.o ends) ∙ sym w.kind
+  stays = w.on.gone.entry ∙ ap (λ (x : StreamState). kinds.Stream x) (end_on u w.o ends) ∙ sym w.kind
 
   next_there : at_place m.ring.items 0 ≡ Some w.next
   next_there = ap (λ (r : List (Option Seat)). at_place r 0) w.ring ∙ set_here f.ring.items 0 (Some w.next) (omega (arith, front.places))
@@ -219,14 +219,14 @@ module _ (f m : Front) (front : IsFront f) (opens : Bool) (start : opens ≡ ((p
 
     pub ends_fewer : left_in g < left_in f
     ends_fewer =
-        let some : 0 < left w.o = end_left u (handed_on (Some u) w.o) w.o ends w.on.fewer in
+        let some : 0 < left w.o = end_left u (handed_on (Some u) w.o) w.o ends w.on.gone.fewer in
         let was : left_at (at_place f.ring.items 0) ≡ left w.o = ap left_at w.there ∙ ap (λ kind. length (entry_of kind).held - (entry_of kind).point.symbol) w.kind in
         omega (arith, past_left f g is_past, was, some)
 
     pub ends_hands : (s : Holding) → StandsFor (front_view f) s → HandsFirst true (front_view f) (front_view g) s
     ends_hands s stands =
         let one : IsSegment f.profile s w.o.plan w.o.point.index u (hands_one f.profile s) =
-        stream_segment f s front stands w.seat w.there w.o w.kind u (w.on.up f.profile e_of) in
+        stream_segment f s front stands w.seat w.there w.o w.kind u (w.on.gone.up f.profile e_of) in
         let none : segment_length f.profile one.symbol ≡ 0 = ends_long (segment_length f.profile one.symbol) w.o.point.index one.symbol (ap is_end_up (sym one.up) ∙ ends) in
         let at : s.point.index ≡ f.point = ap (λ (x : Position). x.index) stands.point in
         let same : hands_segment f.profile s w.o.plan one.symbol ≡ past (told_ups opens f.point u) s.lost s =

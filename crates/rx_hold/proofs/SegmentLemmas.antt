@@ -129,8 +129,8 @@ stuck_same f told after front stream came =
       w.next,
       w.ring,
       record {
-        entry = ap entry_of (w.on.entry ∙ sym w.kind);
-        kind = subst (λ (kind : Entry). IsOfKind kind) (w.kind ∙ sym w.on.entry) (front.seats 0 w.seat w.there).kind;
+        entry = ap entry_of (w.on.gone.entry ∙ sym w.kind);
+        kind = subst (λ (kind : Entry). IsOfKind kind) (w.kind ∙ sym w.on.gone.entry) (front.seats 0 w.seat w.there).kind;
         waiting = (let n = w.on.waiting in omega (arith, n));
       },
     )
@@ -139,7 +139,7 @@ pub stuck_none : (f : Front) (told : ℕ) (after : List (Option Seat)) (s : Hold
     → StandsFor (front_view f) s → hands_one f.profile s ≡ None
 stuck_none f told after s front stream came stands =
     let w = went f told None after stream came in
-    stream_stuck f s front stands w.seat w.there w.o w.kind (w.on.up f.profile (same w))
+    stream_stuck f s front stands w.seat w.there w.o w.kind (w.on.gone.up f.profile (same w))
   where
     same : (w : Went f told None after) → f.profile.e ≡ w.o.plan.fti.e
     same w = subst (λ (kind : Entry). f.profile.e ≡ (entry_of kind).plan.fti.e) w.kind (front.seats 0 w.seat w.there).entry.profile.e
@@ -253,7 +253,7 @@ module _ (f g : Front) (front : IsFront f) (opens : Bool) (start : opens ≡ ((p
   same_e = subst (λ (kind : Entry). f.profile.e ≡ (entry_of kind).plan.fti.e) w.kind (front.seats 0 w.seat w.there).entry.profile.e
 
   news : Some u ≡ next_up f.profile w.o
-  news = w.on.up f.profile same_e
+  news = w.on.gone.up f.profile same_e
 
   few : w.next.waiting + told_with opens ≡ w.seat.waiting
   few = w.on.waiting

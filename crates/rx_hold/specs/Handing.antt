@@ -87,12 +87,10 @@ abbrev pub GoesOn : Entry → Option Up → Entry → Type 0
 GoesOn (kinds.Object o) news next = (news ≡ None) × (next ≡ kinds.Object o)
 GoesOn (kinds.Stream o) news next = IsGoneOn news o next
 
--- A stream goes on by its next segment, where that is there, and the room for so many hand-ups is no longer its.
+-- the stream at a place goes on, and the room for so many hand-ups is no longer its
 pub record IsHandedOn (told : ℕ) (news : Option Up) (o : StreamState) (seat next : Seat) : Type 0 where
-  pub up : (p : Settings) → p.e ≡ o.plan.fti.e → news ≡ next_up p o
-  pub entry : next.entry ≡ kinds.Stream (handed_on news o)
+  pub gone : IsGoneOn news o next.entry
   pub waiting : next.waiting + told_by told news ≡ seat.waiting
-  pub fewer : IfSome news (λ one. left_behind one (handed_on news o) < left o)
 
 -- so does what is at a place; data and files do not
 abbrev pub HandsOn : Entry → ℕ → Option Up → Seat → Seat → Type 0

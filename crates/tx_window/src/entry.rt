@@ -4,10 +4,6 @@
 //! count of streams depends on the kind of an entry. [`may_all_go`] asks the first entries. [`write_last`], [`cut_last`] and [`close_last`] go on
 //! with the last one if it is the open stream.
 
-mod front;
-mod growing;
-mod repairable;
-
 ghost use Rattle.std.specs.Prelude.{ℕ, true, ◌≡◌, ◌+◌, ◌*◌, ◌<◌, ◌≤◌, ◌^◌, List, Option, Some, None, MatchOption, ⊤, length, nat_lt, option_copied, is_some};
 ghost use Rattle.norm_base.specs.Sizes.{datagram_room, symbol_room};
 ghost use Rattle.fec_plan.specs.Points.{Position as Place, position, position_before, reached_by};
@@ -28,7 +24,12 @@ ghost use Rattle.tx_window.specs.EntryAsked.{is_sent, Lies, IsKept, AnswersKept,
 ghost use Rattle.tx_window.specs.EntryPlaces.{Stays, held_size, held_info};
 ghost use Rattle.norm_send_rules.specs.Enqueuing.{open_parts};
 
+mod front;
+mod growing;
+mod repairable;
+
 pub use crate::entry::front::{close_last, cut_last, may_all_go, write_last};
+
 use fec_plan::{Plan, Position, reached_by};
 use norm_base::{Datagram, Mode, Profile};
 use norm_ext::{Fti, flags};
