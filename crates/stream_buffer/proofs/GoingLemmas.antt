@@ -109,10 +109,6 @@ last_below n g b some same few more = go (cases_lt ((n - 1) / g) 16777216)
 
 -- ---- blocks in a row
 
--- before the first block that is kept there is none
-pub none_left : (f : ℕ → Bool) (block to : ℕ) → to ≤ block → list_all f (range_with_len block (to - block)) ≡ true
-none_left f block to le = ap (λ n. list_all f (range_with_len block n)) (let e : to - block ≡ zero = omega (arith, le) in e)
-
 -- who is past a block's last symbol is past that of each before it
 released_before : (p : Settings) (s : SenderState) (index : ℕ) (past : Option Position) (block last symbol : ℕ) → ((q : Position) → all_past s q ≡ reached_by past q) → block ≤ last
     → is_released p s (Some (position index last symbol)) ≡ true → is_released p s (Some (position index block symbol)) ≡ true

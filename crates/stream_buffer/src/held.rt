@@ -117,13 +117,6 @@ impl HeldStream {
         let _closed = self.buffer.segments();
     }
 
-    /// How many octets were written so far.
-    pub fn octets(&self) -> u32
-        ensures { result ≡ self.now.buffer.octets }
-    {
-        self.buffer.octets()
-    }
-
     /// Whether the stream was closed.
     pub fn is_ended(&self) -> bool
         ensures { result ≡ self.now.buffer.ended }
@@ -217,8 +210,9 @@ impl HeldStream {
         self.marks.note(place);
     }
 
-    /// Whether all kept blocks before `to`, at least one, may go. `index` is the stream's. Looks at all of them at once: how many segments were sent
-    /// in a row, and whether every member is listed past the last one.
+    /// Whether all kept blocks before `to`, at least one, may go: all their segments are closed and were sent, and in hold mode every member is listed
+    /// past them. `index` is the stream's, and `past` the least position that members are listed past. Looks at all of them at once: how many segments
+    /// were sent in a row, and whether every member is listed past the last one.
     fn front_may_go(&self, profile: &Profile, index: u32, past: &Option<Position>, to: u32) -> bool
         requires { self.now.buffer.first < to }
         ensures exact { (s : SenderState) (parts : List Part) → Knows profile.now index parts s.sent self.now
@@ -240,26 +234,6 @@ impl HeldStream {
             symbol: self.b - 1,
         };
         is_released(profile, past, last)
-    }
-
-    /// Whether all kept blocks before `to` may go: all their segments are closed and were sent, and in hold mode every member is listed past them.
-    /// `index` is the stream's, and `past` the least position that members are listed past.
-    pub fn blocks_may_go(
-        &self,
-        profile: &Profile,
-        index: u32,
-        past: &Option<Position>,
-        to: u32,
-    ) -> bool
-        ensures exact { (s : SenderState) (parts : List Part) → Knows profile.now index parts s.sent self.now
-            → ((at : Place) → all_past s at ≡ reached_by past.now at)
-            → result ≡ list_all (block_may_go profile.now s index (shape_of profile.now (Stream parts))) (range_with_len self.now.buffer.first (to - self.now.buffer.first)) }
-        ensures closed { result ≡ true → to * self.now.buffer.cut.b ≤ closed_segments self.now.buffer }
-    {
-        if to <= self.buffer.first_block() {
-            return true;
-        }
-        self.front_may_go(profile, index, past, to)
     }
 
     /// Returns `least` if the blocks before it have to go for room and may go. Returns 0 otherwise: no block may be given up. `before` says whether

@@ -131,6 +131,7 @@ impl StreamBuf {
     }
 
     /// How many octets were written so far.
+    // Only tests call it so far. It stays for programs over this crate: `Spent` comes by this number.
     pub fn octets(&self) -> u32
         ensures { result ≡ self.now.octets }
     {

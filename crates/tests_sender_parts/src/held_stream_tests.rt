@@ -10,6 +10,12 @@ use stream_buffer::{HeldStream, StreamFault};
 /// The index of the stream.
 const INDEX: u32 = 3;
 
+/// The value of `Key::Mode` for the mode `hold`.
+const HOLD: u32 = 0;
+
+/// The value of `Key::Mode` for the mode `drop`.
+const DROP: u32 = 1;
+
 /// A call of a stream, with its expected answer.
 #[derive(Clone, Copy)]
 enum Step {
@@ -21,14 +27,12 @@ enum Step {
     Sent(u32, u8),
     /// All members are listed past this symbol of a block.
     Past(u32, u8),
-    /// Expects whether the blocks before this one may be dropped.
-    MayGo(u32, bool),
     /// Expects the number of octets of a symbol of a block, or `None` if it is not there.
     Symbol(u32, u8, Option<usize>),
     /// Expects the block and the symbol of the last closed segment.
     Last(Option<(u32, u8)>),
-    /// Expects the first block that is left, the number of closed segments, the number of octets written, and whether all was sent.
-    Has(u32, u32, u32, bool),
+    /// Expects the first block that is left, the number of closed segments, and whether all was sent.
+    Has(u32, u32, bool),
 }
 
 /// Returns the answer to a write, or `None` if it has no octets, which the call's contract does not allow.
@@ -114,26 +118,24 @@ fn does(
             *past = position(block, symbol);
             Ok(true)
         }
-        Step::MayGo(to, answer) => Ok(stream.blocks_may_go(profile, INDEX, past, to) == answer),
         Step::Symbol(block, symbol, answer) => Ok(sent(alloc, stream, block, symbol)? == answer),
         Step::Last(answer) => Ok(last(stream) == answer),
-        Step::Has(first, segments, octets, is_sent) => {
-            let has = (stream.first_block(), stream.segments(), stream.octets());
-            Ok(has == (first, segments, octets) && stream.is_sent() == is_sent)
+        Step::Has(first, segments, is_sent) => {
+            let has = (stream.first_block(), stream.segments(), stream.is_sent());
+            Ok(has == (first, segments, is_sent))
         }
     }
 }
 
-/// Returns a profile with segments of 64 octets, blocks of two with three encoded symbols, and room for two blocks. The mode is `hold` if
-/// `hold` is 0, else `drop`.
-fn profile_of(rt: &impl Abort, hold: u32) -> Profile {
+/// Returns a profile with segments of 64 octets, blocks of two with three encoded symbols, and room for two blocks, in this mode.
+fn profile_of(rt: &impl Abort, mode: u32) -> Profile {
     let mut given = Given::new();
     for (key, value) in [
         (Key::E, 64),
         (Key::B, 2),
         (Key::MaxN, 3),
         (Key::Blocks, 2),
-        (Key::Mode, hold),
+        (Key::Mode, mode),
     ] {
         given.set(key, value);
     }
@@ -141,8 +143,8 @@ fn profile_of(rt: &impl Abort, hold: u32) -> Profile {
 }
 
 /// Makes the calls in order, of one stream in this mode.
-fn play(rt: &impl Abort, alloc: Global, hold: u32, steps: &[Step]) -> Result<(), Memory> {
-    let profile = profile_of(rt, hold);
+fn play(rt: &impl Abort, alloc: Global, mode: u32, steps: &[Step]) -> Result<(), Memory> {
+    let profile = profile_of(rt, mode);
     let mut past = None;
     let mut stream = HeldStream::new(alloc, &profile)?;
     for (place, step) in steps.iter().enumerate() {
@@ -152,49 +154,47 @@ fn play(rt: &impl Abort, alloc: Global, hold: u32, steps: &[Step]) -> Result<(),
     Ok(())
 }
 
-/// A block may be dropped for room after both its segments were sent, if the entries before the stream may be dropped.
-const DROPS: [Step; 18] = [
+/// A block may be dropped for room after both its segments were sent, if the entries before the stream may be dropped. 129 octets need the room of
+/// both blocks.
+const DROPS: [Step; 17] = [
     Step::Last(None),
-    Step::Has(0, 0, 0, true),
+    Step::Has(0, 0, true),
     Step::Write(256, true, Ok(0)),
-    Step::Has(0, 4, 256, false),
+    Step::Has(0, 4, false),
     Step::Last(Some((1, 1))),
     Step::Write(1, true, Err(StreamFault::Full { first: 0 })),
     Step::Sent(0, 0),
-    Step::MayGo(1, false),
+    Step::Write(1, true, Err(StreamFault::Full { first: 0 })),
     Step::Sent(0, 2),
     Step::Write(1, true, Err(StreamFault::Full { first: 0 })),
     Step::Sent(0, 1),
-    Step::MayGo(1, true),
-    Step::MayGo(2, false),
+    Step::Write(129, true, Err(StreamFault::Full { first: 0 })),
     Step::Write(1, false, Err(StreamFault::Full { first: 0 })),
     Step::Write(1, true, Ok(256)),
     Step::Symbol(0, 0, None),
     Step::Symbol(1, 2, Some(72)),
-    Step::Has(1, 4, 257, false),
+    Step::Has(1, 4, false),
 ];
 
 #[test]
 fn sent_blocks_go_for_room(rt: HostRuntime) -> Result<(), Fail> {
     let steps = DROPS;
-    play(&rt, rt.alloc(), 1, &steps)?;
+    play(&rt, rt.alloc(), DROP, &steps)?;
     Ok(())
 }
 
 /// In `hold` mode every member has to be listed past a block's last segment too.
-const HOLDS: [Step; 14] = [
+const HOLDS: [Step; 12] = [
     Step::Write(256, true, Ok(0)),
     Step::Close(true, Err(StreamFault::Full { first: 0 })),
     Step::Sent(0, 0),
     Step::Sent(0, 1),
-    Step::MayGo(1, false),
+    Step::Write(1, true, Err(StreamFault::Full { first: 0 })),
     Step::Past(0, 0),
-    Step::MayGo(1, false),
     Step::Write(1, true, Err(StreamFault::Full { first: 0 })),
     Step::Past(0, 1),
-    Step::MayGo(1, true),
     Step::Write(1, true, Ok(256)),
-    Step::Has(1, 4, 257, false),
+    Step::Has(1, 4, false),
     Step::Close(true, Ok(())),
     Step::Write(1, true, Err(StreamFault::Closed)),
 ];
@@ -202,29 +202,29 @@ const HOLDS: [Step; 14] = [
 #[test]
 fn held_blocks_go_once_all_are_past(rt: HostRuntime) -> Result<(), Fail> {
     let steps = HOLDS;
-    play(&rt, rt.alloc(), 0, &steps)?;
+    play(&rt, rt.alloc(), HOLD, &steps)?;
     Ok(())
 }
 
 /// A cut closes a segment that was not sent yet, and the end adds another.
 const ENDS: [Step; 12] = [
     Step::Write(1, true, Ok(0)),
-    Step::Has(0, 0, 1, true),
+    Step::Has(0, 0, true),
     Step::Cut,
-    Step::Has(0, 1, 1, false),
+    Step::Has(0, 1, false),
     Step::Sent(0, 0),
-    Step::Has(0, 1, 1, true),
+    Step::Has(0, 1, true),
     Step::Close(true, Ok(())),
-    Step::Has(0, 2, 1, false),
+    Step::Has(0, 2, false),
     Step::Last(Some((0, 1))),
     Step::Symbol(0, 1, Some(8)),
     Step::Sent(0, 1),
-    Step::Has(0, 2, 1, true),
+    Step::Has(0, 2, true),
 ];
 
 #[test]
 fn what_is_closed_is_to_be_sent(rt: HostRuntime) -> Result<(), Fail> {
     let steps = ENDS;
-    play(&rt, rt.alloc(), 1, &steps)?;
+    play(&rt, rt.alloc(), DROP, &steps)?;
     Ok(())
 }
