@@ -1,7 +1,6 @@
 //! Reads scripts: [`read`] one that sets its own profile, [`read_under`] one whose profile is given. The program calls both.
 
 ghost use Rattle.std.specs.Prelude.{◌≡◌, ◌+◌, ◌≤◌, ◌==◌, count_by, length, MatchResult, Ok, IfOk};
-ghost use Rattle.std.specs.Result.{result_err};
 ghost use Rattle.norm_script.specs.Commands.{most_commands};
 ghost use Rattle.norm_script.specs.Reading.{next_line, command_refused, take_in, take_line, commands_from, script_of, commands_of};
 ghost use Rattle.norm_script.specs.Refused.{IsRefused};
@@ -155,6 +154,7 @@ pub fn read(alloc: Global, text: &[u8]) -> Result<Result<Script, Refusal>, Memor
 /// # Errors
 ///
 /// `Line` with the number of the first line without meaning, or `Memory` if memory runs out.
+// Only tests call this and `read_commands` so far. They stay for programs that answer with the line alone.
 pub fn read_script(alloc: Global, text: &[u8]) -> Result<Script, ScriptFault>
     ensures { MatchResult result (λ script. script_of text.now ≡ Ok script) (IsRefused (script_of text.now)) }
 {
@@ -193,19 +193,5 @@ pub fn read_commands(alloc: Global, text: &[u8], profile: &Profile) -> Result<Sc
         Ok(Ok(script)) => Ok(script),
         Ok(Err(refusal)) => Err(ScriptFault::Line { n: refusal.line }),
         Err(Memory) => Err(ScriptFault::Memory),
-    }
-}
-
-/// Reads a script, and returns the first line without meaning and why it has none. `None` if each line has a meaning.
-///
-/// # Errors
-///
-/// `Memory` if memory runs out.
-pub fn why_refused(alloc: Global, text: &[u8]) -> Result<Option<Refusal>, Memory>
-    ensures { IfOk result (λ refusal. refusal ≡ result_err (script_of text.now)) }
-{
-    match read(alloc, text)? {
-        Ok(_) => Ok(None),
-        Err(refusal) => Ok(Some(refusal)),
     }
 }

@@ -3,7 +3,7 @@
 use norm_base::{Failed, Profile, Sink};
 use norm_script::{
     Line, Refusal, ScriptFault, Verb, Why, generate, read, read_commands, read_script,
-    split_at_first, why_refused,
+    split_at_first,
 };
 use std::alloc::Global;
 use std::test::Fail;
@@ -238,10 +238,10 @@ fn refused_command(alloc: Global, text: &[u8]) -> bool {
 
 /// Returns the line that is refused because it has no verb, 0 if none is refused, or `u32::MAX` for any other refusal.
 fn without_verb(alloc: Global, text: &[u8]) -> u32 {
-    match why_refused(alloc, text) {
-        Ok(None) => 0,
+    match read(alloc, text) {
+        Ok(Ok(_)) => 0,
         Ok(
-            Some(
+            Err(
                 Refusal {
                     line,
                     why: Why::NoVerb,
