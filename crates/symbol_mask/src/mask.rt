@@ -211,15 +211,6 @@ impl Mask {
         taken
     }
 
-    /// Removes all members.
-    pub fn clear(&mut self)
-        ensures members { self.new.members ≡ [] }
-        ensures size { self.new.size ≡ self.old.size }
-    {
-        self.words.fill(0);
-        self.lowest = 0;
-    }
-
     /// Removes the lowest member and returns it, or `None` if there is none. The search goes on at the 64-bit word of the lowest member
     /// before.
     pub fn take_lowest(&mut self) -> Option<usize>
