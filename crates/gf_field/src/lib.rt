@@ -18,6 +18,7 @@ use lanes::multiples_of;
 use tables::{logarithm_of, power_of};
 
 /// Returns the product of two octets.
+// Only tests call it so far: codes multiply by `add_scaled` and by logarithms. It stays for programs over this crate, and so does `inv`.
 #[inline]
 #[tactic(auto, using(crate::proofs::TableLemmas::logarithm_steps))]
 pub fn mul(a: u8, b: u8) -> u8

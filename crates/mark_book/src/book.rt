@@ -90,6 +90,7 @@ impl Book {
     }
 
     /// Returns what a node is listed past. `None` if it is not a member, or is listed past nothing.
+    // Only tests call this, `position` and `outcome` so far. They stay for programs that ask a sender for its book.
     pub fn past(&self, node: NodeId) -> Option<Position>
         ensures { (p : Settings) (s : SenderState) → Stands p self.now s → result ≡ listing_of s node }
     {

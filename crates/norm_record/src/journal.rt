@@ -95,6 +95,7 @@ impl Journal {
 
     /// How many octets of datagrams are kept. If each take is of the latest offer with its source and sequence number, these are the octets that
     /// were offered, each once.
+    // Only tests and a bench call it. It stays for its clause: no other says that what was taken is not kept again.
     pub fn octets(&self) -> usize
         ensures { TakesOffered self.now → result ≡ sum_by length (offered self.now) }
     {
@@ -103,6 +104,7 @@ impl Journal {
 
     /// How many hand-ups are kept. If all with the same instance, part, index and offset are the same, each is kept once for any number of
     /// receivers.
+    // Only tests call it. It stays for its clause, as `octets` does.
     // Proof: the names of what is kept are those of what came, and differ; length-from_keys makes that a count.
     pub fn hand_ups(&self) -> usize
         ensures { UpsAgree self.now → result ≡ distinct_count nat_eq (names_in self.now) }
@@ -111,6 +113,7 @@ impl Journal {
     }
 
     /// Returns hand-up `i` of all nodes, counted from 0 in the order of the events, with its node. `None` if there are no more.
+    // Only tests call this, `refused` and `expired` so far. They stay for programs that ask what became of a session.
     pub fn up(&self, i: u64) -> Option<(NodeId, &Up)>
         ensures { option_map (λ hand. (hand.0, hand.1.now)) result ≡ slice_get (handed_up self.now) i }
     {

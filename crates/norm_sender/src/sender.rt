@@ -233,6 +233,7 @@ impl Sender {
     /// - `TooMany` if 16 watermarks are open. The open stream is cut all the same.
     ///
     /// Or `Memory` if memory runs out. Then nothing changes.
+    // Only tests call this and `restart` so far, and nothing `strike`: commands come by `command`. They stay for programs over a sender.
     // Proof: the invariant goes by cases: the answer is Memory and all is as it was, or the rule holds.
     pub fn mark(&mut self, quorum: Option<u32>) -> Result<Receipt, MarkFault>
         requires { self.old.window.filling ≡ None }
@@ -308,6 +309,7 @@ impl Sender {
     }
 
     /// How many flushes were counted since another watermark became the oldest, or a round made a want.
+    // Nothing calls this, `repairable` and `window` so far. They stay for programs that compute how long a watermark may stay open.
     pub fn flushes(&self) -> u32
         ensures { (s : SenderState) → Stands self.now s → result ≡ s.flushes }
     {

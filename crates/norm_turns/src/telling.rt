@@ -58,6 +58,7 @@ pub fn left_by(alloc: Global, sender: &Sender, news: &News) -> Result<Vec<NodeId
 ///
 /// `Write` if the write failed, and then a prefix of the line may have been written. `Memory` if memory runs out, and then nothing was
 /// written.
+// Only tests call it so far. It stays for programs that print without a journal, as `write_up` does.
 pub fn write_news<K: Sink>(
     alloc: Global,
     line: &mut Line,

@@ -154,6 +154,7 @@ impl Board {
     }
 }
 
+// Only tests call a reader so far: the program's own board has one that nobody asks. Readers stay for programs whose producers wait for outcomes.
 impl BoardReader {
     /// Learns of a front of the reader's board. From now on the reader sees at least the entries of this front.
     pub fn learn(&mut self, front: Front)

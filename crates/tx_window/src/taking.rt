@@ -231,6 +231,7 @@ impl Window {
     ///
     /// The first of `Empty`, `TooBig`, `InfoTooBig`, `StreamOpen`, `IdsSpent` and `WindowFull` that applies, with the info and the octets; or
     /// `Memory` without them. Then the window is as it was.
+    // Only tests call it so far: a sender makes the steps itself, since a file comes in pieces. It stays for programs over this crate.
     pub fn enqueue(
         &mut self,
         kind: Kind,

@@ -169,6 +169,7 @@ impl Window {
     }
 
     /// The last closed source symbol of the order, even if its entry was dropped.
+    // Only tests call this and `streams` so far. They stay for programs that ask a sender for its window.
     pub fn end(&self) -> Option<Position>
         ensures { (s : SenderState) → Stands self.now s → result ≡ last_source (current_shapes self.now.p s) }
     {
