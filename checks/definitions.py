@@ -1,7 +1,8 @@
 #!/usr/bin/env python3
 """Evaluates the definitions of the protocol (crates/*/specs) on recorded runs.
 
-    checks/definitions.py [--runs DIR] [--count N] [--safe] [--laws] [--cases] [--damaged] [--journals] [--errors] [--rules [--write]] [--gate] [NAME ..]
+    checks/definitions.py [--runs DIR] [--count N] [--safe] [--laws] [--cases] [--damaged] [--journals] [--tails] [--errors] [--rules [--write]]
+                          [--gate] [NAME ..]
 
 A recorded run is a list of events with what each gave, and where the nodes stood at its end (checks/runs). For each run
 antt computes the defined steps, event by event, and compares each answer and the end state with the record: the proof of
@@ -13,9 +14,11 @@ small runs and values of checks/cases, `--damaged` the tests of safety on damage
 each deliberate error of checks/errors in a definition is noticed by the case that it names. `--rules` compares the rows of
 docs/protocol.md with what stands here, and with `--write` prints them again. `--journals` judges each recorded journal, which has to be
 accepted event by event, to end as recorded and to print the recorded text, and damaged ones, which have to be refused (with
-`--count N` those of the N shortest). `--gate` compares the rows and ten runs, and evaluates the cases, the damaged runs, all journals
-and the damaged ones of the ten shortest. NAME is a part of a run's name, or with `--errors` of an error's words, and `--count N` takes N
-runs evenly. Exit status: 0 where all is as expected, 1 where something differs, 2 where the evaluation failed.
+`--count N` those of the N shortest). `--tails` compares each recorded tail (checks/runs/tails) with the defined one, and damages of the
+shortest, which have to be refused. `--gate` compares the rows, ten runs and the four shortest tails, and evaluates the cases, the damaged
+runs, all journals and the damaged ones of the ten shortest. NAME is a part of a run's name, or with `--errors` of an error's words, and
+`--count N` takes N runs evenly (with `--tails` the N shortest).
+Exit status: 0 where all is as expected, 1 where something differs, 2 where the evaluation failed.
 """
 import argparse, glob, json, os, re, sys, tempfile, time
 
@@ -28,6 +31,8 @@ from evaluate.evaluating import Failed, Workspace, found_in     # noqa: E402
 
 # Its 4,096 spans take antt more steps than it has for one statement: checks/nodes.py drives it, and the cases of what is overheard have its bound.
 UNEVALUATED = 'hostile-008'
+# the gate takes so many tails, the shortest, of which one is cut; `--tails` takes all, which is a minute
+GATE_TAILS = 4
 
 
 def runs_of(folder, names, count):
@@ -81,7 +86,7 @@ def main():
     a.add_argument('--runs', default=os.path.join(HERE, 'runs'))
     a.add_argument('--count', type=int, default=0)
     a.add_argument('--work')
-    for flag in ('safe', 'laws', 'cases', 'damaged', 'journals', 'errors', 'rules', 'write', 'gate'):
+    for flag in ('safe', 'laws', 'cases', 'damaged', 'journals', 'tails', 'errors', 'rules', 'write', 'gate'):
         a.add_argument('--' + flag, action='store_true')
     a = a.parse_args()
     runs = list(runs_of(a.runs, [] if a.errors else a.names, 0 if a.gate else a.count))
@@ -95,6 +100,9 @@ def main():
                 said, differ = errors.look(space, runs, a.names)
             elif a.journals:
                 said, differ = judge(a)
+            elif a.tails:
+                from evaluate import tails
+                said, differ = tails.look(space, tails.runs_of(a.runs, a.names, a.count))
             elif a.rules:
                 from evaluate import rules
                 said, differ = rules.look(a.write)
@@ -108,8 +116,9 @@ def main():
                 said, differ = compare(space, [], [(n, *terms.safe_case(n, r)) for n, r in lawful])
             elif a.gate or a.damaged or a.cases:
                 import cases
-                from evaluate import damaged
+                from evaluate import damaged, tails
                 more = (cases.cases() if a.gate or a.cases else []) + (damaged.cases(lawful) if a.gate or a.damaged else [])
+                more += [tails.case(*t) for t in tails.runs_of(a.runs, (), GATE_TAILS)] if a.gate else []
                 said, differ = compare(space, [runs[i * len(runs) // 10] for i in range(10)] if a.gate else [], more)
                 if a.gate:
                     from evaluate import rules

@@ -21,7 +21,7 @@ python3 checks/tools/compare.py || exit 1
 if there tshark; then
     checks/tools/dissector.py "$fixtures/datagrams" "$fixtures/shown" || exit 1
     if [ -x "$program" ]; then
-        runs=$(find checks/runs examples -name '*.json' 2>/dev/null)
+        runs=$(find checks/runs examples -maxdepth 1 -name '*.json' 2>/dev/null)
         # shellcheck disable=SC2086 # each name is a word
         checks/tools/dissector.py --runs $runs >"$scratch/lines" || exit 1
         "$program" show <"$scratch/lines" >"$scratch/shown"

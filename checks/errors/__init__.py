@@ -1,12 +1,13 @@
-"""Deliberate errors in the definitions. Each is one changed text in one file, and the case that its row names has to part from it."""
+"""Deliberate errors in the definitions. Each is one changed text in one file, or two that belong together, and the case that its row names
+has to part from it."""
 import itertools, re
 
 import cases
-from errors import receiver, sender
+from errors import receiver, sender, tail
 from evaluate import terms
 from evaluate.variant import Failed, Variant
 
-ERRORS = sender.ERRORS + receiver.ERRORS
+ERRORS = sender.ERRORS + receiver.ERRORS + tail.ERRORS
 UNREAD = 'CANNOT BE READ'
 # the steps of a small run by which a definition of one kind of node is used; its sender is node 1
 STEPS = {sender.S: r'Commanded|(Ticked|Delivered) 1 |NewsAsked|Pass |is_no_index', receiver.R: r'(Ticked|Delivered|UpTaken) [2-9]\b|Pass '}

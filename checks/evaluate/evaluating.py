@@ -6,7 +6,7 @@ from evaluate.variant import Failed, Variant, put
 
 HERE = os.path.dirname(os.path.abspath(__file__))
 REPO = os.path.dirname(os.path.dirname(HERE))
-SHARED = '\n'.join(open(os.path.join(HERE, f), encoding='utf-8').read() for f in ('Shown.txt', 'Small.txt', 'Damage.txt', 'Laws.txt'))
+SHARED = '\n'.join(open(os.path.join(HERE, f), encoding='utf-8').read() for f in ('Shown.txt', 'Small.txt', 'Damage.txt', 'Laws.txt', 'Tails.txt'))
 
 
 class Workspace:

@@ -5,6 +5,8 @@ The first two columns are written by hand, and say the rule and its definitions.
 the `ghost use` lines of the code, the statements of the laws, and the tables of cases, errors and edits."""
 import functools, glob, os, re
 
+from evaluate.variant import changes
+
 REPO = os.path.dirname(os.path.dirname(os.path.dirname(os.path.abspath(__file__))))
 PAGE = os.path.join(REPO, 'docs', 'protocol.md')
 HEAD = '| Rule | Definition | Code | Law | Case | Error | Edit |'
@@ -145,11 +147,12 @@ def tables():
     page = read(PAGE).split('\n')
     all_rows, astray = list(rows(page)), []
     noticed, edits = {}, {}
-    for what, crate, file, old, _, case in errors.ERRORS:
-        text = text_of(crate, file)
-        place = place_of(all_rows, crate, file, definition_at(text, text.find(old)) if old in text else None)
-        if place is None or text.count(old) != 1:
-            astray.append('the error "%s": %s' % (what, 'no rule has %s/specs/%s' % (crate, file) if place is None else 'its text stands %d times' % text.count(old)))
+    for what, crate, file, old, new, case in errors.ERRORS:
+        text, olds = text_of(crate, file), [o for o, _ in changes(old, new)]
+        place = place_of(all_rows, crate, file, definition_at(text, text.find(olds[0])) if olds[0] in text else None)
+        counts = [text.count(o) for o in olds]
+        if place is None or set(counts) != {1}:
+            astray.append('the error "%s": %s' % (what, 'no rule has %s/specs/%s' % (crate, file) if place is None else 'its text stands %d times' % next(n for n in counts if n != 1)))
         else:
             noticed.setdefault(place, []).append((what, case))
     for path in sorted(glob.glob(os.path.join(REPO, 'crates', '*', 'must-fail', '*.edit'))):

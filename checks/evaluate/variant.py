@@ -12,7 +12,7 @@ def put(path, text):
 
 # names that a changed text may need, and where they are
 NAMES = {
-    'Rattle.std.specs.Prelude': ['◌==◌', 'None', 'Some', 'true', 'false', 'not', '◌&&◌', '◌||◌', '◌+◌', '◌-◌', '◌*◌', '◌%◌', 'max', 'min', 'length', 'map', 'filter', 'reverse', 'take', 'drop',
+    'Rattle.std.specs.Prelude': ['◌==◌', 'None', 'Some', 'true', 'false', 'not', '◌&&◌', '◌||◌', '◌+◌', '◌-◌', '◌*◌', '◌/◌', '◌%◌', 'max', 'min', 'length', 'map', 'filter', 'reverse', 'take', 'drop',
                                  'nat_lt', 'nat_le', '[]', '◌∷◌', '◌++◌'],
     'Rattle.std.specs.List': ['list_any'],
     'Rattle.fec_plan.specs.Partition': ['source_symbols'],
@@ -28,13 +28,18 @@ NAMES = {
 }
 
 
+def changes(old, new):
+    """(text, what replaces it) of a change: one, or several that belong together."""
+    return [(old, new)] if isinstance(old, str) else list(zip(old, new, strict=True))
+
+
 class Variant:
-    """The definitions as they are; or with one text of a file changed, in copies of its crate and of those above it."""
+    """The definitions as they are; or with texts of a file changed, in copies of its crate and of those above it."""
 
     def __init__(self, space, change=None, suffix=''):
         self.changed = {}
         if change:
-            crate, name, old, new = change
+            crate, name, *texts = change
             above = {crate}
             for c in space.order:
                 if above & set(space.crates[c]):
@@ -44,10 +49,11 @@ class Variant:
                 self.copy(os.path.join(space.work, 'crates', c), os.path.join(space.work, 'crates', copy))
             path = os.path.join(space.work, 'crates', crate + suffix, 'specs', name + '.antt')
             text = open(path, encoding='utf-8').read()
-            if text.count(self.named(old)) != 1:
-                raise Failed('its text stands %d times in %s' % (text.count(old), path))
-            text = text.replace(self.named(old), self.named(new))
-            put(path, self.named(self.uses(text, new)) + text)
+            for old, new in changes(*texts):
+                if text.count(self.named(old)) != 1:
+                    raise Failed('its text stands %d times in %s' % (text.count(old), path))
+                text = text.replace(self.named(old), self.named(new))
+            put(path, self.named(self.uses(text, ' '.join(new for _, new in changes(*texts)))) + text)
 
     def copy(self, source, target):
         shutil.rmtree(target, ignore_errors=True)

@@ -79,3 +79,4 @@ pub mod MetLemmas
 pub mod SatisfiedRun
 pub mod SafeRun
 pub mod RunFronts
+pub mod TailLemmas

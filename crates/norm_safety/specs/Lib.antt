@@ -32,4 +32,7 @@ pub mod AsItCame
 pub mod FilesHaveNames
 pub mod HandsBegin
 pub mod LastUpto
+pub mod Tail
+pub mod TailLaws
+pub mod Recovery
 pub mod Laws

@@ -11,6 +11,7 @@ ghost use Rattle.norm_safety.specs.LastUpto.{LastUpto};
 ghost use Rattle.norm_safety.specs.Laws.{TestLaws, WantsHoldInRuns, SafeRun, FrontLaws, OfLawfulRuns, SaidOfOrders, CreditRun, SatisfiedRun, AcknowledgeRun};
 ghost use Rattle.norm_safety.specs.LosesNothing.{LosesNothing};
 ghost use Rattle.norm_safety.specs.RepairSuffices.{RepairSuffices};
+ghost use Rattle.norm_safety.specs.TailLaws.{TailLaws};
 ghost use Rattle.norm_safety.specs.WorldLaws.{WorldLaws};
 
 /// Every lawful run is safe, whatever the network loses, repeats, reorders or delays, and however often the sender restarts:
@@ -154,4 +155,11 @@ pub fn hands_begin()
 #[tactic(auto, using(crate::proofs::LastUptoLemmas::last_upto))]
 pub fn last_upto()
     ensures { OfLawfulRuns LastUpto }
+{}
+
+/// A tail is a run from its world, and so are any of its turns. It has no more turns than its bound, and they are a step apart. What a node's
+/// tick answers is what the node has to pass on.
+#[tactic(auto, using(crate::proofs::TailLemmas::tail_laws))]
+pub fn tails()
+    ensures { TailLaws }
 {}
