@@ -3,14 +3,9 @@
 
 ghost use Rattle.std.specs.Prelude.{◌≡◌, ◌∷◌, [], ◌++◌, codes, decimal, map, IfOk, OnOk};
 ghost use Rattle.norm_ext.specs.Lists.{nodes_of, objects_of};
-ghost use Rattle.norm_ext.specs.Extensions.{IsChecked};
-ghost use Rattle.norm_ext.specs.Requests.{requests_of, IsRequests};
 ghost use Rattle.norm_codec.specs.View.{message_of};
-ghost use Rattle.norm_codec.specs.Whole.{IsWhole};
 ghost use Rattle.norm_cmdmsg.specs.View.{command_of};
-ghost use Rattle.norm_cmdmsg.specs.Whole.{IsWhole as IsWholeCommand};
 ghost use Rattle.norm_fbmsg.specs.View.{nack_of, ack_of, content_of};
-ghost use Rattle.norm_fbmsg.specs.Whole.{IsWholeNack};
 ghost use Rattle.norm_objmsg.specs.MessageView.{info_of, data_of};
 ghost use Rattle.norm_text.specs.Words.{line, with_words, numbers_word};
 ghost use Rattle.norm_show.specs.Words.{command_words, symbol_words, requests_word};
@@ -20,7 +15,7 @@ use crate::lists::{put_nodes, put_objects, put_requests};
 use crate::words::{put_command, put_fti, put_object, put_receiver, put_symbol};
 use norm_cmdmsg::CommandMsg;
 use norm_codec::{Message, Refusal};
-use norm_ext::{CmdHead, Item};
+use norm_ext::{CmdHead, Item, Requests};
 use norm_fbmsg::{AckBody, AckMsg, NackMsg};
 use norm_objmsg::{DataMsg, InfoMsg};
 use norm_text::Line;
@@ -28,26 +23,24 @@ use std::alloc::{AllocError, Global};
 
 /// Returns the line of INFO.
 fn info_text(alloc: Global, msg: &InfoMsg<'_>) -> Result<Vec<u8>, AllocError>
-    requires { IsChecked msg.now.exts.now }
     ensures { IfOk result (λ text. text.items ≡ message_line (info_of msg.now)) }
 {
     let mut line = Line::begin(alloc, b"info", msg.info.len())?;
     put_object(&mut line, &msg.head)?;
-    put_fti(&mut line, msg.exts)?;
+    put_fti(&mut line, &msg.exts)?;
     line.contents_or_dash(msg.info)?;
     line.end()
 }
 
 /// Returns the line of DATA.
 fn data_text(alloc: Global, msg: &DataMsg<'_>) -> Result<Vec<u8>, AllocError>
-    requires { IsChecked msg.now.exts.now }
     ensures { IfOk result (λ text. text.items ≡ message_line (data_of msg.now)) }
 {
     let mut line = Line::begin(alloc, b"data", msg.payload.len())?;
     put_object(&mut line, &msg.head)?;
     line.number(u64::from(msg.id.block))?;
     line.number(u64::from(msg.id.symbol))?;
-    put_fti(&mut line, msg.exts)?;
+    put_fti(&mut line, &msg.exts)?;
     line.contents_or_dash(msg.payload)?;
     line.end()
 }
@@ -103,13 +96,12 @@ fn adv_text(
     alloc: Global,
     head: &CmdHead,
     flags: u8,
-    requests: &[u8],
+    requests: &Requests<'_>,
 ) -> Result<Vec<u8>, AllocError>
-    requires { IsRequests requests.now }
     ensures { IfOk result (λ text. text.items ≡ line (codes "adv")
-        (command_words head.now ++ decimal flags ∷ requests_word (requests_of requests.now) ∷ [])) }
+        (command_words head.now ++ decimal flags ∷ requests_word requests.now ∷ [])) }
 {
-    let mut line = begin_command(alloc, b"adv", head, requests.len())?;
+    let mut line = begin_command(alloc, b"adv", head, requests.octets().len())?;
     line.number(u64::from(flags))?;
     put_requests(&mut line, requests)?;
     line.end()
@@ -151,7 +143,6 @@ fn opaque_text(alloc: Global, head: &CmdHead, sub_type: u8) -> Result<Vec<u8>, A
 
 /// Returns the line of a command.
 fn command_text(alloc: Global, msg: &CommandMsg<'_>) -> Result<Vec<u8>, AllocError>
-    requires { IsWholeCommand msg.now }
     ensures { IfOk result (λ text. text.items ≡ message_line (command_of msg.now)) }
 {
     match msg {
@@ -201,10 +192,9 @@ fn command_text(alloc: Global, msg: &CommandMsg<'_>) -> Result<Vec<u8>, AllocErr
 
 /// Returns the line of NACK.
 fn nack_text(alloc: Global, msg: &NackMsg<'_>) -> Result<Vec<u8>, AllocError>
-    requires { IsWholeNack msg.now }
     ensures { IfOk result (λ text. text.items ≡ message_line (nack_of msg.now)) }
 {
-    let mut line = Line::begin(alloc, b"nack", msg.requests.len())?;
+    let mut line = Line::begin(alloc, b"nack", msg.requests.octets().len())?;
     put_receiver(
         &mut line,
         msg.source,
@@ -212,7 +202,7 @@ fn nack_text(alloc: Global, msg: &NackMsg<'_>) -> Result<Vec<u8>, AllocError>
         msg.sender,
         msg.instance,
     )?;
-    put_requests(&mut line, msg.requests)?;
+    put_requests(&mut line, &msg.requests)?;
     line.end()
 }
 
@@ -259,7 +249,6 @@ fn report_text(alloc: Global, source: u32, sequence: u16) -> Result<Vec<u8>, All
 
 /// Returns the line of a message that was decoded.
 pub(crate) fn message_text(alloc: Global, msg: &Message<'_>) -> Result<Vec<u8>, AllocError>
-    requires { IsWhole msg.now }
     ensures { IfOk result (λ text. text.items ≡ message_line (message_of msg.now)) }
 {
     match msg {

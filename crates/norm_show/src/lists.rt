@@ -2,14 +2,14 @@
 
 ghost use Rattle.std.specs.Prelude.{◌≡◌, OnOk, map};
 ghost use Rattle.norm_ext.specs.Lists.{nodes_of, objects_of};
-ghost use Rattle.norm_ext.specs.Requests.{requests_of as all_requests, items_named, IsRequests};
+ghost use Rattle.norm_ext.specs.Requests.{items_named};
 ghost use Rattle.norm_ext.specs.RequestView.{request_of};
 ghost use Rattle.norm_text.specs.Words.{with_piece, with_word, joined, numbers_word};
 ghost use Rattle.norm_show.specs.Words.{item_word, request_word, requests_word};
 
 use norm_ext::items::split_item;
 use norm_ext::places::{NODE, OBJECT};
-use norm_ext::{Item, Request, read_16, read_32, requests_of};
+use norm_ext::{Item, Request, Requests, read_16, read_32};
 use norm_text::Line;
 use std::alloc::AllocError;
 
@@ -86,12 +86,11 @@ fn put_request(line: &mut Line, by: u8, request: &Request<'_>) -> Result<(), All
     Ok(())
 }
 
-/// Adds repair requests, separated by commas, or a dash if there are none. The list was checked already.
-pub(crate) fn put_requests(line: &mut Line, list: &[u8]) -> Result<(), AllocError>
-    requires { IsRequests list.now }
-    ensures { OnOk result (line.new ≡ with_word line.old (requests_word (all_requests list.now))) }
+/// Adds repair requests, separated by commas, or a dash if there are none.
+pub(crate) fn put_requests(line: &mut Line, list: &Requests<'_>) -> Result<(), AllocError>
+    ensures { OnOk result (line.new ≡ with_word line.old (requests_word list.now)) }
 {
-    let mut requests = requests_of(list);
+    let mut requests = list.iter();
     let Some(first) = requests.next() else {
         return line.word(b"-");
     };

@@ -1,7 +1,6 @@
 //! Adds the words that several messages share to a line: heads, positions and transmission information. `lines` calls them.
 
 ghost use Rattle.std.specs.Prelude.{◌≡◌, ◌∷◌, [], decimal, OnOk};
-ghost use Rattle.norm_ext.specs.Extensions.{extensions_of, IsChecked};
 ghost use Rattle.norm_text.specs.Words.{with_word, with_words};
 ghost use Rattle.norm_show.specs.Words.{sizes_word, command_words, object_words, receiver_words, symbol_words, plan_word, fti_word};
 
@@ -92,21 +91,11 @@ fn put_plan(line: &mut Line, fti: Fti) -> Result<(), AllocError>
     )
 }
 
-/// Returns the extensions of a list that was checked already.
-fn extensions_in(exts: &[u8]) -> Extensions<'_>
-    requires { IsChecked exts.now }
-    ensures { result ≡ extensions_of exts.now }
-{
-    // It does not fail: a message that was read has whole extensions.
-    Extensions::check(exts).unwrap()
-}
-
 /// Adds the transmission information among a message's extensions, or a dash if there is none.
-pub(crate) fn put_fti(line: &mut Line, exts: &[u8]) -> Result<(), AllocError>
-    requires { IsChecked exts.now }
-    ensures { OnOk result (line.new ≡ with_word line.old (fti_word (extensions_of exts.now))) }
+pub(crate) fn put_fti(line: &mut Line, exts: &Extensions<'_>) -> Result<(), AllocError>
+    ensures { OnOk result (line.new ≡ with_word line.old (fti_word exts.now)) }
 {
-    match read_fti(extensions_in(exts)) {
+    match read_fti(exts.iter()) {
         Some(fti) => put_plan(line, fti),
         None => line.word(b"-"),
     }
