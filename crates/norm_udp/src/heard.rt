@@ -3,8 +3,6 @@
 ghost use Rattle.std.specs.Prelude.{◌≡◌, Some};
 ghost use Rattle.norm_cmdmsg.specs.View.{command_of};
 ghost use Rattle.norm_codec.specs.View.{message_of};
-ghost use Rattle.norm_codec.specs.Whole.{IsWhole};
-ghost use Rattle.norm_ext.specs.Extensions.{extensions_of, fti_of, IsChecked};
 ghost use Rattle.norm_udp.specs.Hearing.{object_heard, command_heard, message_heard, heard_in};
 
 use norm_base::{InstanceId, NodeId};
@@ -25,27 +23,15 @@ pub struct Heard {
     pub flags: u8,
 }
 
-/// Returns the transmission information among these extensions, if there is any.
-fn fti_among(exts: &[u8]) -> Option<Fti>
-    requires { IsChecked exts.now }
-    ensures { result ≡ fti_of (extensions_of exts.now) }
-{
-    match Extensions::check(exts) {
-        Ok(exts) => read_fti(exts),
-        Err(_) => None,
-    }
-}
-
 /// Returns what INFO or DATA says.
-fn object_heard(head: &ObjHead, exts: &[u8]) -> Heard
-    requires { IsChecked exts.now }
-    ensures { result ≡ object_heard head.now (extensions_of exts.now) }
+fn object_heard(head: &ObjHead, exts: &Extensions<'_>) -> Heard
+    ensures { result ≡ object_heard head.now exts.now }
 {
     Heard {
         sender: head.source,
         instance: head.instance,
         object: Some(head.object),
-        fti: fti_among(exts),
+        fti: read_fti(exts.iter()),
         flags: head.flags,
     }
 }
@@ -79,12 +65,11 @@ fn any_command_heard(msg: &CommandMsg<'_>) -> Heard
 
 /// Returns what a message says of its sender. `None` for feedback and reports.
 fn message_heard(msg: &Message<'_>) -> Option<Heard>
-    requires { IsWhole msg.now }
     ensures { result ≡ message_heard (message_of msg.now) }
 {
     match msg {
-        Message::Info(msg) => Some(object_heard(&msg.head, msg.exts)),
-        Message::Data(msg) => Some(object_heard(&msg.head, msg.exts)),
+        Message::Info(msg) => Some(object_heard(&msg.head, &msg.exts)),
+        Message::Data(msg) => Some(object_heard(&msg.head, &msg.exts)),
         Message::Command(msg) => Some(any_command_heard(msg)),
         Message::Nack(_) => None,
         Message::Ack(_) => None,
