@@ -1,9 +1,8 @@
 -- What is heard of what others ask for.
 use Rattle.std.specs.Prelude.{◌==◌, ◌&&◌, List, Bool, true, false}
 use Rattle.norm_base.specs.Settings.{Settings}
-use Rattle.norm_ext.specs.Extensions.{extensions_of}
 use Rattle.norm_ext.specs.Message.{NackMessage}
-use Rattle.norm_ext.specs.Requests.{Request, requests_of}
+use Rattle.norm_ext.specs.Requests.{Request}
 use Rattle.norm_ext.specs.declared.head.CmdHead.{CmdHead}
 use Rattle.norm_fbmsg.specs.declared.message.NackMsg.{NackMsg}
 use Rattle.norm_receive_rules.specs.Leaving.{is_in}
@@ -18,8 +17,8 @@ nack_in m = record {
   sequence = m.sequence;
   sender = m.sender;
   instance = m.instance;
-  extensions = extensions_of m.exts.now;
-  requests = requests_of m.requests.now;
+  extensions = m.exts;
+  requests = m.requests;
 }
 
 -- it is heard

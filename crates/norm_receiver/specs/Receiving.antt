@@ -3,7 +3,6 @@ use Rattle.std.specs.Prelude.{ℕ, ◌≡◌, ◌%◌, List, true, false, length
 use Rattle.norm_base.specs.Settings.{Settings}
 use Rattle.fec_plan.specs.Points.{Point, point, point_of, position}
 use Rattle.fec_plan.specs.declared.position.Position.{Position}
-use Rattle.norm_ext.specs.Extensions.{extensions_of, IsChecked}
 use Rattle.norm_ext.specs.Lists.{nodes_of}
 use Rattle.norm_ext.specs.declared.fti.Fti.{Fti}
 use Rattle.norm_receive_rules.specs.Holding.{Holding}
@@ -48,16 +47,16 @@ squelch_at p first s = record s { holding = squelched p first s.holding }
 -- what a message says of the object with this index happens
 abbrev pub said_received : Settings → Said → ℕ → ReceiverState → ReceiverState
 said_received p (said.Info flags exts info) index s =
-    object_received p (position index 0 0) (extensions_of exts.now) flags (put_info p index info.now) s
+    object_received p (position index 0 0) exts flags (put_info p index info.now) s
 said_received p (said.Data flags exts id payload) index s =
     let at = position index id.block id.symbol in
-    object_received p at (extensions_of exts.now) flags (put_symbol p at payload.now) s
+    object_received p at exts flags (put_symbol p at payload.now) s
 said_received p (said.Flush id nodes) index s = flush_at (position index id.block id.symbol) (nodes_of nodes.now) s
 said_received p (said.Squelch block) index s = squelch_at p (point index block) s
 
--- what a message lends is whole
+-- what a message lends is whole: its extensions are, by their type
 abbrev pub IsSaid : Said → Type 0
-IsSaid (said.Info flags exts info) = IsChecked exts.now
-IsSaid (said.Data flags exts id payload) = IsChecked exts.now
+IsSaid (said.Info flags exts info) = ⊤
+IsSaid (said.Data flags exts id payload) = ⊤
 IsSaid (said.Flush id nodes) = length nodes.now % 4 ≡ 0
 IsSaid (said.Squelch block) = ⊤

@@ -1,7 +1,6 @@
 //! Taking in datagrams, message by message (RFC 5740 section 5.2). [`Receiver::deliver`](crate::Receiver::deliver) calls it.
 
 ghost use Rattle.std.specs.Prelude.{◌≡◌, Ok, IfOk, OnErr, true};
-ghost use Rattle.norm_ext.specs.Extensions.{IsChecked};
 ghost use Rattle.norm_cmdmsg.specs.View.{command_of};
 ghost use Rattle.norm_cmdmsg.specs.Whole.{IsWhole};
 ghost use Rattle.norm_ext.specs.declared.refusal.Refusal.{Refusal as Refused};
@@ -55,16 +54,16 @@ fn block_of(id: PayloadId) -> u32
 impl Parts {
     /// Takes in an INFO.
     fn deliver_info(&mut self, msg: &InfoMsg<'_>, now: Moment, draw: u32) -> Result<(), Memory>
-        requires whole { IsChecked msg.now.exts.now }
         ensures profile { self.new.profile ≡ self.old.profile }
         ensures state { IfOk result (λ _. (s : ReceiverState) → Stands (kept_of self.old) s
             → Stands (kept_of self.new) (message_received {E = Refused} self.old.profile now draw (Ok (info_of msg.now)) s)) }
         ensures refused { OnErr result ((s : ReceiverState) → Stands (kept_of self.old) s → Stands (kept_of self.new) s) }
         ensures wanted { OnErr result ((s : ReceiverState) → Stands (kept_of self.old) s → message_wants {E = Refused} self.old.profile (Ok (info_of msg.now)) s ≡ true) }
     {
+        let exts = msg.exts.iter();
         let said = Said::Info {
             flags: msg.head.flags,
-            exts: msg.exts,
+            exts,
             info: msg.info,
         };
         self.deliver_said(&object_naming(&msg.head), &said, now, draw)
@@ -72,16 +71,16 @@ impl Parts {
 
     /// Takes in a DATA.
     fn deliver_data(&mut self, msg: &DataMsg<'_>, now: Moment, draw: u32) -> Result<(), Memory>
-        requires whole { IsChecked msg.now.exts.now }
         ensures profile { self.new.profile ≡ self.old.profile }
         ensures state { IfOk result (λ _. (s : ReceiverState) → Stands (kept_of self.old) s
             → Stands (kept_of self.new) (message_received {E = Refused} self.old.profile now draw (Ok (data_of msg.now)) s)) }
         ensures refused { OnErr result ((s : ReceiverState) → Stands (kept_of self.old) s → Stands (kept_of self.new) s) }
         ensures wanted { OnErr result ((s : ReceiverState) → Stands (kept_of self.old) s → message_wants {E = Refused} self.old.profile (Ok (data_of msg.now)) s ≡ true) }
     {
+        let exts = msg.exts.iter();
         let said = Said::Data {
             flags: msg.head.flags,
-            exts: msg.exts,
+            exts,
             id: msg.id,
             payload: msg.payload,
         };

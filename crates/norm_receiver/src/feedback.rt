@@ -10,6 +10,7 @@ ghost use Rattle.norm_receiver.specs.Numbers.{numbers_of};
 use crate::numbers::{FlushPlace, Numbers};
 use norm_base::{Datagram, InstanceId, NodeId, Profile};
 use norm_ext::items::item_of;
+use norm_ext::{Extensions, Requests};
 use norm_fbmsg::{AckBody, AckMsg, FLUSH_ACK, NackMsg, write_ack, write_nack};
 
 impl Numbers {
@@ -29,6 +30,7 @@ impl Numbers {
 pub(crate) fn write_mark(profile: &Profile, numbers: &Numbers, at: FlushPlace, out: &mut Datagram)
     ensures { (s : ReceiverState) → numbers.now ≡ numbers_of s → out.new ≡ octets_of (ack_message profile.now s at) }
 {
+    let exts = Extensions::none();
     out.clear();
     write_ack(
         &AckMsg {
@@ -40,7 +42,7 @@ pub(crate) fn write_mark(profile: &Profile, numbers: &Numbers, at: FlushPlace, o
             ack_type: FLUSH_ACK,
             // RFC 5740 section 4.3.2: it answers the ack_id of an ACK_REQ, and a flush has none.
             ack_id: 0,
-            exts: &[],
+            exts,
             body: AckBody::Mark(item_of(profile, at.position())),
         },
         out,
@@ -52,6 +54,8 @@ pub(crate) fn write_nack_front(profile: &Profile, numbers: &Numbers, out: &mut D
     ensures exact { (s : ReceiverState) → numbers.now ≡ numbers_of s → out.new ≡ octets_of (nack_message profile.now s []) }
     ensures size { length out.new ≡ 24 }
 {
+    let exts = Extensions::none();
+    let requests = Requests::none();
     out.clear();
     write_nack(
         &NackMsg {
@@ -59,8 +63,8 @@ pub(crate) fn write_nack_front(profile: &Profile, numbers: &Numbers, out: &mut D
             sequence: numbers.sequence,
             sender: NodeId::of(profile.sender).unwrap(),
             instance: numbers.instance_id(),
-            exts: &[],
-            requests: &[],
+            exts,
+            requests,
         },
         out,
     );

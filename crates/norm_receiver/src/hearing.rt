@@ -2,7 +2,6 @@
 //! REPAIR_ADV.
 
 ghost use Rattle.std.specs.Prelude.{◌≡◌, IfOk, OnErr, true};
-ghost use Rattle.norm_ext.specs.Requests.{IsRequests, requests_of};
 ghost use Rattle.norm_receive_rules.specs.ReceiverState.{ReceiverState};
 ghost use Rattle.norm_receive_rules.specs.Overhearing.{overheard};
 ghost use Rattle.norm_receive_rules.specs.Wanting.{is_hearing};
@@ -12,17 +11,16 @@ ghost use Rattle.norm_receiver.specs.Inside.{kept_of};
 
 use crate::parts::Parts;
 use norm_base::Memory;
-use norm_ext::{CmdHead, requests_of as requests_in};
+use norm_ext::{CmdHead, Requests};
 use norm_fbmsg::NackMsg;
 use rx_heard::hear_requests;
 
 impl Parts {
-    /// Notes what requests ask for if a back-off is running. Otherwise ignores them. The requests are whole.
-    fn overhear(&mut self, requests: &[u8]) -> Result<(), Memory>
-        requires { IsRequests requests.now }
+    /// Notes what requests ask for if a back-off is running. Otherwise ignores them.
+    fn overhear(&mut self, requests: &Requests<'_>) -> Result<(), Memory>
         ensures profile { self.new.profile ≡ self.old.profile }
         ensures state { IfOk result (λ _. (s : ReceiverState) → Stands (kept_of self.old) s
-            → Stands (kept_of self.new) (overheard self.old.profile (requests_of requests.now) s)) }
+            → Stands (kept_of self.new) (overheard self.old.profile requests.now s)) }
         ensures refused { OnErr result ((s : ReceiverState) → Stands (kept_of self.old) s → Stands (kept_of self.new) s) }
         ensures wanted { OnErr result ((s : ReceiverState) → Stands (kept_of self.old) s → is_hearing s ≡ true) }
     {
@@ -30,7 +28,6 @@ impl Parts {
         if self.numbers.backoff.is_none() {
             return Ok(());
         }
-        let requests = requests_in(requests);
         // Heard as a whole or not at all, and kept merged: spans that share no position, and the greatest count of each block. Without a bound, a
         // member that lies could add some 184 spans to each list with each datagram. If too much were an error, two dozen datagrams would
         // end the receiver. A message that is passed over costs a request that others made too.
@@ -39,13 +36,12 @@ impl Parts {
             &mut self.asked,
             &self.profile,
             self.numbers.known,
-            requests,
+            requests.iter(),
         )
     }
 
     /// Hears a NACK. Ignores it unless it comes from another node, and goes to this sender in this instance.
     pub(crate) fn hear_nack(&mut self, msg: &NackMsg<'_>) -> Result<(), Memory>
-        requires { IsRequests msg.now.requests.now }
         ensures profile { self.new.profile ≡ self.old.profile }
         ensures state { IfOk result (λ _. (s : ReceiverState) → Stands (kept_of self.old) s → Stands (kept_of self.new) (nack_heard self.old.profile msg.now s)) }
         ensures refused { OnErr result ((s : ReceiverState) → Stands (kept_of self.old) s → Stands (kept_of self.new) s) }
@@ -61,15 +57,14 @@ impl Parts {
         if !self.numbers.is_in(msg.instance) {
             return Ok(());
         }
-        self.overhear(msg.requests)
+        self.overhear(&msg.requests)
     }
 
     /// Hears a REPAIR_ADV, which says what the sender was asked for. Ignores it unless it comes from this sender in this instance.
-    pub(crate) fn hear_adv(&mut self, head: &CmdHead, requests: &[u8]) -> Result<(), Memory>
-        requires { IsRequests requests.now }
+    pub(crate) fn hear_adv(&mut self, head: &CmdHead, requests: &Requests<'_>) -> Result<(), Memory>
         ensures profile { self.new.profile ≡ self.old.profile }
         ensures state { IfOk result (λ _. (s : ReceiverState) → Stands (kept_of self.old) s
-            → Stands (kept_of self.new) (adv_heard self.old.profile head.now (requests_of requests.now) s)) }
+            → Stands (kept_of self.new) (adv_heard self.old.profile head.now requests.now s)) }
         ensures refused { OnErr result ((s : ReceiverState) → Stands (kept_of self.old) s → Stands (kept_of self.new) s) }
         ensures wanted { OnErr result ((s : ReceiverState) → Stands (kept_of self.old) s → adv_wants self.old.profile head.now s ≡ true) }
     {

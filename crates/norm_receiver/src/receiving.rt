@@ -2,7 +2,6 @@
 
 ghost use Rattle.std.specs.Prelude.{◌≡◌, ◌^◌, ◌<◌, ◌%◌, ◌&&◌, IfOk, OnErr, IfSome, false, length};
 ghost use Rattle.fec_plan.specs.Points.{IsBlock, position, point as point_at, point_of};
-ghost use Rattle.norm_ext.specs.Extensions.{extensions_of, fti_of, IsChecked};
 ghost use Rattle.norm_ext.specs.Lists.{nodes_of};
 ghost use Rattle.norm_receive_rules.specs.Holding.{Holding};
 ghost use Rattle.norm_receive_rules.specs.ReceiverState.{ReceiverState};
@@ -34,18 +33,16 @@ pub(crate) enum Brought<'a> {
 }
 
 /// What a message of the sender says of an object.
-#[derive(Clone, Copy, Debug)]
+#[derive(Debug, Drop)]
 pub(crate) enum Said<'a> {
     Info {
         flags: u8,
-        /// The header extensions, which are whole.
-        exts: &'a [u8],
+        exts: Extensions<'a>,
         info: &'a [u8],
     },
     Data {
         flags: u8,
-        /// The header extensions, which are whole.
-        exts: &'a [u8],
+        exts: Extensions<'a>,
         id: PayloadId,
         payload: &'a [u8],
     },
@@ -75,17 +72,6 @@ fn place_of(index: u32, brought: &Brought<'_>) -> Position
             block: id.block,
             symbol: id.symbol,
         },
-    }
-}
-
-/// Returns the transmission information among whole extensions, if it is there.
-fn fti_among(exts: &[u8]) -> Option<Fti>
-    requires { IsChecked exts.now }
-    ensures { result ≡ fti_of (extensions_of exts.now) }
-{
-    match Extensions::check(exts) {
-        Ok(exts) => read_fti(exts),
-        Err(_) => None,
     }
 }
 
@@ -190,17 +176,16 @@ fn keep_object(
     hold: &mut Hold,
     index: u32,
     flags: u8,
-    exts: &[u8],
+    exts: &Extensions<'_>,
     brought: &Brought<'_>,
 ) -> Result<(), Memory>
-    requires whole { IsChecked exts.now }
-    requires last { index < 4294967295 }
+    requires { index < 4294967295 }
     ensures profile { hold.new.p ≡ hold.old.p }
     ensures state { IfOk result (λ _. (s : Holding) → HoldStands hold.old s
-        → HoldStands hold.new (object_held hold.old.p (place_of index brought.now) (extensions_of exts.now) flags (puts hold.old.p index brought.now) s)) }
+        → HoldStands hold.new (object_held hold.old.p (place_of index brought.now) exts.now flags (puts hold.old.p index brought.now) s)) }
     ensures refused { OnErr result ((s : Holding) → HoldStands hold.old s → HoldStands hold.new s) }
 {
-    match fti_among(exts) {
+    match read_fti(exts.iter()) {
         Some(fti) => keep_told(hold, index, &fti, flags, brought),
         None => keep(hold, index, brought),
     }
@@ -224,14 +209,13 @@ impl Parts {
         &mut self,
         index: u32,
         flags: u8,
-        exts: &[u8],
+        exts: &Extensions<'_>,
         brought: &Brought<'_>,
     ) -> Result<(), Memory>
-        requires whole { IsChecked exts.now }
-        requires last { index < 4294967295 }
+        requires { index < 4294967295 }
         ensures profile { self.new.profile ≡ self.old.profile }
         ensures state { IfOk result (λ _. (s : ReceiverState) → Stands (kept_of self.old) s
-            → Stands (kept_of self.new) (object_received self.old.profile (place_of index brought.now) (extensions_of exts.now) flags (puts self.old.profile index brought.now) (record s { knows = learns index s.knows }))) }
+            → Stands (kept_of self.new) (object_received self.old.profile (place_of index brought.now) exts.now flags (puts self.old.profile index brought.now) (record s { knows = learns index s.knows }))) }
         ensures refused { OnErr result ((s : ReceiverState) → Stands (kept_of self.old) s → Stands (kept_of self.new) s) }
     {
         keep_object(&mut self.hold, index, flags, exts, brought)?;
