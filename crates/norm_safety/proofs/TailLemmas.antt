@@ -1,25 +1,33 @@
--- Tails are runs, within their bound; and what a tick answers is what its node gave.
-use Rattle.std.proofs.Common.{◌≡◌, ◌≤◌, ℕ, zero, suc, ◌+◌, ◌*◌, ◌++◌, cond, List, [], ◌∷◌, filter, Bool, true, false, not, Option, None, Some, refl, sym, ap, ◌∙◌, arith}
-use Rattle.std.specs.Prelude.{◌==◌, find, fold}
+-- Tails are runs, within their bound; what a tick answers is what its node gave; and which tails are refused.
+use Rattle.std.proofs.Common.{◌≡◌, ◌≤◌, ℕ, zero, suc, ◌+◌, ◌*◌, ◌++◌, ◌||◌, cond, List, [], ◌∷◌, filter, Bool, true, false, not, Option, None, Some, refl, sym, ap, ◌∙◌, arith}
+use Rattle.std.specs.Prelude.{◌==◌, find, fold, is_none, nat_lt}
 use Rattle.std.specs.Fn.{iterate}
 use Rattle.std.specs.Option.{option_map}
 use Rattle.std.proofs.lemmas.Bool.Decides.{Decides-eqb}
+use Rattle.std.proofs.lemmas.Bool.{ltb-false, le-ltb}
 use Rattle.std.proofs.lemmas.List.{map-append}
 use Rattle.norm_base.specs.Settings.{Settings}
 use Rattle.norm_base.specs.Members.{receivers_of}
+use Rattle.norm_base.specs.declared.kinds.Mode.{Mode}
+use Rattle.norm_base.specs.declared.kinds.Mode.TheVariants as mode
 use Rattle.norm_ext.specs.Written.{Written}
 use Rattle.norm_receive_rules.specs.ReceiverState.{ReceiverState}
 use Rattle.norm_receive_rules.specs.ReceiverStep.{receiver_step}
 use Rattle.norm_receive_rules.specs.ReceiverStep as receiver
 use Rattle.norm_receive_rules.specs.Ticking.{ticked as receiver_ticked}
+use Rattle.norm_order.specs.First.{first_where}
+use Rattle.norm_send_rules.specs.Repairable.{streams}
+use Rattle.norm_send_rules.specs.SenderState.{SenderState, Watermark}
 use Rattle.norm_send_rules.specs.SenderStep as sender
 use Rattle.norm_send_rules.specs.Ticking.{ticked}
+use Rattle.norm_send_rules.specs.Watermarks.{oldest}
 use Rattle.norm_safety.specs.Events.{Event, Delivered, Ticked, Offered, UpTaken, NewsAsked, Sent, Silent}
 use Rattle.norm_safety.specs.History.{Happening, happens}
-use Rattle.norm_safety.specs.Tail.{Course, course_from, events_of, comes, untold, tells, untaken, takes, copy_comes, others_than, given_by, passes_on, sender_ticks, receiver_ticks, serves, goes_round, tail_turn, tail_turns, is_open_mark, cut_turn, Tail, turn_more, tail_until, tail_bound, tail_of}
-use Rattle.norm_safety.specs.TailLaws.{IsCourse, TailLaws}
+use Rattle.norm_safety.specs.Tail.{Course, course_from, events_of, comes, untold, tells, untaken, takes, copy_comes, others_than, given_by, passes_on, sender_ticks, receiver_ticks, serves, goes_round, tail_turn, tail_turns, is_open_mark, cut_turn, Tail, turn_more, tail_until, tail_bound, tail_of, TailRefusal, drops, sent_twice, most_counted, tail_fault}
+use Rattle.norm_safety.specs.TailLaws.{IsCourse, IsAccepted, TailLaws}
 use Rattle.norm_safety.specs.World.{World, receiver_at, with_receiver, with_given}
 use Rattle.norm_safety.specs.WorldStep.{node_move, moved, world_step, run_from}
+use Rattle.norm_safety.proofs.EntryLemmas.{clash}
 use Rattle.norm_safety.proofs.WorldLemmas.{world_laws}
 
 -- ---- a course is a run
@@ -219,6 +227,101 @@ tick_given p w node now datagram e = go (node == p.sender) (receiver_at w node) 
         let v : World = with_receiver step.0 w in
         ap (given_by (with_given r.node step.1 v)) (sym (world_laws.found w node r at)) ∙ put_given r.node step.1 v ∙ sent_is step.1 datagram e
 
+-- ---- what is refused
+
+none_first : (b : Bool) (x : TailRefusal) (rows : List (Bool × TailRefusal)) → first_where ((b, x) ∷ rows) ≡ None → (b ≡ false) × (first_where rows ≡ None)
+unfolding first_where
+none_first true x rows e = absurd (some_none e)
+  where
+    some_none : Some x ≡ None → ⊥
+    some_none e = cc
+none_first false x rows e = (refl, e)
+
+first_none : (b : Bool) (x : TailRefusal) (rows : List (Bool × TailRefusal)) → b ≡ false → first_where rows ≡ None → first_where ((b, x) ∷ rows) ≡ None
+unfolding first_where
+first_none true x rows e more = absurd (clash (sym e))
+first_none false x rows e more = more
+
+no_rows : first_where {X = TailRefusal} [] ≡ None
+unfolding first_where
+no_rows = refl
+
+either_false : (a b : Bool) → (a || b) ≡ false → (a ≡ false) × (b ≡ false)
+either_false true b e = absurd (clash (sym e))
+either_false false b e = (refl, e)
+
+both_false : (a b : Bool) → a ≡ false → b ≡ false → (a || b) ≡ false
+both_false true b e f = absurd (clash (sym e))
+both_false false b e f = f
+
+some_oldest : (o : Option Watermark) → is_none o ≡ false → (mark : ℕ) × (option_map (λ (w : Watermark). w.mark) o ≡ Some mark)
+some_oldest None e = absurd (clash (sym e))
+some_oldest (Some w) e = (w.mark, refl)
+
+oldest_some : (o : Option Watermark) (mark : ℕ) → option_map (λ (w : Watermark). w.mark) o ≡ Some mark → is_none o ≡ false
+oldest_some None mark e = absurd (none_some e)
+  where
+    none_some : None ≡ Some mark → ⊥
+    none_some e = cc
+oldest_some (Some w) mark e = refl
+
+dropping : Mode → Bool
+dropping m = elim m [ mode.Hold ↦ false | mode.Drop ↦ true ]
+
+holds_of : (m : Mode) → dropping m ≡ false → m ≡ mode.Hold
+unfolding dropping
+holds_of mode.Hold e = refl
+holds_of mode.Drop e = absurd (clash (sym e))
+
+some_step : (step : ℕ) → (step == 0) ≡ false → 1 ≤ step
+some_step zero e = absurd (clash (sym e))
+some_step (suc n) e = omega arith
+
+no_zero : (step : ℕ) → 1 ≤ step → (step == 0) ≡ false
+no_zero step le = go (step == 0) refl
+  where
+    go : (b : Bool) → (step == 0) ≡ b → b ≡ false
+    go true is = let none = (Decides-eqb step 0).0 is in absurd (omega (arith, le, none))
+    go false is = refl
+
+none_of : (n : ℕ) → n ≤ 0 → n ≡ 0
+none_of n le = omega (arith, le)
+
+accepts : (p : Settings) (s : SenderState) → tail_fault p s ≡ None → IsAccepted p s
+unfolding dropping
+accepts p s e =
+    let request = none_first (is_none (oldest s)) _ _ e in
+    let drop = none_first (drops p) _ _ request.1 in
+    let stream = none_first (nat_lt 0 (streams s)) _ _ drop.1 in
+    let step = none_first (p.step == 0 || nat_lt p.gap p.step) _ _ stream.1 in
+    let pace = none_first (nat_lt p.grtt (sent_twice p s)) _ _ step.1 in
+    let flush = none_first (nat_lt most_counted (s.flushes + 2 * p.k)) _ _ pace.1 in
+    let steps = either_false (p.step == 0) (nat_lt p.gap p.step) step.0 in
+    let asked = some_oldest (oldest s) request.0 in
+    record {
+      mark = asked.0;
+      oldest = asked.1;
+      holds = holds_of p.mode drop.0;
+      streams = none_of (streams s) (ltb-false 0 (streams s) stream.0);
+      paced = record {
+        goes_on = some_step p.step steps.0;
+        often = ltb-false p.gap p.step steps.1;
+        twice = ltb-false p.grtt (sent_twice p s) pace.0;
+        flushes = ltb-false most_counted (s.flushes + 2 * p.k) flush.0;
+      };
+    }
+
+refuses_none : (p : Settings) (s : SenderState) → IsAccepted p s → tail_fault p s ≡ None
+unfolding dropping
+refuses_none p s h =
+    first_none (is_none (oldest s)) _ _ (oldest_some (oldest s) h.mark h.oldest)
+    (first_none (drops p) _ _ (ap dropping h.holds)
+    (first_none (nat_lt 0 (streams s)) _ _ (ap (nat_lt 0) h.streams)
+    (first_none (p.step == 0 || nat_lt p.gap p.step) _ _
+    (both_false (p.step == 0) (nat_lt p.gap p.step) (no_zero p.step h.paced.goes_on) (le-ltb p.gap p.step h.paced.often))
+    (first_none (nat_lt p.grtt (sent_twice p s)) _ _ (le-ltb p.grtt (sent_twice p s) h.paced.twice)
+    (first_none (nat_lt most_counted (s.flushes + 2 * p.k)) _ _ (le-ltb most_counted (s.flushes + 2 * p.k) h.paced.flushes) no_rows)))))
+
 pub tail_laws : TailLaws
 tail_laws = record {
   tail = λ p draws last w mark. until_keeps p draws (IsCourse p w) (comes_in_course p w) (draw_in_course p w) (tail_bound p w.sender) mark
@@ -228,4 +331,5 @@ tail_laws = record {
       (until_within (tail_bound p w.sender) p draws mark (record { turns = 0; last = last; course = course_from w }));
   apart = λ p draws last w mark. until_apart (tail_bound p w.sender) p draws mark last (record { turns = 0; last = last; course = course_from w }) (omega arith);
   given = tick_given;
+  accepted = λ p s. (accepts p s, refuses_none p s);
 }

@@ -33,6 +33,6 @@ pub mod FilesHaveNames
 pub mod HandsBegin
 pub mod LastUpto
 pub mod Tail
-pub mod TailLaws
 pub mod Recovery
+pub mod TailLaws
 pub mod Laws

@@ -158,7 +158,8 @@ pub fn last_upto()
 {}
 
 /// A tail is a run from its world, and so are any of its turns. It has no more turns than its bound, and they are a step apart. What a node's
-/// tick answers is what the node has to pass on.
+/// tick answers is what the node has to pass on. A tail is refused if and only if profile or sender are not as bounded recovery
+/// presupposes.
 #[tactic(auto, using(crate::proofs::TailLemmas::tail_laws))]
 pub fn tails()
     ensures { TailLaws }
