@@ -10,7 +10,9 @@ use Rattle.norm_ext.specs.Written.{Written}
 use Rattle.norm_order.specs.First.{first_where}
 use Rattle.norm_send_rules.specs.SenderState.{SenderState}
 use Rattle.norm_send_rules.specs.Repairable.{repairable, streams}
-use Rattle.norm_send_rules.specs.Watermarks.{is_open, oldest, watermark_of}
+use Rattle.norm_send_rules.specs.Watermarks.{outcome_of, oldest, watermark_of}
+use Rattle.norm_send_rules.specs.declared.news.Outcome.{Outcome}
+use Rattle.norm_send_rules.specs.declared.news.Outcome.TheVariants as outcome
 use Rattle.norm_receive_rules.specs.ReceiverState.{ReceiverState}
 use Rattle.norm_safety.specs.Events.{Event, Delivered, Ticked, Offered, UpTaken, NewsAsked}
 use Rattle.norm_safety.specs.History.{Happening}
@@ -102,9 +104,16 @@ unfoldable pub tail_turns : ℕ → Settings → (ℕ → ℕ) → ℕ → Cours
 tail_turns zero p draws last c = c
 tail_turns (suc n) p draws last c = tail_turns n p draws (last + p.step) (tail_turn p draws (last + p.step) c)
 
+-- an outcome says that its watermark is open
+abbrev pub says_open : Outcome → Bool
+says_open (outcome.Open left) = true
+says_open outcome.Satisfied = false
+says_open (outcome.Expired left) = false
+says_open outcome.Cut = false
+
 -- the watermark with this number is open
 abbrev pub is_open_mark : World → ℕ → Bool
-is_open_mark w mark = option_map_or is_open (watermark_of w.sender mark) false
+is_open_mark w mark = option_map_or says_open (option_map (outcome_of w.sender) (watermark_of w.sender mark)) false
 
 -- A turn is cut after the sender's tick and news if these end the watermark.
 abbrev pub cut_turn : Settings → (ℕ → ℕ) → ℕ → ℕ → Course → Course

@@ -1,0 +1,89 @@
+-- A whole tail.
+use Rattle.std.proofs.Common.{◌≡◌, ℕ, ◌+◌, ◌*◌, List, [], Bool, true, false, Option, None, Some, Result, Ok, Err, refl, sym, ap, ◌∙◌, subst}
+use Rattle.std.specs.Prelude.{IfErr, is_none, option_map}
+use Rattle.std.specs.Int.{div_ceil}
+use Rattle.rand_pcg.specs.Lcg.{Lcg}
+use Rattle.norm_base.specs.Settings.{Settings}
+use Rattle.norm_order.specs.First.{first_where}
+use Rattle.norm_safety.specs.World.{World}
+use Rattle.norm_send_rules.specs.Repairable.{repairable, streams}
+use Rattle.norm_send_rules.specs.SenderState.{SenderState, Watermark}
+use Rattle.norm_send_rules.specs.Watermarks.{oldest}
+use Rattle.norm_tail.specs.Beginning.{refusal_of, refused_by, fault_by}
+use Rattle.norm_tail.specs.Ending.{tail_in, IsTail, BreaksOff, Ends}
+use Rattle.norm_safety.specs.Recovery.{IsOldest}
+use Rattle.norm_tail.specs.SoFar.{Context, At, Stopped}
+use Rattle.norm_tail.specs.Steps.{words_of}
+use Rattle.norm_safety.specs.Tail.{Course, course_from, Tail, TailRefusal, NoRequest, tail_until, tail_bound, tail_fault}
+use Rattle.norm_tail.specs.declared.fault.TailFault.{TailFault}
+use Rattle.norm_tail.specs.declared.fault.TailFault.TheVariants as fault
+use Rattle.norm_tail.specs.declared.step.TailStep.{TailStep}
+use Rattle.norm_tail.proofs.ExtendLemmas.{stopped_later, stopped_here, until_extends}
+use Rattle.norm_world.specs.WorldKept.{WorldKept, StandsFor}
+
+-- ---- want of memory
+
+pub at_memory : {T : Type 0} (P : TailFault → Type 0) (r : Result T TailFault) (why : TailFault) → r ≡ Err why → why ≡ fault.Memory → P fault.Memory → IfErr r P
+at_memory P r why is same h = subst (λ s. IfErr s P) (sym is) (subst P (sym same) h)
+
+pub memory_refuses_none : {T : Type 0} (r : Result T TailFault) (why : TailFault) → r ≡ Err why → why ≡ fault.Memory → refused_by r ≡ None
+memory_refuses_none r why is same = ap refused_by is ∙ ap refusal_of same
+
+-- ---- a tail begins
+
+abbrev pub over : Settings → Lcg → World → Context
+over p g w = record { p = p; world = w; draws = g }
+
+abbrev pub first_tail : ℕ → World → Tail
+first_tail last w = record { turns = 0; last = last; course = course_from w }
+
+pub begins : (p : Settings) (g : Lcg) (w : World) (k : WorldKept) → k.p ≡ p → StandsFor k w → At (over p g w) (course_from w) k [] g
+begins p g w k same stands = record { profile = same; led = refl; stands = stands; answered = refl; drawn = refl }
+
+-- before anything happened
+pub breaks_at_first : (p : Settings) (g : Lcg) (last : ℕ) (k : WorldKept) → k.p ≡ p → BreaksOff p g last k k
+breaks_at_first p g last k same w mark st oldest =
+    stopped_later (over p g w) (course_from w) (tail_in p g last w mark).course k
+    (stopped_here (over p g w) (course_from w) k [] g (begins p g w k same st))
+    (until_extends p (words_of g) (tail_bound p w.sender) mark (first_tail last w))
+
+some_same : {X : Type 0} (x y : X) → Some x ≡ Some y → x ≡ y
+some_same x y e = cc
+
+pub mark_is : (s : SenderState) (m mark : ℕ) → Some m ≡ option_map (λ (w : Watermark). w.mark) (oldest s) → IsOldest s mark → m ≡ mark
+mark_is s m mark is oldest = some_same m mark (is ∙ oldest)
+
+pub bound_is : (p q : Settings) (w : World) (many bound : ℕ) → q ≡ p → many ≡ repairable q w.sender
+    → bound ≡ div_ceil ((many + 1) * (4 * p.k + 10) * p.grtt) p.step → bound ≡ tail_bound p w.sender
+bound_is p q w many bound same counts is =
+    is ∙ ap (λ n. div_ceil ((n + 1) * (4 * p.k + 10) * p.grtt) p.step) (counts ∙ ap (λ (r : Settings). repairable r w.sender) same)
+
+-- no watermark is open
+pub closed_refuses : (p : Settings) (s : SenderState) → is_none (oldest s) ≡ true → Some NoRequest ≡ tail_fault p s
+unfolding first_where
+closed_refuses p s is =
+    sym (ap (λ b. fault_by p b (streams s) (repairable p s) s.flushes) is)
+
+-- ---- it ends
+
+pub made : (p : Settings) (g h : Lcg) (last : ℕ) (w : World) (mark m bound turns : ℕ) (old new : WorldKept) (steps : List TailStep) → old.p ≡ p → StandsFor old w
+    → m ≡ mark → bound ≡ tail_bound p w.sender
+    → ((x : Context) (t : Tail) → t.turns ≡ 0 → t.last ≡ last → At x t.course old [] g → Ends x (tail_until bound x.p (words_of x.draws) m t) turns new steps h)
+    → IsTail p g h last w mark new turns bound steps
+made p g h last w mark m bound turns old new steps same stands mark_is bound_is goes =
+    let x = over p g w in
+    let t = first_tail last w in
+    let e = goes x t refl refl (begins p g w old same stands) in
+    let f = subst (λ n. Ends x (tail_until n p (words_of g) mark t) turns new steps h) bound_is
+    (subst (λ n. Ends x (tail_until bound p (words_of g) n t) turns new steps h) mark_is e) in
+    record { turns = f.count; bound = bound_is; steps = f.here.answered; world = f.here.stands; draws = f.here.drawn }
+
+pub broken : (p : Settings) (g : Lcg) (last : ℕ) (w : World) (mark m bound : ℕ) (old new : WorldKept) → old.p ≡ p → StandsFor old w → m ≡ mark
+    → bound ≡ tail_bound p w.sender
+    → ((x : Context) (t : Tail) → t.turns ≡ 0 → t.last ≡ last → At x t.course old [] g → Stopped x (tail_until bound x.p (words_of x.draws) m t).course new)
+    → Stopped (over p g w) (tail_in p g last w mark).course new
+broken p g last w mark m bound old new same stands mark_is bound_is stops =
+    let x = over p g w in
+    let t = first_tail last w in
+    subst (λ n. Stopped x (tail_until n p (words_of g) mark t).course new) bound_is
+    (subst (λ n. Stopped x (tail_until bound p (words_of g) n t).course new) mark_is (stops x t refl refl (begins p g w old same stands)))

@@ -1,0 +1,4 @@
+pub mod Steps
+pub mod SoFar
+pub mod Beginning
+pub mod Ending

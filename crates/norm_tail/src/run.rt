@@ -1,0 +1,72 @@
+//! A whole tail: [`run_tail`].
+
+ghost use Rattle.std.specs.Prelude.{◌≡◌, ◌≢◌, ◌≤◌, IfOk, IfErr};
+ghost use Rattle.norm_safety.specs.Tail.{tail_fault};
+ghost use Rattle.norm_safety.specs.World.{World as Rules};
+ghost use Rattle.norm_tail.specs.Beginning.{CanTail, refused_by};
+ghost use Rattle.norm_tail.specs.Ending.{MakesTail, BreaksOff};
+ghost use Rattle.norm_tail.specs.declared.fault.TailFault.TheVariants as fault;
+ghost use Rattle.norm_world.specs.WorldKept.{IsReady, StandsFor};
+
+use crate::beginning::{bound_of, hold_range, oldest_mark, refused, symbols};
+use crate::fault::TailFault;
+use crate::step::TailStep;
+use crate::turning::turns_until;
+use norm_base::{Datagram, Moment, Profile};
+use norm_world::World;
+use rand_pcg::Lcg64Xsh32;
+use std::alloc::Global;
+
+/// A tail that was made.
+#[derive(Drop)]
+pub struct TailEnd {
+    /// How many turns it took.
+    pub turns: u64,
+    /// The most turns that it could take.
+    pub bound: u64,
+    /// What was handed up and reported, in the order in which it came.
+    pub steps: Vec<TailStep>,
+}
+
+/// Lets the nodes of a world go on over a network that loses nothing, until the oldest watermark is done. Turns are the profile's step apart, and
+/// the first comes a step after `last`, which no event of the world may pass. Each delivery to a receiver uses one of `draws`.
+///
+/// In a turn the sender ticks. If its datagram ends the watermark, which only an expiry does, the turn ends there. Else a copy comes to each
+/// receiver. Then each receiver in order ticks after its hand-ups were taken, and a copy of its datagram comes to each other member.
+///
+/// # Errors
+///
+/// The first [`TailFault`] that applies, with nothing changed, or `Memory` if memory runs out. Then what happened stays.
+// It takes the allocator, as each call does that makes something in memory: the steps have to last after it.
+pub fn run_tail(
+    alloc: Global,
+    world: &mut World,
+    profile: &Profile,
+    last: Moment,
+    draws: &mut Lcg64Xsh32,
+) -> Result<TailEnd, TailFault>
+    requires profile { world.old.p ≡ profile.now }
+    requires ready { IsReady world.old }
+    requires fits { CanTail profile.now world.old last }
+    ensures profile { world.new.p ≡ world.old.p }
+    ensures ready { IsReady world.new }
+    ensures refused { (w : Rules) → StandsFor world.old w → refused_by result ≡ tail_fault profile.now w.sender }
+    ensures same { IfErr result (λ why. why ≢ fault.Memory → (world.new ≡ world.old) × (draws.new ≡ draws.old)) }
+    ensures course { IfOk result (λ end. MakesTail profile.now draws.old draws.new last world.old world.new end.turns end.bound end.steps.items) }
+    ensures bound { IfOk result (λ end. end.turns ≤ end.bound) }
+    ensures memory { IfErr result (λ why. why ≡ fault.Memory → BreaksOff profile.now draws.old last world.old world.new) }
+{
+    // All tests come before the first allocation: want of memory hides none of these faults.
+    if let Some(fault) = refused(world, profile) {
+        return Err(fault);
+    }
+    let Some(mark) = oldest_mark(world) else {
+        return Err(TailFault::NoRequest);
+    };
+    hold_range(profile);
+    let bound = bound_of(profile, symbols(world));
+    let mut datagram = Datagram::new(alloc)?;
+    let mut steps = Vec::new(alloc);
+    let turns = turns_until(world, profile, &mut steps, draws, mark, last, bound, &mut datagram)?;
+    Ok(TailEnd { turns, bound, steps })
+}
