@@ -135,7 +135,7 @@ fn is_flush_command(rt: &impl Abort, msg: &CommandMsg<'_>) -> bool {
             *head == flush_head(rt)
                 && *object == 0
                 && *id == PayloadId::read([0; 4])
-                && exts.is_empty()
+                && exts.octets().is_empty()
                 && *nodes == [0, 0, 0, 2].as_slice()
         }
         _ => false,

@@ -4,7 +4,7 @@ ghost use Rattle.std.specs.Prelude.{◌<◌};
 
 use fec_plan::PayloadId;
 use norm_base::{Datagram, InstanceId, NodeId};
-use norm_ext::{Extensions, Fti, fti_words, read_fti};
+use norm_ext::{Extensions, Fti, extensions_of, fti_words, read_fti};
 use norm_objmsg::{DataMsg, ObjHead, read_data, write_data};
 use std::process::Abort;
 use std::test::Fail;
@@ -41,11 +41,12 @@ const FTI: Fti = Fti {
 
 #[test]
 fn the_worked_message_is_written(rt: HostRuntime) -> Result<(), Fail> {
-    let exts = fti_words(&FTI);
+    let words = fti_words(&FTI);
+    let exts = extensions_of(&words);
     let msg = DataMsg {
         head: worked_head(&rt),
         id: PayloadId::read([0, 0, 0, 0]),
-        exts: &exts,
+        exts,
         payload: b"hello",
     };
     let mut out = Datagram::new(rt.alloc())?;
@@ -56,11 +57,8 @@ fn the_worked_message_is_written(rt: HostRuntime) -> Result<(), Fail> {
 }
 
 /// Whether extensions have the transmission information of `WORKED`.
-fn is_fti(exts: &[u8]) -> bool {
-    match Extensions::check(exts) {
-        Ok(exts) => read_fti(exts) == Some(FTI),
-        Err(_) => false,
-    }
+fn is_fti(exts: &Extensions<'_>) -> bool {
+    read_fti(exts.iter()) == Some(FTI)
 }
 
 /// Whether octets are read as the message of `WORKED`.
@@ -70,7 +68,7 @@ fn is_worked(rt: &impl Abort, bytes: &[u8]) -> bool {
             msg.head == worked_head(rt)
                 && msg.id == PayloadId::read([0; 4])
                 && msg.payload == b"hello".as_slice()
-                && is_fti(msg.exts)
+                && is_fti(&msg.exts)
         }
         Err(_) => false,
     }
