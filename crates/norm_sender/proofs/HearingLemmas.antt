@@ -4,7 +4,7 @@ use Rattle.std.specs.Prelude.{◌==◌, ◌&&◌}
 use Rattle.std.specs.Option.{option_map}
 use Rattle.norm_base.specs.Settings.{Settings}
 use Rattle.fec_plan.specs.declared.position.Position.{Position}
-use Rattle.norm_ext.specs.Requests.{Request, requests_of}
+use Rattle.norm_ext.specs.Requests.{Request}
 use Rattle.norm_send_rules.specs.SenderState.{SenderState, Watermark}
 use Rattle.norm_send_rules.specs.Watermarks.{counted_anew, oldest, keeps_oldest, settled}
 use Rattle.norm_order.specs.Sets.{with_member}
@@ -81,10 +81,10 @@ opened_as : (p : Settings) (now : ℕ) (s : SenderState) (round : Option Round)
 opened_as p now s None = refl
 opened_as p now s (Some r) = refl
 
-joined_pace : (p : Settings) (s : SenderState) (now : ℕ) (octets : List ℕ) → (length octets ≡ 0 → ⊥)
-    → opened_at p now (pace_of s) ≡ pace_of (joined_round p s now (requests_of octets))
+joined_pace : (p : Settings) (s : SenderState) (now : ℕ) (requests : List Request) → (length requests ≡ 0 → ⊥)
+    → opened_at p now (pace_of s) ≡ pace_of (joined_round p s now requests)
 joined_pace p s now [] some = absurd (some refl)
-joined_pace p s now (x ∷ octets) some = opened_as p now s s.round
+joined_pace p s now (r ∷ requests) some = opened_as p now s s.round
 
 joined_window : (p : Settings) (s : SenderState) (now : ℕ) (requests : List Request) (w : WindowState) → WindowStands w s → WindowStands w (joined_round p s now requests)
 joined_window p s now [] w h = h
@@ -94,17 +94,17 @@ joined_book : (p : Settings) (s : SenderState) (now : ℕ) (requests : List Requ
 joined_book p s now [] b h = h
 joined_book p s now (r ∷ requests) b h = h
 
-pub joined_stands : (k : SenderKept) (union : UnionState) (octets : List ℕ) (now : ℕ) (s : SenderState) → Agrees k s → (length octets ≡ 0 → ⊥)
-    → union.p ≡ k.union.p → UnionStands union (joined_round k.union.p s now (requests_of octets))
-    → Agrees (record k { union = union; pace = opened_at k.p now k.pace }) (joined_round k.p s now (requests_of octets))
-joined_stands k union octets now s h some profile after = record {
+pub joined_stands : (k : SenderKept) (union : UnionState) (requests : List Request) (now : ℕ) (s : SenderState) → Agrees k s → (length requests ≡ 0 → ⊥)
+    → union.p ≡ k.union.p → UnionStands union (joined_round k.union.p s now requests)
+    → Agrees (record k { union = union; pace = opened_at k.p now k.pace }) (joined_round k.p s now requests)
+joined_stands k union requests now s h some profile after = record {
   window_profile = h.window_profile;
   filling = h.filling;
   union_profile = profile ∙ h.union_profile;
-  window = joined_window k.p s now (requests_of octets) k.window h.window;
-  union = subst (λ (q : Settings). UnionStands union (joined_round q s now (requests_of octets))) h.union_profile after;
-  book = joined_book k.p s now (requests_of octets) k.book h.book;
-  pace = ap (opened_at k.p now) h.pace ∙ joined_pace k.p s now octets some;
+  window = joined_window k.p s now requests k.window h.window;
+  union = subst (λ (q : Settings). UnionStands union (joined_round q s now requests)) h.union_profile after;
+  book = joined_book k.p s now requests k.book h.book;
+  pace = ap (opened_at k.p now) h.pace ∙ joined_pace k.p s now requests some;
 }
 
 -- Whom a sender hears.

@@ -3,8 +3,6 @@ use Rattle.std.specs.Prelude.{ℕ}
 use Rattle.norm_base.specs.Settings.{Settings}
 use Rattle.norm_ext.specs.Asking.{item_named}
 use Rattle.norm_ext.specs.Message.{NackMessage, AckMessage, AckContent, Mark, Unread}
-use Rattle.norm_ext.specs.Extensions.{extensions_of}
-use Rattle.norm_ext.specs.Requests.{requests_of}
 use Rattle.norm_fbmsg.specs.View.{content_of}
 use Rattle.norm_send_rules.specs.SenderState.{SenderState}
 use Rattle.norm_send_rules.specs.InWindow.{last_index}
@@ -18,8 +16,8 @@ nack_message m = record {
   sequence = m.sequence;
   sender = m.sender;
   instance = m.instance;
-  extensions = extensions_of m.exts.now;
-  requests = requests_of m.requests.now;
+  extensions = m.exts;
+  requests = m.requests;
 }
 
 abbrev pub ack_message : AckMsg → AckMessage
@@ -30,7 +28,7 @@ ack_message m = record {
   instance = m.instance;
   ack_type = m.ack_type;
   ack_id = m.ack_id;
-  extensions = extensions_of m.exts.now;
+  extensions = m.exts;
   content = content_of m.body;
 }
 

@@ -1,11 +1,9 @@
 //! Hears NACKs of receivers and acknowledgements of members (RFC 5740 sections 5.4 and 5.5.3), in datagrams of any octets.
 
 ghost use Rattle.std.specs.Prelude.{◌≡◌, ◌&&◌, ◌==◌};
-ghost use Rattle.norm_ext.specs.Requests.{IsRequests, requests_of};
 ghost use Rattle.norm_ext.specs.Asking.{item_named};
 ghost use Rattle.std.specs.Prelude.{Ok};
 ghost use Rattle.norm_codec.specs.View.{message_of};
-ghost use Rattle.norm_codec.specs.Whole.{IsWhole};
 ghost use Rattle.norm_ext.specs.declared.refusal.Refusal.{Refusal as Refused};
 ghost use Rattle.norm_sender.specs.Feedback.{nack_message, ack_message, content_heard};
 ghost use Rattle.norm_fbmsg.specs.View.{content_of};
@@ -21,7 +19,7 @@ use crate::parts::{Parts, hold_range};
 use fec_plan::Position;
 use norm_base::{InstanceId, Moment, NodeId};
 use norm_codec::{Message, decode};
-use norm_ext::{Item, index_named, requests_of as requests_in};
+use norm_ext::{Item, Requests, index_named};
 use norm_fbmsg::{AckBody, AckMsg, NackMsg, is_for};
 
 impl Parts {
@@ -68,16 +66,15 @@ impl Parts {
     }
 
     /// Adds the requests of a NACK to the open round, and opens a round if none is open. An empty list changes nothing.
-    fn join_round(&mut self, requests: &[u8], now: Moment)
-        requires { IsRequests requests.now }
+    fn join_round(&mut self, requests: &Requests<'_>, now: Moment)
         ensures profile { self.new.profile ≡ self.old.profile }
-        ensures stands { SenderMoves (kept_of self.old) (kept_of self.new) (λ p s. joined_round p s now (requests_of requests.now)) }
+        ensures stands { SenderMoves (kept_of self.old) (kept_of self.new) (λ p s. joined_round p s now requests.now) }
     {
         // An empty list would open a round that delays the end of a watermark.
         if requests.is_empty() {
             return;
         }
-        self.union.add(requests_in(requests));
+        self.union.add(requests.iter());
         self.open_round(now);
     }
 
@@ -90,7 +87,6 @@ impl Parts {
 
     /// Hears a NACK. Ignores it unless a receiver, struck or not, sent it to this sender and its current instance.
     fn hear_nack(&mut self, msg: &NackMsg<'_>, now: Moment)
-        requires { IsRequests msg.now.requests.now }
         ensures profile { self.new.profile ≡ self.old.profile }
         ensures stands { SenderMoves (kept_of self.old) (kept_of self.new) (λ p s. nack_heard p s now (nack_message msg.now)) }
     {
@@ -101,7 +97,7 @@ impl Parts {
         if !self.is_for(msg.sender, msg.instance) {
             return;
         }
-        self.join_round(msg.requests, now);
+        self.join_round(&msg.requests, now);
     }
 
     /// Hears what an acknowledgement holds. Ignores anything except the position of a flush.
@@ -131,7 +127,6 @@ impl Parts {
 
     /// Hears a message. Ignores every message except NACKs and acknowledgements.
     fn hear(&mut self, msg: &Message<'_>, now: Moment)
-        requires { IsWhole msg.now }
         ensures profile { self.new.profile ≡ self.old.profile }
         ensures stands { SenderMoves (kept_of self.old) (kept_of self.new) (λ p s. message_heard {E = Refused} p s now (Ok (message_of msg.now))) }
     {

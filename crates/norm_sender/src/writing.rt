@@ -12,7 +12,7 @@ use crate::pace::Pace;
 use fec_plan::{PayloadId, Point, Position};
 use norm_base::{Datagram, NodeId, Profile};
 use norm_cmdmsg::{CommandMsg, write_command};
-use norm_ext::{CmdHead, Fti, ObjHead, fti_words, object_id};
+use norm_ext::{CmdHead, Extensions, Fti, ObjHead, extensions_of, fti_words, object_id};
 use norm_objmsg::{DataMsg, InfoMsg, write_data, write_info};
 
 /// How many block numbers fit into a message.
@@ -71,11 +71,12 @@ fn put_info_front(head: &ObjHead, fti: &Fti, out: &mut Datagram)
     requires gsize { head.now.gsize < 16 }
     ensures { out.new ≡ octets_of (Info (record { head = head.now; extensions = fti_extension fti.now ∷ []; info = [] })) }
 {
-    let exts = fti_words(fti);
+    let words = fti_words(fti);
+    let exts = extensions_of(&words);
     write_info(
         &InfoMsg {
             head: *head,
-            exts: &exts,
+            exts,
             info: &[],
         },
         out,
@@ -89,12 +90,13 @@ fn put_data_front(head: &ObjHead, id: &PayloadId, fti: &Fti, out: &mut Datagram)
     requires gsize { head.now.gsize < 16 }
     ensures { out.new ≡ octets_of (Data (record { head = head.now; id = id.now; extensions = fti_extension fti.now ∷ []; payload = [] })) }
 {
-    let exts = fti_words(fti);
+    let words = fti_words(fti);
+    let exts = extensions_of(&words);
     write_data(
         &DataMsg {
             head: *head,
             id: *id,
-            exts: &exts,
+            exts,
             payload: &[],
         },
         out,
@@ -108,12 +110,13 @@ fn put_flush_front(head: &CmdHead, object: u16, id: &PayloadId, out: &mut Datagr
     requires gsize { head.now.gsize < 16 }
     ensures { out.new ≡ octets_of (Flush (record { head = head.now; object = object; id = id.now; extensions = []; nodes = [] })) }
 {
+    let exts = Extensions::none();
     write_command(
         &CommandMsg::Flush {
             head: *head,
             object,
             id: *id,
-            exts: &[],
+            exts,
             nodes: &[],
         },
         out,
@@ -127,12 +130,13 @@ fn put_squelch(head: &CmdHead, object: u16, id: &PayloadId, out: &mut Datagram)
     requires gsize { head.now.gsize < 16 }
     ensures { out.new ≡ octets_of (Squelch (record { head = head.now; object = object; id = id.now; extensions = []; invalid = [] })) }
 {
+    let exts = Extensions::none();
     write_command(
         &CommandMsg::Squelch {
             head: *head,
             object,
             id: *id,
-            exts: &[],
+            exts,
             invalid: &[],
         },
         out,
