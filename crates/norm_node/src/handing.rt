@@ -13,7 +13,7 @@ use crate::run::ReceiverRun;
 use norm_base::{Files, InstanceId, Kind, NodeId, Sink};
 use norm_journal::up_line;
 use norm_order::Up;
-use norm_turns::SessionFault;
+use norm_turns::{SessionFault, up_notice};
 use std::alloc::Global;
 
 /// Puts the file of a hand-up. Does nothing if the hand-up is not a file.
@@ -77,6 +77,7 @@ impl ReceiverRun {
         up_line(&mut self.line, self.node, instance, &up)?;
         put_file(self.alloc, files, self.node, instance, &up)?;
         output.write(self.line.bytes())?;
+        output.note(&up_notice(&up));
         Ok(true)
     }
 

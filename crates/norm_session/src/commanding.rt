@@ -30,7 +30,7 @@ use norm_journal::{Totals, gave_line};
 use norm_order::copy_of_octets;
 use norm_script::{Line, Script, Verb};
 use norm_send_rules::{Job, Receipt, SendFault, copy_of_job};
-use norm_turns::{SessionFault, write_line};
+use norm_turns::{SessionFault, gave_notice, write_line};
 use norm_world::World;
 use std::sync::Wait;
 use std::thread;
@@ -272,8 +272,9 @@ impl Run {
         count(&mut self.totals, &gave)?;
         // Noted and counted before the line is written: after the write nothing can fail, so no printed line lacks its event.
         self.waiting = waits_at(place, &gave);
+        let notice = gave_notice(&gave);
         self.journal.push_job(by, job, gave)?;
-        write_line(has, &self.line, output)
+        write_line(has, &self.line, &notice, output)
     }
 
     /// Offers a command that has its octets with it to the sender as this job, and notes the answer.

@@ -20,7 +20,7 @@ use crate::run::Run;
 use norm_base::{Datagram, InstanceId, NodeId, Sent, Sink};
 use norm_journal::{Totals, up_line};
 use norm_order::Up;
-use norm_turns::{SessionFault, write_line};
+use norm_turns::{SessionFault, up_notice, write_line};
 
 /// Counts a hand-up and adds it to the journal. `Memory` also if a count does not fit 64 bits.
 fn note_up(
@@ -68,8 +68,9 @@ impl Run {
             return Err(SessionFault::Memory);
         };
         up_line(&mut self.line, node, instance, &up)?;
+        let notice = up_notice(&up);
         note_up(&mut self.totals, &mut self.journal, node, instance, up)?;
-        write_line(true, &self.line, output)?;
+        write_line(true, &self.line, &notice, output)?;
         Ok(true)
     }
 

@@ -21,7 +21,7 @@ ghost use Rattle.norm_session.specs.Stopping.{Stopped};
 
 use crate::commanding::{Gives, origin_of, waits_at};
 use crate::run::Run;
-use norm_base::{FileFault, Files, Memory, Moment, Octets, Origin, Profile, Sink, Text};
+use norm_base::{FileFault, Files, Memory, Moment, Notice, Octets, Origin, Profile, Sink, Text};
 use norm_journal::refusal_line;
 use norm_script::Line;
 use norm_send_rules::{Job, Receipt, SendFault};
@@ -348,7 +348,7 @@ impl Run {
         let gave: Gives = Err(fault);
         self.waiting = waits_at(place, &gave);
         self.journal.push_length(by, name, len, fault)?;
-        write_line(has, &self.line, output)
+        write_line(has, &self.line, &Notice::Other, output)
     }
 
     /// Offers the command of a file: asks its length, and reads its octets in pieces if the sender accepts it.

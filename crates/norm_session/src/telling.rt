@@ -18,7 +18,7 @@ use crate::run::Run;
 use norm_base::{Memory, Sink};
 use norm_journal::news_line;
 use norm_send_rules::News;
-use norm_turns::{SessionFault, left_by, write_line};
+use norm_turns::{SessionFault, left_by, news_notice, write_line};
 use producer_gate::Board;
 
 /// Publishes the outcome of a watermark on the board. The board gets no other change. `Memory` also if it has no room.
@@ -76,7 +76,7 @@ impl Run {
         let has = news_line(&mut self.line, instance, &left, &news)?;
         // Nothing but the write can fail once it is published, so that a reader knows of no outcome that the journal lacks.
         publish(board, &news)?;
-        write_line(has, &self.line, output)?;
+        write_line(has, &self.line, &news_notice(&news), output)?;
         Ok(true)
     }
 

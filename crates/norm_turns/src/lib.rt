@@ -6,6 +6,7 @@ mod draws;
 mod fault;
 mod limits;
 mod moments;
+mod noticing;
 mod printing;
 mod telling;
 
@@ -13,5 +14,6 @@ pub use crate::draws::{first_draws, next_draw};
 pub use crate::fault::SessionFault;
 pub use crate::limits::MOST_TAKES;
 pub use crate::moments::moment_of;
+pub use crate::noticing::{gave_notice, news_notice, up_notice};
 pub use crate::printing::{write_end, write_line, write_up};
 pub use crate::telling::{left_by, write_news};

@@ -8,17 +8,23 @@ ghost use Rattle.norm_turns.specs.Causes.{WriteCause};
 ghost use Rattle.norm_turns.specs.Printing.{IsUnwritten};
 
 use crate::fault::SessionFault;
-use norm_base::{InstanceId, NodeId, Sink};
+use crate::noticing::up_notice;
+use norm_base::{InstanceId, NodeId, Notice, Sink};
 use norm_journal::{Totals, end_line, up_line};
 use norm_order::Up;
 use norm_text::Line;
 
-/// Writes the line of an event in one piece. Does nothing if `has` is false: such an event has no line.
+/// Writes the line of an event in one piece, and then tells the sink what it says. Does nothing if `has` is false: such an event has no line.
 ///
 /// # Errors
 ///
 /// `Write` if the write failed. Then a prefix of the line may have been written.
-pub fn write_line<K: Sink>(has: bool, line: &Line, output: &mut K) -> Result<(), SessionFault>
+pub fn write_line<K: Sink>(
+    has: bool,
+    line: &Line,
+    notice: &Notice,
+    output: &mut K,
+) -> Result<(), SessionFault>
     ensures written { OnOk result (K.pieces output.new ≡ gained (K.pieces output.old) (option_to_list (line_if has line.now))) }
     ensures stops { IfErr result (λ fault. IsUnwritten fault (K.pieces output.old) (K.pieces output.new) (line_if has line.now)) }
     ensures why { IfErr result (λ fault. fault ≡ SessionFault.Write) }
@@ -27,7 +33,9 @@ pub fn write_line<K: Sink>(has: bool, line: &Line, output: &mut K) -> Result<(),
     if !has {
         return Ok(());
     }
+    // The write first: a line that was not written counts for nothing.
     output.write(line.bytes())?;
+    output.note(notice);
     Ok(())
 }
 
@@ -50,7 +58,8 @@ pub fn write_up<K: Sink>(
     ensures cause { WriteCause result (K.fault_count output.old) (K.fault_count output.new) }
 {
     up_line(line, node, instance, up)?;
-    write_line(true, line, output)
+    let notice = up_notice(up);
+    write_line(true, line, &notice, output)
 }
 
 /// Writes the summary's line of these counts in one piece. The line is made in the memory of `line`.
@@ -69,5 +78,5 @@ pub fn write_end<K: Sink>(
     ensures cause { WriteCause result (K.fault_count output.old) (K.fault_count output.new) }
 {
     end_line(line, totals)?;
-    write_line(true, line, output)
+    write_line(true, line, &Notice::Other, output)
 }

@@ -11,6 +11,7 @@ ghost use Rattle.norm_turns.specs.Printing.{IsUnwritten};
 ghost use Rattle.norm_turns.specs.Telling.{left_by, left_past};
 
 use crate::fault::SessionFault;
+use crate::noticing::news_notice;
 use crate::printing::write_line;
 use norm_base::{Memory, NodeId, Sink};
 use norm_journal::news_line;
@@ -75,5 +76,6 @@ pub fn write_news<K: Sink>(
     let left = left_by(alloc, sender, news)?;
     let instance = sender.instance();
     let has = news_line(line, instance, &left, news)?;
-    write_line(has, line, output)
+    let notice = news_notice(news);
+    write_line(has, line, &notice, output)
 }

@@ -32,15 +32,16 @@ returns-in_err-write-clause-cause g c network =
 pub returns-clause-goes : goal.returns-clause-goes
 returns-clause-goes g c x o here =
     hands_on x _ c.args.self.now c.take_up.new.self c.in-Some-within.instance c.in-Some.up o (g.K.Sink.pieces c.args.output.now)
-    (g.K.Sink.pieces c.write.new.self) (g.D.Files.contents c.args.files.now) (g.D.Files.contents c.put_file.new.files) c.self.view_is
+    (g.K.Sink.pieces c.note.new.self) (g.D.Files.contents c.args.files.now) (g.D.Files.contents c.put_file.new.files) c.self.view_is
     (record {
       profile = c.in-Some.ensures.profile;
       stands = c.in-Some.ensures.stands;
       within = λ s st. sym c.in-Some-within.is ∙ c.instance-within.ensures s st;
     }) c.in_ok-put_file.ensures.put
-    (c.in_ok-write.ensures.ok ∙ ap (λ l. gained (g.K.Sink.pieces c.args.output.now) (l ∷ [])) (c.bytes.ensures ∙ c.in_ok-up_line.ensures)) here
+    (c.note.ensures.same ∙ c.in_ok-write.ensures.ok
+    ∙ ap (λ l. gained (g.K.Sink.pieces c.args.output.now) (l ∷ [])) (c.bytes.ensures ∙ c.in_ok-up_line.ensures)) here
 
 pub returns-clause-cause : goal.returns-clause-cause
 returns-clause-cause g c network =
-    ap (λ n. counted n network (g.D.Files.fault_count c.put_file.new.files)) c.in_ok-write.ensures.cause.exact
+    ap (λ n. counted n network (g.D.Files.fault_count c.put_file.new.files)) (c.note.ensures.cause ∙ c.in_ok-write.ensures.cause.exact)
     ∙ c.in_ok-put_file.ensures.cause (g.K.Sink.fault_count c.args.output.now) network
