@@ -38,13 +38,13 @@ may_begin p s none = go (is_none (oldest s)) (drops p) (nat_lt 0 (streams s)) (p
 
     go : (a b c d e f : Bool) → is_none (oldest s) ≡ a → (p.step == 0) ≡ d → nat_lt p.grtt (sent_twice p s) ≡ f
         → first_where (
-          (a, NoRequest)
-          ∷ (b, Mode)
-          ∷ (c, Streams (streams s))
-          ∷ (d || e, Step p.step)
-          ∷ (f, Pace (repairable p s))
-          ∷ (nat_lt most_counted (s.flushes + 2 * p.k), Flushes s.flushes)
-          ∷ []
+        (a, NoRequest)
+        ∷ (b, Mode)
+        ∷ (c, Streams (streams s))
+        ∷ (d || e, Step p.step)
+        ∷ (f, Pace (repairable p s))
+        ∷ (nat_lt most_counted (s.flushes + 2 * p.k), Flushes s.flushes)
+        ∷ []
         ) ≡ None → MayBegin p s
     go true b c d e f is zero_is slow none = absurd (clash NoRequest none)
     go false true c d e f is zero_is slow none = absurd (clash Mode none)

@@ -42,14 +42,13 @@ pub tells_extend : (p : Settings) (c : Course) → Extends c (tells p c)
 tells_extend p c = times_extend p NewsAsked (untold c.world.sender) c
 
 module _ (p : Settings) (draws : ℕ → ℕ) where
-
   pub copy_extends : (now : ℕ) (octets : List ℕ) (c : Course) (node : ℕ) → Extends c (copy_comes p draws now octets c node)
   copy_extends now octets c node = go (node == p.sender)
     where
       go : (b : Bool) → Extends c (elim b as (λ _. Course) [
-          | true ↦ tells p (comes p (Delivered node octets now 0) c)
-          | false ↦ comes p (Delivered node octets now (draws c.used)) (record c { used = c.used + 1 })
-        ])
+        | true ↦ tells p (comes p (Delivered node octets now 0) c)
+        | false ↦ comes p (Delivered node octets now (draws c.used)) (record c { used = c.used + 1 })
+      ])
       go true =
           let d : Course = comes p (Delivered node octets now 0) c in
           extends_on c d (tells p d) (comes_extends p (Delivered node octets now 0) c) (tells_extend p d)
@@ -65,9 +64,9 @@ module _ (p : Settings) (draws : ℕ → ℕ) where
   passes_extend now c node = go (given_by c.world node)
     where
       go : (given : Option Written) → Extends c (elim given as (λ _. Course) [
-          | Some d ↦ fold (copy_comes p draws now d.octets) (comes p (Offered node d.octets) c) (others_than p node)
-          | None ↦ c
-        ])
+        | Some d ↦ fold (copy_comes p draws now d.octets) (comes p (Offered node d.octets) c) (others_than p node)
+        | None ↦ c
+      ])
       go None = extends_self c
       go (Some d) =
           let e : Course = comes p (Offered node d.octets) c in

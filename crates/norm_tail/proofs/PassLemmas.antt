@@ -67,17 +67,17 @@ sender_is_node p node is = go (node == p.sender) (is_receiver p node) ((Decides-
 pub copy_to_sender : (p : Settings) (draws : ℕ → ℕ) (now : ℕ) (octets : List ℕ) (c : Course) (node : ℕ) → node ≡ p.sender
     → tells p (comes p (Delivered node octets now 0) c) ≡ copy_comes p draws now octets c node
 copy_to_sender p draws now octets c node is = sym (ap (λ (b : Bool). elim b as (λ _. Course) [
-    | true ↦ tells p (comes p (Delivered node octets now 0) c)
-    | false ↦ comes p (Delivered node octets now (draws c.used)) (record c { used = c.used + 1 })
-  ]) ((Decides-eqb node p.sender).1 is))
+  | true ↦ tells p (comes p (Delivered node octets now 0) c)
+  | false ↦ comes p (Delivered node octets now (draws c.used)) (record c { used = c.used + 1 })
+]) ((Decides-eqb node p.sender).1 is))
 
 -- it comes to a receiver
 pub copy_to_receiver : (p : Settings) (draws : ℕ → ℕ) (now : ℕ) (octets : List ℕ) (c : Course) (node : ℕ) → is_receiver p node ≡ true
     → comes p (Delivered node octets now (draws c.used)) (record c { used = c.used + 1 }) ≡ copy_comes p draws now octets c node
 copy_to_receiver p draws now octets c node is = sym (ap (λ (b : Bool). elim b as (λ _. Course) [
-    | true ↦ tells p (comes p (Delivered node octets now 0) c)
-    | false ↦ comes p (Delivered node octets now (draws c.used)) (record c { used = c.used + 1 })
-  ]) (no_sender p node is))
+  | true ↦ tells p (comes p (Delivered node octets now 0) c)
+  | false ↦ comes p (Delivered node octets now (draws c.used)) (record c { used = c.used + 1 })
+]) (no_sender p node is))
 
 generator_on : (g : Lcg) (n : ℕ) → draws_after (iterate draws_after n g) ≡ iterate draws_after (n + 1) g
 generator_on g n = go n g ∙ ap (λ m. iterate draws_after m g) one
@@ -187,9 +187,9 @@ copied_all x p now octets from place whole k steps g same past t =
 nothing_given : (p : Settings) (draws : ℕ → ℕ) (now : ℕ) (c : Course) (node : ℕ) (given : Option Written) → given_by c.world node ≡ given
     → None ≡ option_map (λ (d : Written). d.octets) given → c ≡ passes_on p draws now c node
 nothing_given p draws now c node None is none = sym (ap (λ (o : Option Written). elim o as (λ _. Course) [
-    | Some d ↦ fold (copy_comes p draws now d.octets) (comes p (Offered node d.octets) c) (others_than p node)
-    | None ↦ c
-  ]) is)
+  | Some d ↦ fold (copy_comes p draws now d.octets) (comes p (Offered node d.octets) c) (others_than p node)
+  | None ↦ c
+]) is)
 nothing_given p draws now c node (Some d) is none = absurd (clash none)
   where
     clash : None ≡ Some d.octets → ⊥

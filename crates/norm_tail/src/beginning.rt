@@ -119,7 +119,13 @@ pub(crate) fn refused(world: &World, profile: &Profile) -> Option<TailFault>
     ensures { (w : Rules) → StandsFor world.now w → option_and_then refusal_of result ≡ tail_fault profile.now w.sender }
 {
     let closed = oldest_mark(world).is_none();
-    first_fault(profile, closed, streams(world), symbols(world), flushes(world))
+    first_fault(
+        profile,
+        closed,
+        streams(world),
+        symbols(world),
+        flushes(world),
+    )
 }
 
 // Proof: a profile's values are within their ranges.

@@ -67,6 +67,19 @@ pub fn run_tail(
     let bound = bound_of(profile, symbols(world));
     let mut datagram = Datagram::new(alloc)?;
     let mut steps = Vec::new(alloc);
-    let turns = turns_until(world, profile, &mut steps, draws, mark, last, bound, &mut datagram)?;
-    Ok(TailEnd { turns, bound, steps })
+    let turns = turns_until(
+        world,
+        profile,
+        &mut steps,
+        draws,
+        mark,
+        last,
+        bound,
+        &mut datagram,
+    )?;
+    Ok(TailEnd {
+        turns,
+        bound,
+        steps,
+    })
 }

@@ -58,7 +58,15 @@ fn serve_all(
         steps.old.items draws.old) }
 {
     for i in 0..u32::from(profile.receivers) {
-        serve(world, profile, steps, draws, receiver(profile, i), now, datagram)?;
+        serve(
+            world,
+            profile,
+            steps,
+            draws,
+            receiver(profile, i),
+            now,
+            datagram,
+        )?;
     }
     Ok(())
 }
@@ -82,7 +90,16 @@ pub(crate) fn go_round(
     ensures stops { OnErr result ((x : Context) (c : Course) → AtSent x c x.p.sender sent datagram.old world.old steps.old.items draws.old
         → Stopped x (goes_round x.p (words_of x.draws) now c) world.new) }
 {
-    pass_on(world, profile, steps, draws, sender_node(profile), sent, datagram, now)?;
+    pass_on(
+        world,
+        profile,
+        steps,
+        draws,
+        sender_node(profile),
+        sent,
+        datagram,
+        now,
+    )?;
     serve_all(world, profile, steps, draws, now, datagram)?;
     Ok(())
 }

@@ -16,7 +16,6 @@ mod handing;
 mod making;
 
 pub use crate::entry::making::{is_stream, plan_by, room_of};
-
 use fec_plan::{PayloadId, Plan};
 use norm_base::{Memory, Octets};
 use norm_ext::Fti;

@@ -2,9 +2,7 @@
 
 use crate::spelled::{filled, octets_of, profile_of};
 use driven_sender::Driven;
-use norm_base::{
-    Datagram, InstanceId, Key, Memory, Moment, NodeId, Octets, Origin, Profile, Sent,
-};
+use norm_base::{Datagram, InstanceId, Key, Memory, Moment, NodeId, Octets, Origin, Profile, Sent};
 use norm_order::Up;
 use norm_receiver::Receiver;
 use norm_send_rules::{Job, Receipt};

@@ -29,7 +29,6 @@ mod growing;
 mod repairable;
 
 pub use crate::entry::front::{close_last, cut_last, may_all_go, write_last};
-
 use fec_plan::{Plan, Position, reached_by};
 use norm_base::{Datagram, Mode, Profile};
 use norm_ext::{Fti, flags};

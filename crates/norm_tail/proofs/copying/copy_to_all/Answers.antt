@@ -15,11 +15,11 @@ loop-i-init c = record {
   ready = c.requires.ready;
   profile = refl;
   copies = λ x d here. record {
-      course = comes x.p (Offered c.args.from c.args.bytes.now) d;
-      here = came x d (Offered c.args.from c.args.bytes.now) (λ answer. answer ≡ Silent) c.args.world.now c.args.world.now c.args.steps.now.items
-          c.args.steps.now.items c.args.draws.now refl c.offered.ensures (λ a fits. sym (append-nil c.args.steps.now.items)) here;
-      whole_is = refl;
-    };
+    course = comes x.p (Offered c.args.from c.args.bytes.now) d;
+    here = came x d (Offered c.args.from c.args.bytes.now) (λ answer. answer ≡ Silent) c.args.world.now c.args.world.now c.args.steps.now.items
+        c.args.steps.now.items c.args.draws.now refl c.offered.ensures (λ a fits. sym (append-nil c.args.steps.now.items)) here;
+    whole_is = refl;
+  };
 }
 
 pub copy_to-requires-clause-member : goal.copy_to-requires-clause-member

@@ -16,14 +16,14 @@ loop-turns-init c =
       within = omega arith;
       fits = subst (λ n. c.args.last + n * c.args.profile.now.step < 18446744073709551616) all c.requires.fits;
       counting = λ x t none last here. record {
-          turning = record {
-            tail = t;
-            here = here;
-            last = last;
-            whole_is = ap (λ n. tail_until n x.p (words_of x.draws) c.args.mark t) (sym all);
-          };
-          count = none;
+        turning = record {
+          tail = t;
+          here = here;
+          last = last;
+          whole_is = ap (λ n. tail_until n x.p (words_of x.draws) c.args.mark t) (sym all);
         };
+        count = none;
+      };
     }
 
 pub returns-then-not-is_open-clause-goes : goal.returns-then-not-is_open-clause-goes
