@@ -1,19 +1,21 @@
-//! Which members are listed past what, and which watermarks are open, by the lines that say so: [`Listing`]. `WatchedSink` drives it.
+//! Which members are listed past what, and which watermarks are open, by what lines say: [`Listing`]. `WatchedSink` drives it.
+
+use norm_base::NodeId;
 
 /// The most members and open watermarks of a session.
 // The key `receivers` goes up to 16, and as many watermarks are open at once. What is beyond is not counted.
 const MOST: usize = 16;
 
 /// Returns a position in the transport order as one number, which rises with it.
-fn place_of(index: u64, block: u64, symbol: u64) -> u64 {
+fn place_of(index: u32, block: u32, symbol: u8) -> u64 {
     // 32 bits of index, 24 of block and 8 of symbol fill 64 bits, in the order that positions have.
-    index.wrapping_shl(32) | block.wrapping_shl(8) | symbol
+    u64::from(index).wrapping_shl(32) | u64::from(block).wrapping_shl(8) | u64::from(symbol)
 }
 
 /// A member or a watermark, and its position. The number is 0 if this slot is free.
 #[derive(Clone, Copy)]
 struct Placed {
-    number: u64,
+    number: u32,
     place: u64,
 }
 
@@ -24,7 +26,7 @@ const NONE: Placed = Placed {
 };
 
 /// The members' listings and the open watermarks. The oldest watermark has the least number. Call a method for each
-/// line of its kind, in the order of the lines.
+/// `Notice` of its kind, in their order.
 #[derive(Drop)]
 pub(crate) struct Listing {
     members: [Placed; MOST],
@@ -32,7 +34,7 @@ pub(crate) struct Listing {
 }
 
 /// Puts the position of this number into its slot, or else into the first free one. Does nothing if there is none.
-fn put(all: &mut [Placed], number: u64, place: u64) {
+fn put(all: &mut [Placed], number: u32, place: u64) {
     let mut free = None;
     for (at, one) in all.iter().enumerate() {
         if one.number == number {
@@ -51,7 +53,7 @@ fn put(all: &mut [Placed], number: u64, place: u64) {
 }
 
 /// Frees the slot of this number.
-fn take_out(all: &mut [Placed], number: u64) {
+fn take_out(all: &mut [Placed], number: u32) {
     for one in all.iter_mut() {
         if one.number == number {
             *one = NONE;
@@ -68,23 +70,27 @@ impl Listing {
         }
     }
 
-    /// Opens a watermark at a position, by the numbers of its line that come after the producer's.
-    pub fn mark(&mut self, mark: u64, index: u64, block: u64, symbol: u64) {
+    /// Opens a watermark at a position.
+    pub fn mark(&mut self, mark: u32, index: u32, block: u32, symbol: u8) {
         put(&mut self.marks, mark, place_of(index, block, symbol));
     }
 
     /// Lists a member past a position.
-    pub fn past(&mut self, node: u64, index: u64, block: u64, symbol: u64) {
-        put(&mut self.members, node, place_of(index, block, symbol));
+    pub fn past(&mut self, node: NodeId, index: u32, block: u32, symbol: u8) {
+        put(
+            &mut self.members,
+            node.number(),
+            place_of(index, block, symbol),
+        );
     }
 
     /// Strikes a member, which is then no longer listed.
-    pub fn strike(&mut self, node: u64) {
-        take_out(&mut self.members, node);
+    pub fn strike(&mut self, node: NodeId) {
+        take_out(&mut self.members, node.number());
     }
 
     /// Closes a watermark that is done.
-    pub fn done(&mut self, mark: u64) {
+    pub fn done(&mut self, mark: u32) {
         take_out(&mut self.marks, mark);
     }
 

@@ -5,7 +5,7 @@ ghost use Rattle.std.specs.Prelude.{None, false};
 
 use norm_base::{
     DATAGRAM_ROOM, Datagram, Fabric, FabricFault, FabricKind, Given, InstanceId, Key, Local,
-    NodeId, Profile, Sink,
+    NodeId, Notice, Profile, Sink,
 };
 use norm_memory::MemSink;
 use norm_udp::{Difference, Misfit, PassesOver, Sizes};
@@ -137,6 +137,22 @@ impl Restarts for Noted<'_> {
     }
 }
 
+/// A `Notice` in plain numbers, since a constant cannot lend one.
+#[derive(Clone, Copy)]
+enum Told {
+    Object(u64),
+    Octets(u64),
+    /// The watermark, and the object whose first symbol it asks for.
+    Mark(u32, u32),
+    /// The member, the object, and the symbol of its block 0.
+    Past(u32, u32, u8),
+    Struck(u32),
+    /// The watermark, and whether it expired.
+    Done(u32, bool),
+    Restarted(u16),
+    Other,
+}
+
 /// A step of a row.
 #[derive(Clone, Copy)]
 enum Step {
@@ -152,6 +168,8 @@ enum Step {
     Offers(&'static [u8]),
     /// The node writes this line to its output.
     Writes(&'static [u8]),
+    /// The node wrote a line that says this.
+    Notes(Told),
     /// The node's turns are spent.
     Spends,
     /// The node is done.
@@ -260,7 +278,7 @@ const ROWS: [Row; 11] = [
         steps: &[
             Step::Takes(REPAIR),
             Step::Offers(SOURCE),
-            Step::Writes(b"up 2 7 0 data 5 - 68656c6c6f\n"),
+            Step::Notes(Told::Object(5)),
             Step::Waits(5),
             Step::Looks,
             Step::Ends,
@@ -277,13 +295,13 @@ const ROWS: [Row; 11] = [
             Step::Waits(5),
             Step::Takes(SOURCE),
             Step::Takes(REPAIR),
-            Step::Writes(b"up 2 7 0 data 5 - 68656c6c6f\n"),
+            Step::Notes(Told::Object(5)),
             Step::Looks,
             Step::Waits(1),
             Step::Looks,
-            Step::Writes(b"up 2 7 1 open\n"),
-            Step::Writes(b"up 2 7 1 bytes 0 3 616263\n"),
-            Step::Writes(b"up 2 7 1 end\n"),
+            Step::Notes(Told::Object(0)),
+            Step::Notes(Told::Octets(3)),
+            Step::Notes(Told::Other),
             Step::Waits(1),
             Step::Looks,
             Step::Ends,
@@ -299,20 +317,20 @@ const ROWS: [Row; 11] = [
         says: PROGRESS,
         steps: &[
             Step::Looks,
-            Step::Writes(b"enq 1 1 7 0 data 256\n"),
-            Step::Writes(b"enq 1 2 7 1 open\n"),
-            Step::Writes(b"enq 1 3 7 1 write 4 0\n"),
-            Step::Writes(b"mark 1 4 7 1 1 0 0\n"),
-            Step::Writes(b"past 2 7 0 0 3\n"),
-            Step::Writes(b"past 3 7 1 0 0\n"),
+            Step::Notes(Told::Object(256)),
+            Step::Notes(Told::Object(0)),
+            Step::Notes(Told::Octets(4)),
+            Step::Notes(Told::Mark(1, 1)),
+            Step::Notes(Told::Past(2, 0, 3)),
+            Step::Notes(Told::Past(3, 1, 0)),
             Step::Offers(SOURCE),
             Step::Offers(REPAIR),
             Step::Waits(1),
             Step::Looks,
-            Step::Writes(b"done 1 satisfied\n"),
+            Step::Notes(Told::Done(1, false)),
             Step::Waits(1),
             Step::Looks,
-            Step::Writes(b"strike 1 5 2\n"),
+            Step::Notes(Told::Struck(2)),
             Step::Waits(1),
             Step::Looks,
             Step::Ends,
@@ -336,20 +354,20 @@ const ROWS: [Row; 11] = [
         ],
         said: "\r\x1b[K0 octets, 0 objects, 0 repairs, 0 receivers past the oldest watermark\r\x1b[Koffer 2 0f\n",
     },
-    // A restart is reported as its line is written, with the instance that it begins, and no other line is.
+    // A restart is reported once its line was written, with the instance that it begins, and no other line is.
     Row {
         fabric: FabricKind::Udp,
         step: 0,
         node: 1,
         says: PROGRESS,
         steps: &[
-            Step::Writes(b"enq 1 1 7 0 data 5\n"),
-            Step::Writes(b"restart 1 2 8\n"),
-            Step::Writes(b"no 1 3 id-used 8\n"),
+            Step::Notes(Told::Object(5)),
+            Step::Notes(Told::Restarted(8)),
+            Step::Notes(Told::Other),
             Step::Looks,
             Step::Waits(1),
             Step::Looks,
-            Step::Writes(b"restart 4 4096 65535\n"),
+            Step::Notes(Told::Restarted(65535)),
             Step::Ends,
         ],
         said: "restarted 8\n\r\x1b[K5 octets, 1 objects, 0 repairs, 0 receivers past the oldest watermark\r\x1b[Krestarted 65535\n",
@@ -466,9 +484,9 @@ const ONCE: [Row; 6] = [
         says: NOTHING,
         steps: &[
             Step::Looks,
-            Step::Writes(b"done 1 satisfied\n"),
+            Step::Notes(Told::Done(1, false)),
             Step::Looks,
-            Step::Writes(b"done 2 expired 2 3\n"),
+            Step::Notes(Told::Done(2, true)),
             Step::Looks,
             Step::Waits(10),
             Step::Looks,
@@ -482,7 +500,7 @@ const ONCE: [Row; 6] = [
         says: NOTHING,
         steps: &[
             Step::Takes(SOURCE),
-            Step::Writes(b"done 1 expired 2\n"),
+            Step::Notes(Told::Done(1, true)),
             Step::Looks,
         ],
         said: "",
@@ -502,6 +520,37 @@ fn profile_of(row: &Row) -> Result<Profile, Fail> {
         given.set(key, value);
     }
     Ok(Profile::of(&given).ok_or("no profile")?)
+}
+
+/// Returns what a line says. `None` if it names a member by a number that is none.
+fn notice_of(told: &Told) -> Option<Notice> {
+    Some(match told {
+        Told::Object(octets) => Notice::Object { octets: *octets },
+        Told::Octets(octets) => Notice::Octets { octets: *octets },
+        Told::Mark(mark, index) => Notice::Mark {
+            mark: *mark,
+            index: *index,
+            block: 0,
+            symbol: 0,
+        },
+        Told::Past(node, index, symbol) => Notice::Past {
+            node: NodeId::of(*node)?,
+            index: *index,
+            block: 0,
+            symbol: *symbol,
+        },
+        Told::Struck(node) => Notice::Struck {
+            node: NodeId::of(*node)?,
+        },
+        Told::Done(mark, has_expired) => Notice::Done {
+            mark: *mark,
+            has_expired: *has_expired,
+        },
+        Told::Restarted(instance) => Notice::Restarted {
+            instance: InstanceId(*instance),
+        },
+        Told::Other => Notice::Other,
+    })
 }
 
 /// A watched node of a row, and the cells by which a row drives it.
@@ -531,12 +580,19 @@ impl Watched<'_> {
         }
     }
 
+    /// Notes what a line says.
+    fn notes(&mut self, told: &Told) {
+        if let Some(notice) = notice_of(told) {
+            self.sink.note(&notice);
+        }
+    }
+
     /// Makes one step.
-    fn does(&mut self, step: Step) -> Result<(), Fail> {
+    fn does(&mut self, step: &Step) -> Result<(), Fail> {
         match step {
             Step::Waits(seconds) => {
                 let now = self.seen.seconds.get();
-                self.seen.seconds.set(now.saturating_add(seconds));
+                self.seen.seconds.set(now.saturating_add(*seconds));
             }
             Step::Looks => {
                 for _ in 0..TAKES {
@@ -544,17 +600,18 @@ impl Watched<'_> {
                 }
             }
             Step::Takes(octets) => {
-                self.next.set(octets);
+                self.next.set(*octets);
                 self.takes()?;
             }
             Step::PassesOver => {
                 self.passed.set(self.passed.get().saturating_add(1));
                 self.takes()?;
             }
-            Step::Offers(octets) => self.offers(octets)?,
+            Step::Offers(octets) => self.offers(*octets)?,
             Step::Writes(line) => {
-                let _ = self.sink.write(line);
+                let _ = self.sink.write(*line);
             }
+            Step::Notes(told) => self.notes(told),
             Step::Spends => self.fabric.say_spent(),
             Step::Ends => end_progress(&self.seen, self.tally),
         }
@@ -588,7 +645,7 @@ fn said_by(alloc: Global, row: &Row) -> Result<String, Fail> {
     let local = NodeId::of(row.node).map_or(Local::Hub, Local::One);
     watched.fabric.start(&profile_of(row)?, local)?;
     for step in row.steps {
-        watched.does(*step)?;
+        watched.does(step)?;
     }
     drop(watched);
     Ok(seen.said.into_inner())
