@@ -13,6 +13,7 @@ pub mod TurningLemmas
 pub mod TurnsLemmas
 pub mod SessionLemmas
 mod TurnedLemmas
+mod PausingLemmas
 pub mod TellingLemmas
 pub mod HandingLemmas
 pub mod ServingLemmas

@@ -1,10 +1,12 @@
 -- All turns, one after the other.
 use Rattle.std.proofs.Common.{◌≡◌, ℕ, ◌+◌, ◌≤◌, List, [], ◌∷◌, ◌++◌, Bool, true, false, refl, sym, ap, ◌∙◌, subst, append_assoc, arith}
-use Rattle.std.specs.Prelude.{◌==◌, ◌&&◌, ◌||◌, nat_le, Option}
+use Rattle.std.specs.Prelude.{◌==◌, ◌&&◌, ◌||◌, min, nat_le, Option}
 use Rattle.std.proofs.lemmas.Bool.{le-leb}
 use Rattle.std.proofs.lemmas.Bool.Decides.{Decides-eqb}
 use Rattle.std.proofs.lemmas.List.{append-nil}
+use Rattle.norm_base.specs.Network.{Network}
 use Rattle.norm_base.specs.Settings.{Settings}
+use Rattle.norm_base.specs.Told.{Pieces}
 use Rattle.norm_safety.specs.World.{World}
 use Rattle.norm_script.specs.Commands.{Commands}
 use Rattle.norm_journal.specs.Jobs.{Told}
@@ -105,18 +107,57 @@ turns_stop script files start k o p many done fault so tells more net out clock 
       ),
 )
 
+-- ---- the last turn
+
+-- a run in which none was made before has this number of turns, and its profile's bound
+turn_is : (script : Commands) (files : Told) (start k : RunKept) (o : Span) (many : ℕ) (so : HasTurned script files start k o many) (x : Context)
+    → IsOver x script files → x.moments ≡ [] → At (with_posted x o.unposted) start Between o.before o.unwritten → k.turn ≡ many
+turn_is script files start k o many so x over none here =
+    turns_so_far (with_moments (with_posted x o.posted) so.moments) k o.after o.written (so.goes x over here).1
+    ∙ ap (λ ms. count_of (ms ++ so.moments)) none ∙ so.count
+
+bound_is : (x y : Context) (script : Commands) (files : Told) (k : RunKept) (network : Network) (written : Pieces) → IsOver x script files → y.script ≡ x.script
+    → At y k Between network written → script.profile.turns ≡ k.p.turns
+bound_is x y script files k network written over same here =
+    ap (λ (c : Commands). c.profile.turns) (sym (same ∙ over.script)) ∙ ap (λ (p : Settings). p.turns) (sym here.so_far.all.script)
+
+-- where a run is whole or at its profile's last turn, and no further than this turn, it is whole or at this one
+done_by : (whole : Bool) (turn until most : ℕ) → turn ≤ min until most → (nat_le 1 turn && (whole || turn == most)) ≡ true
+    → (nat_le 1 turn && (whole || turn == min until most)) ≡ true
+done_by whole turn until most within = both (nat_le 1 turn) whole (turn == most) last
+  where
+    last : (turn == most) ≡ true → (turn == min until most) ≡ true
+    last is =
+        let same : turn ≡ most = (Decides-eqb turn most).0 is in
+        let least : turn ≡ min until most = omega (arith, same, within) in
+        (Decides-eqb turn (min until most)).1 least
+
+    both : (a b c : Bool) → (c ≡ true → (turn == min until most) ≡ true) → (a && (b || c)) ≡ true → (a && (b || turn == min until most)) ≡ true
+    both true true c f is = refl
+    both true false c f is = f is
+    both false b c f is = absurd (cc)
+
 -- the last was done
-pub turns_done : (script : Commands) (files : Told) (start k : RunKept) (o : Span) (many : ℕ) (done : Bool) → HasTurned script files start k o many
-    → Tells script k done → done ≡ true → TakesTurns script files start k o
-turns_done script files start k o many done so tells is = (
+pub turns_done : (script : Commands) (files : Told) (until : ℕ) (start k : RunKept) (o : Span) (many : ℕ) (done : Bool) → HasTurned script files start k o many
+    → many ≤ min until script.profile.turns → Tells script k done → done ≡ true → TakesTurns script files until start k o
+turns_done script files until start k o many done so within tells is = (
   so.moments,
   λ x over none here.
       let s = so.goes x over here in
       let y = with_moments (with_posted x o.posted) so.moments in
-      (s.0, record { here = s.1; done = sym (tells y s.1.world Between s.1.so_far.all over.script s.1.so_far.stands) ∙ is }),
+      let turned = turn_is script files start k o many so x over none here in
+      let most = bound_is x y script files k o.after o.written over refl s.1 in (
+        s.0,
+        record {
+          here = s.1;
+          done = done_by (is_whole (judged_of y k s.1.world Between)) k.turn until k.p.turns
+              (subst (λ n. k.turn ≤ min until n) most (subst (λ n. n ≤ min until script.profile.turns) (sym turned) within))
+              (sym (tells y s.1.world Between s.1.so_far.all over.script s.1.so_far.stands) ∙ is);
+        },
+      ),
 )
 
--- the profile's turns were made
+-- as many were made as there may be
 spent : (whole : Bool) (turn most : ℕ) → 1 ≤ turn → turn ≡ most → (nat_le 1 turn && (whole || turn == most)) ≡ true
 spent whole turn most least is = both (nat_le 1 turn) whole (turn == most) (le-leb 1 turn least) ((Decides-eqb turn most).1 is)
   where
@@ -125,21 +166,20 @@ spent whole turn most least is = both (nat_le 1 turn) whole (turn == most) (le-l
     both true false c _ is = is
     both false b c a _ = absurd (cc)
 
-pub turns_spent : (script : Commands) (files : Told) (start k : RunKept) (o : Span) (many : ℕ) → HasTurned script files start k o many
-    → many ≡ script.profile.turns → 1 ≤ script.profile.turns → TakesTurns script files start k o
-turns_spent script files start k o many so all least = (
+pub turns_spent : (script : Commands) (files : Told) (until : ℕ) (start k : RunKept) (o : Span) (many : ℕ) → HasTurned script files start k o many
+    → many ≡ min until script.profile.turns → 1 ≤ min until script.profile.turns → TakesTurns script files until start k o
+turns_spent script files until start k o many so all least = (
   so.moments,
   λ x over none here.
       let s = so.goes x over here in
       let y = with_moments (with_posted x o.posted) so.moments in
-      let turned : k.turn ≡ script.profile.turns =
-      turns_so_far y k o.after o.written s.1 ∙ ap (λ ms. count_of (ms ++ so.moments)) none ∙ so.count ∙ all in
-      let most : script.profile.turns ≡ k.p.turns =
-      ap (λ (c : Commands). c.profile.turns) (sym over.script) ∙ ap (λ (p : Settings). p.turns) (sym s.1.so_far.all.script) in (
+      let turned = turn_is script files start k o many so x over none here ∙ all in
+      let most = bound_is x y script files k o.after o.written over refl s.1 in (
         s.0,
         record {
           here = s.1;
-          done = spent (is_whole (judged_of y k s.1.world Between)) k.turn k.p.turns (subst (λ n. 1 ≤ n) (sym turned) least) (turned ∙ most);
+          done = spent (is_whole (judged_of y k s.1.world Between)) k.turn (min until k.p.turns) (subst (λ n. 1 ≤ n) (sym turned) least)
+              (turned ∙ ap (min until) most);
         },
       ),
 )

@@ -23,10 +23,10 @@ Finishes script files old new whole o = (moments : List ℕ) × ((x : Context) �
     → At (with_posted x o.unposted) old Between o.before o.unwritten
     → FollowMoments x o.unasked o.asked moments × HasEnded (with_moments (with_posted x o.posted) moments) new whole o.after o.written)
 
--- A script was run up to the end of its last turn: the network was started, a run began over it, and all its turns were made.
-pub record TurnedScript (alone : Bool) (script : Commands) (files : Told) (k : RunKept) (o : Span) : Type 0 where
+-- A script was run up to this turn: the network was started, a run began over it, and all its turns up to there were made.
+pub record TurnedScript (alone : Bool) (script : Commands) (files : Told) (until : ℕ) (k : RunKept) (o : Span) : Type 0 where
   pub started : Network
   pub starts : Starts o.before started script.profile (local_of alone script.profile)
   pub begun : RunKept
   pub begins : (x : Context) → IsBegun x script alone started → At x begun Between started x.written
-  pub turns : TakesTurns script files begun k (span started o.after o.unwritten o.written o.unasked o.asked o.unposted o.posted)
+  pub turns : TakesTurns script files until begun k (span started o.after o.unwritten o.written o.unasked o.asked o.unposted o.posted)

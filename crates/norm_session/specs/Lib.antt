@@ -13,6 +13,7 @@ pub mod Moments
 pub mod Turning
 pub mod Finishing
 pub mod Session
+pub mod Pausing
 pub mod Telling
 pub mod Handing
 pub mod Laws

@@ -1,10 +1,10 @@
 -- A turn of a run, and all its turns.
-use Rattle.std.specs.Prelude.{◌≡◌, ℕ, List, [], ◌∷◌, Option, slice_get, option_and_then, true, false}
+use Rattle.std.specs.Prelude.{◌≡◌, ℕ, ◌==◌, ◌&&◌, ◌||◌, List, [], ◌∷◌, Bool, Option, min, nat_le, slice_get, option_and_then, true, false}
 use Rattle.norm_base.specs.Network.{Network}
 use Rattle.norm_base.specs.Told.{Pieces}
 use Rattle.norm_script.specs.Commands.{Commands}
 use Rattle.norm_journal.specs.Jobs.{Told}
-use Rattle.norm_journal.specs.Judged.{is_done}
+use Rattle.norm_journal.specs.Judged.{Judged, is_done, is_whole}
 use Rattle.norm_journal.specs.Places.{Place, Sending, Between, command_due}
 use Rattle.norm_session.specs.Context.{Context, judged_of, with_moments, with_posted}
 use Rattle.norm_session.specs.Left.{lines_at}
@@ -96,10 +96,21 @@ pub record AtLast (x : Context) (k : RunKept) (network : Network) (written : Pie
   pub here : At x k Between network written
   pub done : is_done (judged_of x k here.world Between) ≡ true
 
--- All turns are made of a run in which none was.
-abbrev pub TakesTurns : Commands → Told → (old new : RunKept) → Span → Type 0
-TakesTurns script files old new o = (moments : List ℕ) × ((x : Context) → IsOver x script files → x.moments ≡ [] → At (with_posted x o.unposted) old Between o.before o.unwritten
-    → FollowMoments x o.unasked o.asked moments × AtLast (with_moments (with_posted x o.posted) moments) new o.after o.written)
+-- The last turn was done of a run that goes no further than this turn: the first at which the run is whole, or the lesser of this one and
+-- the profile's last.
+abbrev pub is_done_by : ℕ → Judged → Bool
+is_done_by until j = nat_le 1 j.turn && (is_whole j || j.turn == min until j.profile.turns)
+
+-- such a run, at the end of its last turn
+pub record AtTurn (until : ℕ) (x : Context) (k : RunKept) (network : Network) (written : Pieces) : Type 0 where
+  pub here : At x k Between network written
+  pub done : is_done_by until (judged_of x k here.world Between) ≡ true
+
+-- All turns up to this one are made of a run in which none was.
+abbrev pub TakesTurns : Commands → Told → ℕ → (old new : RunKept) → Span → Type 0
+TakesTurns script files until old new o = (moments : List ℕ) × ((x : Context) → IsOver x script files → x.moments ≡ []
+    → At (with_posted x o.unposted) old Between o.before o.unwritten
+    → FollowMoments x o.unasked o.asked moments × AtTurn until (with_moments (with_posted x o.posted) moments) new o.after o.written)
 
 -- A fault stops a run in one of its turns, or behind them.
 abbrev pub StopsTurns : Commands → Told → RunKept → SessionFault → Span → Type 0

@@ -1,6 +1,6 @@
 //! A session (RFC 5740 section 5): the nodes of a script's profile, turn by turn over a network. `norm_program` calls [`run_session`] for all
-//! members and [`run_send`] for a sender whose receivers are elsewhere. [`Run`] is the same step by step. The judge of journals
-//! (`norm_journal`) accepts each event of it.
+//! members and [`run_send`] for a sender whose receivers are elsewhere. [`run_until`] stops between two turns, for a caller that goes on with the
+//! nodes. [`Run`] is the same step by step. The judge of journals (`norm_journal`) accepts each event of it.
 #![tactic(auto)]
 
 mod arrivals;
@@ -12,6 +12,7 @@ pub mod laws;
 mod left;
 mod noting;
 mod parts;
+mod pausing;
 mod producing;
 mod reading;
 mod run;
@@ -25,6 +26,7 @@ mod turning;
 
 pub use crate::arrivals::{Arrivals, Arrived};
 pub use crate::parts::Parts;
+pub use crate::pausing::{Paused, run_until};
 pub use crate::run::Run;
 pub use crate::session::{Ended, run_send, run_session};
 pub use norm_record::Journal;

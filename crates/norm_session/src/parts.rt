@@ -1,6 +1,7 @@
 //! A run, taken apart: what it has made so far. [`run_session`](crate::run_session) returns its journal this way.
 
 ghost use Rattle.std.specs.Prelude.{◌≡◌};
+ghost use Rattle.norm_world.specs.WorldKept.{IsReady};
 
 use crate::run::Run;
 use norm_base::Moment;
@@ -35,6 +36,7 @@ impl Run {
         ensures now { result.now ≡ self.now }
         ensures waiting { result.waiting ≡ self.waiting }
         ensures world { result.world ≡ self.world }
+        ensures ready { IsReady result.world }
     {
         Parts {
             journal: self.journal.into_journal(),

@@ -3,12 +3,14 @@
 ghost use Rattle.std.specs.Prelude.{◌≡◌, ◌≤◌, All, IfErr, IfOk, length, max};
 ghost use Rattle.norm_turns.specs.Causes.{HasCause, counted};
 ghost use Rattle.norm_script.specs.Scripts.{CanRun};
-ghost use Rattle.norm_session.specs.Session.{RunsKept, StopsScript};
+ghost use Rattle.norm_session.specs.Finishing.{TurnedScript};
+ghost use Rattle.norm_session.specs.Session.{StopsScript};
 ghost use Rattle.norm_session.specs.Turning.{span};
 
 use crate::arrivals::{Arrivals, Arrived};
 use crate::beside::{Lent, Work, take_back};
-use crate::session::{Made, run_script};
+use crate::run::Run;
+use crate::session::run_turns;
 use norm_base::{Clock, Fabric, Files, Memory, Sink};
 use norm_script::{Line, Script};
 use norm_turns::SessionFault;
@@ -169,12 +171,14 @@ fn ring_for(alloc: Global, script: &Script) -> Result<(Gate, Vec<Seat>, PullSeat
     Gate::new(alloc, u32::from(script.profile.producers), places)
 }
 
-/// Runs a script whose lines come out of the ring, in this thread. Waits for each line: for ever if no producer submits it.
+/// Runs a script up to turn `until` at the latest, in this thread. Its lines come out of the ring: waits for each, for ever if no producer submits
+/// it.
 fn run_pulled<R: Wait, K: Sink, F: Fabric, D: Files, C: Clock>(
     rt: &R,
     alloc: Global,
     script: &Script,
     alone: bool,
+    until: u32,
     ring: &Gate,
     pull: &mut PullSeat,
     board: &mut Board,
@@ -182,10 +186,11 @@ fn run_pulled<R: Wait, K: Sink, F: Fabric, D: Files, C: Clock>(
     fabric: &mut F,
     files: &mut D,
     clock: &mut C,
-) -> Result<Made, SessionFault>
+) -> Result<Run, SessionFault>
     requires script { CanRun script.now }
+    requires turn { 1 ≤ until }
     requires own { pull.old.gate ≡ ring.now.id }
-    ensures run { IfOk result (λ made. RunsKept alone script.now (D.contents files.old) made.journal made.whole
+    ensures goes { IfOk result (λ run. TurnedScript alone script.now (D.contents files.old) until run
         (span (F.told fabric.old) (F.told fabric.new) (K.pieces output.old) (K.pieces output.new) (C.moments clock.old) (C.moments clock.new) board.old board.new)) }
     ensures stops { IfErr result (λ fault. StopsScript alone fault script.now (D.contents files.old)
         (span (F.told fabric.old) (F.told fabric.new) (K.pieces output.old) (K.pieces output.new) (C.moments clock.old) (C.moments clock.new) board.old board.new)) }
@@ -194,11 +199,12 @@ fn run_pulled<R: Wait, K: Sink, F: Fabric, D: Files, C: Clock>(
         (counted (K.fault_count output.new) (F.fault_count fabric.new) (D.fault_count files.new)) }
 {
     let mut arrivals = Pulled { rt, ring, pull };
-    run_script(
+    run_turns(
         rt,
         alloc,
         script,
         alone,
+        until,
         &mut arrivals,
         board,
         output,
@@ -208,7 +214,8 @@ fn run_pulled<R: Wait, K: Sink, F: Fabric, D: Files, C: Clock>(
     )
 }
 
-/// Runs a script, with its sender alone or with all members. Its producers submit in threads of their own, and one loop pulls.
+/// Runs a script up to turn `until` at the latest, with its sender alone or with all members. Its producers submit in threads of their own, and
+/// one loop pulls.
 pub(crate) fn run_produced<
     R: Threads + Wait + Sync,
     K: Sink,
@@ -221,15 +228,17 @@ pub(crate) fn run_produced<
     alloc: Global,
     script: &Script,
     alone: bool,
+    until: u32,
     gate: &G,
     board: &mut Board,
     output: &mut K,
     fabric: &mut F,
     files: &mut D,
     clock: &mut C,
-) -> Result<Made, SessionFault>
-    requires { CanRun script.now }
-    ensures run { IfOk result (λ made. RunsKept alone script.now (D.contents files.old) made.journal made.whole
+) -> Result<Run, SessionFault>
+    requires script { CanRun script.now }
+    requires turn { 1 ≤ until }
+    ensures goes { IfOk result (λ run. TurnedScript alone script.now (D.contents files.old) until run
         (span (F.told fabric.old) (F.told fabric.new) (K.pieces output.old) (K.pieces output.new) (C.moments clock.old) (C.moments clock.new) board.old board.new)) }
     ensures stops { IfErr result (λ fault. StopsScript alone fault script.now (D.contents files.old)
         (span (F.told fabric.old) (F.told fabric.new) (K.pieces output.old) (K.pieces output.new) (C.moments clock.old) (C.moments clock.new) board.old board.new)) }
@@ -248,7 +257,8 @@ pub(crate) fn run_produced<
         list,
         &mut || {
             run_pulled(
-                rt, alloc, script, alone, shared, &mut pull, board, output, fabric, files, clock,
+                rt, alloc, script, alone, until, shared, &mut pull, board, output, fabric, files,
+                clock,
             )
         },
     )

@@ -1,6 +1,6 @@
 //! A whole session (RFC 5740 section 5): [`run_session`] for all members, [`run_send`] for the sender alone. `norm_program` calls both.
 
-ghost use Rattle.std.specs.Prelude.{◌≡◌, List, Ok, Err, IfOk, IfErr};
+ghost use Rattle.std.specs.Prelude.{◌≡◌, ◌≤◌, List, Ok, Err, IfOk, IfErr};
 ghost use Rattle.norm_journal.specs.declared.event.Event.{Event};
 ghost use Rattle.norm_base.specs.Network.{Network};
 ghost use Rattle.norm_turns.specs.Causes.{HasCause, WriteCause, counted};
@@ -14,6 +14,7 @@ ghost use Rattle.norm_session.specs.Turning.{AtLast, span};
 use crate::arrivals::Arrivals;
 use crate::producing::run_produced;
 use crate::run::Run;
+use crate::turning::turns_of;
 use norm_base::{Clock, Datagram, Fabric, Files, Sink};
 use norm_record::Journal;
 use norm_script::Script;
@@ -32,9 +33,9 @@ pub struct Ended {
 
 /// How a run of a script ended: its journal if it was kept, and whether everything was done.
 #[derive(Drop)]
-pub(crate) struct Made {
-    pub(crate) journal: Option<Journal>,
-    pub(crate) whole: bool,
+struct Made {
+    journal: Option<Journal>,
+    whole: bool,
 }
 
 /// Runs a script's session, turn by turn. It ends when all commands were pulled, none waits, no watermark is open and the sender is idle, or
@@ -73,7 +74,7 @@ pub fn run_session<
     ensures cause { HasCause result (counted (K.fault_count output.old) (F.fault_count fabric.old) (D.fault_count files.old))
         (counted (K.fault_count output.new) (F.fault_count fabric.new) (D.fault_count files.new)) }
 {
-    match run_produced(
+    match run_script(
         rt, alloc, script, false, gate, board, output, fabric, files, clock,
     ) {
         Ok(Made { journal, whole }) => Ok(Ended {
@@ -123,7 +124,7 @@ pub fn run_send<
     ensures cause { HasCause result (counted (K.fault_count output.old) (F.fault_count fabric.old) (D.fault_count files.old))
         (counted (K.fault_count output.new) (F.fault_count fabric.new) (D.fault_count files.new)) }
 {
-    match run_produced(
+    match run_script(
         rt, alloc, script, true, gate, board, output, fabric, files, clock,
     ) {
         Ok(made) => Ok(made.whole),
@@ -131,12 +132,13 @@ pub fn run_send<
     }
 }
 
-/// Runs a script to the end of its last turn, with its sender alone or with all members, over what its producers hand over.
-fn run_turns<R: Wait, A: Arrivals, K: Sink, F: Fabric, D: Files, C: Clock>(
+/// Runs a script up to turn `until` at the latest, with its sender alone or with all members, over what its producers hand over.
+pub(crate) fn run_turns<R: Wait, A: Arrivals, K: Sink, F: Fabric, D: Files, C: Clock>(
     rt: &R,
     alloc: Global,
     script: &Script,
     alone: bool,
+    until: u32,
     arrivals: &mut A,
     board: &mut Board,
     output: &mut K,
@@ -144,8 +146,9 @@ fn run_turns<R: Wait, A: Arrivals, K: Sink, F: Fabric, D: Files, C: Clock>(
     files: &mut D,
     clock: &mut C,
 ) -> Result<Run, SessionFault>
-    requires { CanRun script.now }
-    ensures goes { IfOk result (λ run. TurnedScript alone script.now (D.contents files.old) run
+    requires script { CanRun script.now }
+    requires turn { 1 ≤ until }
+    ensures goes { IfOk result (λ run. TurnedScript alone script.now (D.contents files.old) until run
         (span (F.told fabric.old) (F.told fabric.new) (K.pieces output.old) (K.pieces output.new) (C.moments clock.old) (C.moments clock.new) board.old board.new)) }
     ensures stops { IfErr result (λ fault. StopsScript alone fault script.now (D.contents files.old)
         (span (F.told fabric.old) (F.told fabric.new) (K.pieces output.old) (K.pieces output.new) (C.moments clock.old) (C.moments clock.new) board.old board.new)) }
@@ -159,6 +162,7 @@ fn run_turns<R: Wait, A: Arrivals, K: Sink, F: Fabric, D: Files, C: Clock>(
     let turned = run.turns(
         rt,
         script,
+        until,
         arrivals,
         board,
         output,
@@ -170,13 +174,20 @@ fn run_turns<R: Wait, A: Arrivals, K: Sink, F: Fabric, D: Files, C: Clock>(
     turned.and(Ok(run))
 }
 
-/// Runs a script, with its sender alone or with all members, over what its producers hand over: its turns, and then the summary.
-pub(crate) fn run_script<R: Wait, A: Arrivals, K: Sink, F: Fabric, D: Files, C: Clock>(
+/// Runs a script, with its sender alone or with all members: its turns, and then the summary.
+fn run_script<
+    R: Threads + Wait + Sync,
+    K: Sink,
+    F: Fabric,
+    D: Files,
+    C: Clock,
+    G: Turnstile + Sync,
+>(
     rt: &R,
     alloc: Global,
     script: &Script,
     alone: bool,
-    arrivals: &mut A,
+    gate: &G,
     board: &mut Board,
     output: &mut K,
     fabric: &mut F,
@@ -192,8 +203,9 @@ pub(crate) fn run_script<R: Wait, A: Arrivals, K: Sink, F: Fabric, D: Files, C: 
     ensures cause { HasCause result (counted (K.fault_count output.old) (F.fault_count fabric.old) (D.fault_count files.old))
         (counted (K.fault_count output.new) (F.fault_count fabric.new) (D.fault_count files.new)) }
 {
-    let mut run = run_turns(
-        rt, alloc, script, alone, arrivals, board, output, fabric, files, clock,
+    let turns = turns_of(&script.profile);
+    let mut run = run_produced(
+        rt, alloc, script, alone, turns, gate, board, output, fabric, files, clock,
     )?;
     // Proof: no `?` here, since an exit that drops a run is dear.
     let whole = run.finish(script, output);

@@ -1,6 +1,6 @@
 //! The turns of a run. [`Run::turns`] does all of them, and a caller that drives a run itself asks [`Run::is_done`] after each turn.
 
-ghost use Rattle.std.specs.Prelude.{◌≡◌, ◌≤◌, ℕ, ◌==◌, ◌&&◌, ◌||◌, length, nat_le, is_none, slice_get, option_and_then, OnOk, IfErr};
+ghost use Rattle.std.specs.Prelude.{◌≡◌, ◌≤◌, ℕ, ◌==◌, ◌&&◌, ◌||◌, not, length, min, nat_le, is_none, slice_get, option_and_then, OnOk, IfErr};
 ghost use Rattle.norm_journal.specs.Judged.{is_done, is_whole};
 ghost use Rattle.norm_journal.specs.Places.{Place, Sending, Taking, Between};
 ghost use Rattle.norm_safety.specs.World.{World as Rules};
@@ -23,11 +23,26 @@ use producer_gate::Board;
 use std::sync::Wait;
 
 /// The number of the profile's last turn, counted from 1.
-fn last_turn(profile: &Profile) -> u32
+pub(crate) fn turns_of(profile: &Profile) -> u32
     ensures value { result ≡ profile.now.turns }
     ensures least { 1 ≤ result }
 {
     profile.turns
+}
+
+/// The last turn of a run that goes no further than turn `until`.
+fn last_turn(profile: &Profile, until: u32) -> u32
+    requires { 1 ≤ until }
+    ensures value { result ≡ min until profile.now.turns }
+    ensures least { 1 ≤ result }
+{
+    until.min(turns_of(profile))
+}
+
+fn not_both(first: bool, second: bool) -> bool
+    ensures { result ≡ not (first && second) }
+{
+    !(first && second)
 }
 
 fn all_three(first: bool, second: bool, third: bool) -> bool
@@ -59,6 +74,16 @@ impl Run {
             Some(place) => script.lines.get(place).is_none(),
             None => true,
         }
+    }
+
+    /// Whether a command was not pulled yet, or waits.
+    pub(crate) fn has_commands(&self, script: &Script) -> bool
+        ensures { result ≡ not (length (lines_at script.now.lines self.entry.now.left) == 0
+            && is_none (option_and_then (slice_get script.now.lines) self.entry.now.waiting)) }
+    {
+        let pulled = self.has_pulled_all(script);
+        let none = self.has_none_waiting(script);
+        not_both(pulled, none)
     }
 
     /// Whether no watermark is open and the sender is idle.
@@ -234,16 +259,17 @@ impl Run {
         Ok(())
     }
 
-    /// Does all turns, up to the first after which the run is whole, or the profile's last.
+    /// Does all turns up to turn `until`, or to the first after which the run is whole, or to the profile's last.
     ///
     /// # Errors
     ///
     /// `Write`, `Fabric` or `Files` if a call failed, `Absent` if a command's file is not there, or `Memory`.
-    // Proof: only the states know the end, so the loop has the profile's bound, and the judge's state says how many turns there were.
+    // Proof: only the states know the end, so the loop has a bound, and the judge's state says how many turns there were.
     pub fn turns<R: Wait, A: Arrivals, K: Sink, F: Fabric, D: Files, C: Clock>(
         &mut self,
         rt: &R,
         script: &Script,
+        until: u32,
         arrivals: &mut A,
         board: &mut Board,
         output: &mut K,
@@ -252,7 +278,8 @@ impl Run {
         clock: &mut C,
         datagram: &mut Datagram,
     ) -> Result<(), SessionFault>
-        ensures goes { OnOk result (TakesTurns script.now (D.contents files.old) self.old self.new
+        requires { 1 ≤ until }
+        ensures goes { OnOk result (TakesTurns script.now (D.contents files.old) until self.old self.new
             (span (F.told fabric.old) (F.told fabric.new) (K.pieces output.old) (K.pieces output.new) (C.moments clock.old) (C.moments clock.new) board.old board.new)) }
         ensures stops { IfErr result (λ fault. StopsTurns script.now (D.contents files.old) self.old fault
             (span (F.told fabric.old) (F.told fabric.new) (K.pieces output.old) (K.pieces output.new) (C.moments clock.old) (C.moments clock.new) board.old board.new)) }
@@ -260,7 +287,7 @@ impl Run {
         ensures cause { HasCause result (counted (K.fault_count output.old) (F.fault_count fabric.old) (D.fault_count files.old))
             (counted (K.fault_count output.new) (F.fault_count fabric.new) (D.fault_count files.new)) }
     {
-        for _ in 0..last_turn(&script.profile) {
+        for _ in 0..last_turn(&script.profile, until) {
             if self.is_done(script) {
                 return Ok(());
             }

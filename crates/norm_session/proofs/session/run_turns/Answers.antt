@@ -38,7 +38,7 @@ returns-clause-stops g c =
     (on_err _ _ c.turns-turned.result
     (λ e stops.
     script_stops c.args.alone c.args.script.now (g.D.Files.contents c.args.files.now) (g.F.Fabric.told c.start.new.fabric) c.in_ok-run.run' e _
-    c.in_ok-run.ensures.starts c.in_ok-run.ensures.goes stops c.requires)
+    c.in_ok-run.ensures.starts c.in_ok-run.ensures.goes stops c.requires.script)
     c.turns-turned.ensures.stops)
 
 pub returns-clause-cause : goal.returns-clause-cause

@@ -1,4 +1,5 @@
 use Rattle.std.proofs.Common.{◌≡◌, ◌≤◌, refl, ap, ◌∙◌, subst, arith, rules}
+use Rattle.std.specs.Prelude.{min}
 use Rattle.std.proofs.lemmas.Result.{err_from_is_err_and}
 use Rattle.norm_script.specs.Commands.{Commands}
 use Rattle.norm_session.specs.Turning.{span, TakesTurn, StopsTurn}
@@ -18,8 +19,10 @@ loop-init g c = record {
 
 pub returns-then-is_done-clause-goes : goal.returns-then-is_done-clause-goes
 returns-then-is_done-clause-goes g c =
-    turns_done c.args.script.now (g.D.Files.contents c.args.files.now) c.args.self.now c.loop.self _ c.loop.counter c.is_done.result
-    c.loop.invariant.turned c.is_done.ensures c.if-is_done.true
+    turns_done c.args.script.now (g.D.Files.contents c.args.files.now) c.args.until c.args.self.now c.loop.self _ c.loop.counter c.is_done.result
+    c.loop.invariant.turned
+    (subst (λ n. c.loop.counter ≤ n) (c.last_turn-end.ensures.value ∙ ap (λ (s : Commands). min c.args.until s.profile.turns) c.script.view_is) c.loop.invariant.within)
+    c.is_done.ensures c.if-is_done.true
 
 pub returns-in_err-turn-clause-stops : goal.returns-in_err-turn-clause-stops
 returns-in_err-turn-clause-stops g c =
@@ -48,6 +51,6 @@ pub returns-clause-goes : goal.returns-clause-goes
 returns-clause-goes g c =
     let past : c.last_turn-end.result ≤ c.loop.counter = search rules in
     let all : c.loop.counter ≡ c.last_turn-end.result = omega (arith, past, c.loop.invariant.within) in
-    turns_spent c.args.script.now (g.D.Files.contents c.args.files.now) c.args.self.now c.loop.self _ c.loop.counter c.loop.invariant.turned
-    (all ∙ c.last_turn-end.ensures.value ∙ ap (λ (s : Commands). s.profile.turns) c.script.view_is)
-    (subst (λ n. 1 ≤ n) (c.last_turn-end.ensures.value ∙ ap (λ (s : Commands). s.profile.turns) c.script.view_is) c.last_turn-end.ensures.least)
+    let last = c.last_turn-end.ensures.value ∙ ap (λ (s : Commands). min c.args.until s.profile.turns) c.script.view_is in
+    turns_spent c.args.script.now (g.D.Files.contents c.args.files.now) c.args.until c.args.self.now c.loop.self _ c.loop.counter c.loop.invariant.turned
+    (all ∙ last) (subst (λ n. 1 ≤ n) last c.last_turn-end.ensures.least)
