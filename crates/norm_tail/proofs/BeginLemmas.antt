@@ -1,8 +1,8 @@
 -- Whether a tail may begin.
-use Rattle.std.proofs.Common.{◌≡◌, ℕ, zero, suc, ◌+◌, ◌*◌, ◌<◌, ◌≤◌, ◌⊎◌, inl, inr, List, [], ◌∷◌, Bool, true, false, Option, None, Some, refl, sym, ap, ◌∙◌, subst, arith}
+use Rattle.std.proofs.Common.{◌≡◌, ℕ, ◌+◌, ◌*◌, ◌<◌, ◌≤◌, ◌⊎◌, inl, inr, [], ◌∷◌, Bool, true, false, Option, None, Some, refl, sym, ap, ◌∙◌, arith}
 use Rattle.std.specs.Prelude.{◌==◌, ◌||◌, not, nat_lt, is_none, is_some, option_map}
 use Rattle.std.proofs.lemmas.Bool.{cases_lt}
-use Rattle.std.proofs.lemmas.Bool.Decides.{Decides-ltb, Decides-eqb}
+use Rattle.std.proofs.lemmas.Bool.Decides.{Decides-ltb}
 use Rattle.std.proofs.lemmas.Nat.{mul-le}
 use Rattle.mark_book.specs.Answers.{open_watermark}
 use Rattle.mark_book.specs.declared.watermark.OpenWatermark.{OpenWatermark}
@@ -11,8 +11,7 @@ use Rattle.norm_order.specs.First.{first_where}
 use Rattle.norm_send_rules.specs.Repairable.{repairable, streams}
 use Rattle.norm_send_rules.specs.SenderState.{SenderState, Watermark}
 use Rattle.norm_send_rules.specs.Watermarks.{oldest}
-use Rattle.norm_tail.specs.Beginning.{fault_by}
-use Rattle.norm_safety.specs.Tail.{TailRefusal, NoRequest, Mode, Streams, Step, Pace, Flushes, drops, tail_fault, most_counted, sent_twice}
+use Rattle.norm_safety.specs.Tail.{NoRequest, Mode, Streams, Step, Pace, Flushes, drops, tail_fault, most_counted, sent_twice}
 
 -- more symbols than a round trip has microseconds are slow
 pub many_are_slow : (grtt symbols gap step : ℕ) → 1 ≤ gap → grtt < symbols → nat_lt grtt (2 * (symbols + 1) * (gap + step)) ≡ true

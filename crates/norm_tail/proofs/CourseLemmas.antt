@@ -1,10 +1,8 @@
 -- How events lead a tail on.
-use Rattle.std.proofs.Common.{◌≡◌, ℕ, zero, suc, ◌+◌, ◌-◌, ◌<◌, ◌≤◌, List, [], ◌∷◌, ◌++◌, length, map, Bool, true, false, Option, None, Some, refl, sym, ap, ◌∙◌, subst, arith, length-append, append_assoc, append-nil}
-use Rattle.std.specs.Prelude.{◌==◌}
+use Rattle.std.proofs.Common.{◌≡◌, ℕ, zero, suc, ◌+◌, ◌-◌, ◌<◌, ◌≤◌, List, [], ◌∷◌, ◌++◌, length, map, true, Option, None, Some, refl, sym, ap, ◌∙◌, subst, arith, append_assoc, append-nil}
 use Rattle.std.specs.Fn.{iterate}
 use Rattle.std.specs.Option.{option_map, option_map_or}
 use Rattle.rand_pcg.specs.Lcg.{Lcg}
-use Rattle.norm_base.specs.Datagrams.{datagram_of}
 use Rattle.norm_base.specs.Members.{is_receiver}
 use Rattle.norm_base.specs.Settings.{Settings}
 use Rattle.norm_base.specs.declared.kinds.Sent.{Sent as Said}
@@ -13,7 +11,7 @@ use Rattle.norm_order.specs.declared.up.Up.{Up}
 use Rattle.norm_receive_rules.specs.ReceiverState.{ReceiverState}
 use Rattle.norm_receiver.specs.ReceiverKept.{ReceiverKept}
 use Rattle.norm_receiver.specs.ReceiverSound.{StandsFor as ReceiverStands}
-use Rattle.norm_safety.specs.Events.{Event, Ticked, Offered, UpTaken, NewsAsked, Answer, Sent, Took, Told, Silent}
+use Rattle.norm_safety.specs.Events.{Event, Ticked, UpTaken, NewsAsked, Answer, Took, Told}
 use Rattle.norm_safety.specs.History.{Happening}
 use Rattle.norm_safety.specs.World.{World, receiver_at}
 use Rattle.norm_safety.specs.WorldStep.{world_step, run_from}
@@ -21,11 +19,11 @@ use Rattle.norm_send_rules.specs.SenderState.{SenderState}
 use Rattle.norm_send_rules.specs.declared.news.News.{News}
 use Rattle.norm_sender.specs.SenderKept.{SenderKept, Stands}
 use Rattle.norm_tail.specs.SoFar.{Context, At, AtSent, Stopped, HasGiven, event_of}
-use Rattle.norm_tail.specs.Steps.{step_of, steps_of, generator_after}
-use Rattle.norm_safety.specs.Tail.{Course, comes, untold, tells, untaken, takes, given_by, sender_ticks}
+use Rattle.norm_tail.specs.Steps.{step_of, steps_of}
+use Rattle.norm_safety.specs.Tail.{Course, comes, untold, untaken, given_by, sender_ticks}
 use Rattle.norm_tail.specs.declared.step.TailStep.{TailStep}
 use Rattle.norm_tail.specs.declared.step.TailStep.TheVariants as step
-use Rattle.norm_tail.proofs.ExtendLemmas.{Extends, happening, stopped_later, times_extend, comes_extends}
+use Rattle.norm_tail.proofs.ExtendLemmas.{happening, stopped_later, times_extend}
 use Rattle.norm_safety.proofs.TailLemmas.{tail_laws}
 use Rattle.norm_world.proofs.ReceiverEvents.{behind_sender}
 use Rattle.norm_world.specs.WorldKept.{WorldKept, StandsFor, IsReceiver, node_at, place_of}

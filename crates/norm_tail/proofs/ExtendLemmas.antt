@@ -1,6 +1,6 @@
 -- What comes of a course begins with its events; and a tail that stopped.
 use Rattle.std.proofs.Common.{◌≡◌, ℕ, zero, suc, ◌+◌, List, [], ◌∷◌, ◌++◌, Bool, true, false, Option, None, Some, refl, sym, ap, ◌∙◌, subst, append_assoc, append-nil}
-use Rattle.std.specs.Prelude.{◌==◌, not, fold}
+use Rattle.std.specs.Prelude.{◌==◌, fold}
 use Rattle.std.specs.Fn.{iterate}
 use Rattle.rand_pcg.specs.Lcg.{Lcg}
 use Rattle.norm_base.specs.Members.{receivers_of}
@@ -11,7 +11,7 @@ use Rattle.norm_safety.specs.Tail.{Course, events_of, comes, untold, tells, unta
 use Rattle.norm_safety.specs.History.{Happening}
 use Rattle.norm_safety.specs.World.{World}
 use Rattle.norm_safety.specs.WorldStep.{world_step, run_from}
-use Rattle.norm_tail.specs.SoFar.{Context, At, Stopped, copy_unless}
+use Rattle.norm_tail.specs.SoFar.{Context, At, Stopped}
 use Rattle.norm_tail.specs.declared.step.TailStep.{TailStep}
 use Rattle.norm_world.specs.WorldKept.{WorldKept, StandsFor}
 use Rattle.norm_world.specs.WorldMoves.{IsNoEvent}

@@ -1,15 +1,11 @@
 -- The moments of a tail have 64 bits.
-use Rattle.std.proofs.Common.{◌≡◌, ℕ, ◌+◌, ◌*◌, ◌<◌, ◌≤◌, ◌^◌, ◌/◌, ◌%◌, arith}
-use Rattle.std.specs.Prelude.{min, None}
+use Rattle.std.proofs.Common.{ℕ, ◌+◌, ◌*◌, ◌≤◌, arith}
 use Rattle.std.specs.Int.{div_ceil}
 use Rattle.std.proofs.lemmas.Nat.{mul-le}
-use Rattle.norm_base.specs.Settings.{Settings, InRange}
-use Rattle.norm_safety.specs.World.{World}
 use Rattle.norm_send_rules.specs.Repairable.{repairable}
-use Rattle.norm_tail.specs.Beginning.{CanTail, TailsFit}
-use Rattle.norm_safety.specs.Tail.{tail_fault, tail_time, tail_bound}
+use Rattle.norm_tail.specs.Beginning.{TailsFit}
+use Rattle.norm_safety.specs.Tail.{tail_time}
 use Rattle.norm_tail.proofs.BeginLemmas.{may_begin, few_symbols}
-use Rattle.norm_world.specs.WorldKept.{WorldKept, StandsFor}
 
 -- rounding up adds less than a step
 round_up : (n d : ℕ) → 1 ≤ d → div_ceil n d * d ≤ n + d

@@ -1,5 +1,5 @@
 -- A datagram is passed on, and receivers are served.
-use Rattle.std.proofs.Common.{◌≡◌, ℕ, zero, suc, ◌+◌, ◌-◌, ◌<◌, ◌≤◌, List, [], ◌∷◌, ◌++◌, length, drop, cond, Bool, true, false, Option, None, Some, refl, sym, ap, ◌∙◌, subst, arith}
+use Rattle.std.proofs.Common.{◌≡◌, ℕ, zero, suc, ◌+◌, ◌<◌, ◌≤◌, List, [], ◌∷◌, drop, cond, Bool, true, false, Option, None, Some, refl, sym, ap, ◌∙◌, subst, arith}
 use Rattle.std.specs.Prelude.{◌==◌, ◌||◌, not, filter, fold}
 use Rattle.std.specs.Option.{option_map}
 use Rattle.std.proofs.lemmas.Bool.Decides.{Decides-eqb}
@@ -13,16 +13,15 @@ use Rattle.norm_base.specs.declared.kinds.Sent.{Sent as Said}
 use Rattle.norm_base.specs.declared.kinds.Sent.TheVariants as said
 use Rattle.norm_ext.specs.Written.{Written}
 use Rattle.norm_journal.specs.Draws.{next_draw, draws_after}
-use Rattle.norm_safety.specs.Events.{Event, Delivered, Offered, NewsAsked, Answer, Silent}
-use Rattle.norm_safety.specs.World.{World}
+use Rattle.norm_safety.specs.Events.{Delivered, Offered}
 use Rattle.std.specs.Fn.{iterate}
-use Rattle.norm_tail.specs.SoFar.{Context, At, AtSent, Stopped, HasGiven, copy_unless}
-use Rattle.norm_tail.specs.Steps.{generator_after, words_of}
+use Rattle.norm_tail.specs.SoFar.{Context, At, Stopped, HasGiven, copy_unless}
+use Rattle.norm_tail.specs.Steps.{words_of}
 use Rattle.norm_safety.specs.Tail.{Course, comes, tells, copy_comes, others_than, given_by, passes_on, serves}
 use Rattle.norm_tail.specs.declared.step.TailStep.{TailStep}
-use Rattle.norm_tail.proofs.ExtendLemmas.{Extends, stopped_later, copy_extends, copies_extend, all_extend}
+use Rattle.norm_tail.proofs.ExtendLemmas.{Extends, stopped_later, copies_extend, all_extend}
 use Rattle.norm_world.proofs.ReceiverEvents.{no_sender}
-use Rattle.norm_world.specs.WorldKept.{WorldKept, StandsFor}
+use Rattle.norm_world.specs.WorldKept.{WorldKept}
 
 -- ---- members in order
 

@@ -1,5 +1,5 @@
 -- A whole tail.
-use Rattle.std.proofs.Common.{◌≡◌, ℕ, ◌+◌, ◌*◌, List, [], Bool, true, false, Option, None, Some, Result, Ok, Err, refl, sym, ap, ◌∙◌, subst}
+use Rattle.std.proofs.Common.{◌≡◌, ℕ, ◌+◌, ◌*◌, List, [], true, None, Some, Result, Err, refl, sym, ap, ◌∙◌, subst}
 use Rattle.std.specs.Prelude.{IfErr, is_none, option_map}
 use Rattle.std.specs.Int.{div_ceil}
 use Rattle.rand_pcg.specs.Lcg.{Lcg}
@@ -14,7 +14,7 @@ use Rattle.norm_tail.specs.Ending.{tail_in, IsTail, BreaksOff, Ends}
 use Rattle.norm_safety.specs.Recovery.{IsOldest}
 use Rattle.norm_tail.specs.SoFar.{Context, At, Stopped}
 use Rattle.norm_tail.specs.Steps.{words_of}
-use Rattle.norm_safety.specs.Tail.{Course, course_from, Tail, TailRefusal, NoRequest, tail_until, tail_bound, tail_fault}
+use Rattle.norm_safety.specs.Tail.{course_from, Tail, NoRequest, tail_until, tail_bound, tail_fault}
 use Rattle.norm_tail.specs.declared.fault.TailFault.{TailFault}
 use Rattle.norm_tail.specs.declared.fault.TailFault.TheVariants as fault
 use Rattle.norm_tail.specs.declared.step.TailStep.{TailStep}

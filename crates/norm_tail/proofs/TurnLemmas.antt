@@ -3,7 +3,7 @@ use Rattle.std.proofs.Common.{◌≡◌, ℕ, zero, suc, ◌+◌, ◌-◌, ◌*�
 use Rattle.rand_pcg.specs.Lcg.{Lcg}
 use Rattle.norm_base.specs.Settings.{Settings}
 use Rattle.norm_tail.specs.Ending.{Ends}
-use Rattle.norm_tail.specs.SoFar.{Context, At, AtSent, Stopped}
+use Rattle.norm_tail.specs.SoFar.{Context, At, Stopped}
 use Rattle.norm_tail.specs.Steps.{words_of}
 use Rattle.norm_safety.specs.Tail.{Course, sender_ticks, goes_round, is_open_mark, cut_turn, Tail, turn_more, tail_until}
 use Rattle.norm_tail.specs.declared.step.TailStep.{TailStep}

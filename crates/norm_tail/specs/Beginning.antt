@@ -1,5 +1,5 @@
 -- Whether a tail may begin.
-use Rattle.std.specs.Prelude.{◌≡◌, ◌+◌, ◌*◌, ◌<◌, ◌≤◌, ◌^◌, ◌==◌, ◌||◌, ℕ, nat_lt, Bool, List, [], ◌∷◌, Option, None, Some, Result, Ok, Err}
+use Rattle.std.specs.Prelude.{◌≡◌, ◌+◌, ◌*◌, ◌<◌, ◌≤◌, ◌^◌, ◌==◌, ◌||◌, ℕ, nat_lt, Bool, [], ◌∷◌, Option, None, Some, Result, Ok, Err}
 use Rattle.norm_base.specs.Settings.{Settings, InRange}
 use Rattle.norm_order.specs.First.{first_where}
 use Rattle.norm_safety.specs.Tail.{TailRefusal, NoRequest, Mode, Streams, Step, Pace, Flushes, drops, most_counted, tail_fault, tail_bound}

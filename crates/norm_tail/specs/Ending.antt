@@ -1,9 +1,9 @@
 -- What a tail leaves, and what it leaves without memory.
-use Rattle.std.specs.Prelude.{◌≡◌, ℕ, ◌-◌, List}
+use Rattle.std.specs.Prelude.{◌≡◌, ℕ, List}
 use Rattle.rand_pcg.specs.Lcg.{Lcg}
 use Rattle.norm_base.specs.Settings.{Settings}
 use Rattle.norm_safety.specs.Recovery.{IsOldest}
-use Rattle.norm_safety.specs.Tail.{Tail, tail_bound, tail_of, tail_until}
+use Rattle.norm_safety.specs.Tail.{Tail, tail_bound, tail_of}
 use Rattle.norm_safety.specs.World.{World}
 use Rattle.norm_tail.specs.SoFar.{Context, At, Stopped}
 use Rattle.norm_tail.specs.Steps.{steps_of, generator_after, words_of}

@@ -1,5 +1,5 @@
 -- A tail so far: a course of the rules, and the nodes, steps and generator that stand for it.
-use Rattle.std.specs.Prelude.{◌≡◌, ◌==◌, ℕ, not, List, map, ◌++◌, true, false, Option}
+use Rattle.std.specs.Prelude.{◌≡◌, ◌==◌, ℕ, not, List, map, ◌++◌, true, false}
 use Rattle.std.specs.Option.{option_map}
 use Rattle.rand_pcg.specs.Lcg.{Lcg}
 use Rattle.norm_base.specs.Datagrams.{datagram_of}

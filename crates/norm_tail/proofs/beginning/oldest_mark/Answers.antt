@@ -1,9 +1,7 @@
-use Rattle.std.proofs.Common.{sym, ap, subst, ◌∙◌, Some, None}
-use Rattle.std.specs.Prelude.{Option, option_map}
+use Rattle.std.proofs.Common.{sym, ap, subst, ◌∙◌}
 use Rattle.mark_book.specs.BookState.{BookState}
 use Rattle.mark_book.specs.BookState as book
-use Rattle.mark_book.specs.declared.watermark.OpenWatermark.{OpenWatermark}
-use Rattle.norm_sender.specs.SenderKept.{SenderKept, Stands}
+use Rattle.norm_sender.specs.SenderKept.{SenderKept}
 use Rattle.norm_tail.proofs.BeginLemmas.{mark_none, mark_some}
 use Rattle.norm_tail.proofs.beginning.oldest_mark.Goals as goal
 

@@ -1,4 +1,4 @@
-use Rattle.std.proofs.Common.{◌≡◌, ap, true, false, sym, subst, ◌∙◌, rules}
+use Rattle.std.proofs.Common.{◌≡◌, true, false, subst, rules}
 use Rattle.std.specs.Prelude.{◌==◌}
 use Rattle.norm_tail.specs.SoFar.{At, Stopped}
 use Rattle.norm_tail.specs.Steps.{words_of}

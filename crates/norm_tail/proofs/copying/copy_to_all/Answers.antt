@@ -1,4 +1,4 @@
-use Rattle.std.proofs.Common.{◌≡◌, ◌+◌, ◌<◌, ◌≤◌, ◌∙◌, true, refl, sym, subst, append-nil, rules}
+use Rattle.std.proofs.Common.{◌≡◌, ◌+◌, ◌≤◌, ◌∙◌, true, refl, sym, subst, append-nil, rules}
 use Rattle.std.specs.Prelude.{fold}
 use Rattle.norm_base.specs.Members.{is_node}
 use Rattle.norm_base.specs.Settings.{Settings}

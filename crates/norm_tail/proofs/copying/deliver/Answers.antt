@@ -1,10 +1,10 @@
-use Rattle.std.proofs.Common.{◌≡◌, ◌+◌, ◌∙◌, ap, true, false, sym, subst, [], ◌∷◌, append-nil, rules}
-use Rattle.norm_base.specs.Members.{is_receiver, is_node}
+use Rattle.std.proofs.Common.{◌≡◌, ◌+◌, ◌∙◌, ap, true, false, sym, subst, append-nil, rules}
+use Rattle.norm_base.specs.Members.{is_receiver}
 use Rattle.norm_base.specs.Settings.{Settings}
 use Rattle.norm_safety.specs.Events.{Delivered, Silent}
 use Rattle.norm_tail.specs.SoFar.{At, Stopped}
 use Rattle.norm_tail.specs.Steps.{words_of}
-use Rattle.norm_safety.specs.Tail.{Course, comes, tells, copy_comes}
+use Rattle.norm_safety.specs.Tail.{Course, comes, copy_comes}
 use Rattle.norm_tail.proofs.CourseLemmas.{came}
 use Rattle.norm_tail.proofs.ExtendLemmas.{stopped_later, stopped_lost, copy_extends}
 use Rattle.norm_tail.proofs.PassLemmas.{copy_to_sender, copy_to_receiver, drew, drawn_word}

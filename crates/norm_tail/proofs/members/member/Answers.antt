@@ -1,6 +1,4 @@
-use Rattle.std.proofs.Common.{◌≡◌, suc, ◌-◌, ap, sym, ◌∙◌, refl, arith}
-use Rattle.std.specs.Prelude.{◌∷◌, drop}
-use Rattle.norm_base.specs.Members.{members_of, receivers_of}
+use Rattle.std.proofs.Common.{◌≡◌, suc, ◌-◌, arith}
 use Rattle.norm_tail.proofs.PassLemmas.{first_place, member_place, is_member, sender_is_node}
 use Rattle.norm_tail.proofs.members.member.Goals as goal
 

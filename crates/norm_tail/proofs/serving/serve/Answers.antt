@@ -1,4 +1,4 @@
-use Rattle.std.proofs.Common.{◌≡◌, ◌∙◌}
+use Rattle.std.proofs.Common.{◌∙◌}
 use Rattle.norm_tail.specs.Steps.{words_of}
 use Rattle.norm_safety.specs.Tail.{receiver_ticks, serves}
 use Rattle.norm_tail.proofs.ExtendLemmas.{stopped_later, passes_extend}

@@ -1,4 +1,4 @@
-use Rattle.std.proofs.Common.{◌≡◌, ◌<◌, ◌≤◌, ◌+◌, ◌∙◌, true, refl, sym, subst, rules}
+use Rattle.std.proofs.Common.{◌≡◌, ◌≤◌, ◌∙◌, true, refl, sym, subst, rules}
 use Rattle.std.specs.Prelude.{fold}
 use Rattle.norm_base.specs.Members.{is_receiver, receivers_of}
 use Rattle.norm_base.specs.Settings.{Settings}

@@ -1,5 +1,5 @@
 use Rattle.std.proofs.Common.{◌≡◌, None, Some}
-use Rattle.norm_safety.specs.Events.{NewsAsked, Answer, Told}
+use Rattle.norm_safety.specs.Events.{NewsAsked, Told}
 use Rattle.norm_tail.proofs.CourseLemmas.{came, came_stops, told_none, told_one}
 use Rattle.norm_world.proofs.WorldLemmas.{on_err}
 use Rattle.norm_tail.proofs.telling.tell.Goals as goal

@@ -1,4 +1,4 @@
-use Rattle.std.proofs.Common.{◌≡◌, ap, sym, subst, ◌∙◌, false}
+use Rattle.std.proofs.Common.{ap, sym, subst, ◌∙◌, false}
 use Rattle.std.specs.Option.{option_map_or}
 use Rattle.mark_book.specs.BookState.{BookState, Stands}
 use Rattle.norm_sender.specs.SenderKept.{SenderKept}

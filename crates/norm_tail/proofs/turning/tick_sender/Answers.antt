@@ -1,8 +1,8 @@
-use Rattle.std.proofs.Common.{◌≡◌, ap, subst, sym, ◌∙◌}
+use Rattle.std.proofs.Common.{ap, subst}
 use Rattle.norm_base.specs.Settings.{Settings}
 use Rattle.norm_safety.specs.Events.{Ticked}
 use Rattle.norm_tail.specs.SoFar.{AtSent}
-use Rattle.norm_safety.specs.Tail.{comes, sender_ticks}
+use Rattle.norm_safety.specs.Tail.{comes}
 use Rattle.norm_tail.proofs.CourseLemmas.{ticked, sender_ticked}
 use Rattle.norm_world.proofs.WorldLemmas.{on_err}
 use Rattle.norm_tail.proofs.turning.tick_sender.Goals as goal

@@ -1,4 +1,4 @@
-use Rattle.std.proofs.Common.{◌≡◌, ap, true, false, sym, subst, ◌∙◌, rules}
+use Rattle.std.proofs.Common.{sym, subst, ◌∙◌}
 use Rattle.norm_tail.specs.SoFar.{At, Stopped}
 use Rattle.norm_tail.specs.Steps.{words_of}
 use Rattle.norm_safety.specs.Tail.{Course, sender_ticks, cut_turn}

@@ -1,8 +1,7 @@
-use Rattle.std.proofs.Common.{◌≡◌, ◌+◌, ◌-◌, ◌*◌, ◌<◌, ◌≤◌, ◌^◌, true, false, refl, ap, sym, subst, ◌∙◌, arith, rules}
+use Rattle.std.proofs.Common.{◌≡◌, ◌+◌, ◌-◌, ◌*◌, ◌<◌, ◌≤◌, refl, ap, sym, subst, ◌∙◌, arith, rules}
 use Rattle.norm_base.specs.Settings.{Settings}
-use Rattle.norm_tail.specs.SoFar.{At}
 use Rattle.norm_tail.specs.Steps.{words_of}
-use Rattle.norm_safety.specs.Tail.{Course, tail_until}
+use Rattle.norm_safety.specs.Tail.{tail_until}
 use Rattle.norm_tail.proofs.TurnLemmas.{turned_on, turn_stops, turned_done, turned_all, next_fits, this_fits}
 use Rattle.norm_world.proofs.WorldLemmas.{on_err}
 use Rattle.norm_tail.proofs.turning.turns_until.Goals as goal

@@ -1,4 +1,4 @@
-use Rattle.std.proofs.Common.{◌≡◌, ◌+◌, ◌-◌, ◌*◌, ◌<◌, ◌≤◌, ◌^◌, ℕ}
+use Rattle.std.proofs.Common.{◌≡◌, ◌+◌, ◌-◌, ◌*◌, ◌<◌, ◌≤◌}
 use Rattle.norm_tail.specs.SoFar.{Context, At}
 use Rattle.norm_tail.specs.Steps.{words_of}
 use Rattle.norm_safety.specs.Tail.{Tail, tail_until}
