@@ -39,7 +39,7 @@ pub struct HeldStream {
     buffer: StreamBuf,
     /// For each closed segment from the first kept block on, whether it was sent.
     marks: Marks,
-    /// How many segments a block has.
+    /// How many segments a block has, as in the buffer.
     b: u8,
 }
 
@@ -65,7 +65,7 @@ fn is_released(profile: &Profile, past: &Option<Position>, last: Position) -> bo
 }
 
 impl HeldStream {
-    /// Returns a stream to which nothing was written.
+    /// Returns a stream to which nothing was written, with room for the profile's `blocks` blocks of segments and their marks.
     ///
     /// # Errors
     ///
@@ -84,7 +84,7 @@ impl HeldStream {
         })
     }
 
-    /// How the stream is cut into blocks.
+    /// How the stream is cut into blocks. It never changes: the plan of a stream has no length.
     pub fn plan(&self) -> Plan
         ensures exact { result ≡ self.now.buffer.cut }
         ensures stream { self.now.buffer.cut.l ≡ None }
@@ -92,14 +92,14 @@ impl HeldStream {
         self.buffer.plan()
     }
 
-    /// The first block that was not given up.
+    /// The first block that was not given up. Only [`write`](HeldStream::write) and [`close`](HeldStream::close) raise it.
     pub fn first_block(&self) -> u32
         ensures { result ≡ self.now.buffer.first }
     {
         self.buffer.first_block()
     }
 
-    /// How many segments were closed so far, given up or not.
+    /// How many segments were closed, given up or not: the number of the next one.
     pub fn segments(&self) -> u32
         ensures exact { result ≡ closed_segments self.now.buffer }
         ensures few { result ≤ 16777216 * self.now.buffer.cut.b }
@@ -117,7 +117,7 @@ impl HeldStream {
         let _closed = self.buffer.segments();
     }
 
-    /// Whether the stream was closed.
+    /// Whether [`close`](HeldStream::close) succeeded. Nothing is written after that.
     pub fn is_ended(&self) -> bool
         ensures { result ≡ self.now.buffer.ended }
     {
@@ -158,7 +158,7 @@ impl HeldStream {
         }
     }
 
-    /// Closes the segment that fills, if it holds octets.
+    /// Closes the segment that fills, if it holds octets. Takes no room, and so cannot fail.
     pub fn cut(&mut self)
         ensures knows { (p : Settings) (index : ℕ) (parts : List Part) (sent : List Place) → Knows p index parts sent self.old
             → Knows p index (with_cut p.e parts) sent self.new }
@@ -191,7 +191,7 @@ impl HeldStream {
         }
     }
 
-    /// Marks an encoded symbol of a kept block as sent. Parity has no mark, and changes nothing.
+    /// Marks an encoded symbol of a kept block as sent. Parity has no mark: for it, nothing changes.
     pub fn note_sent(&mut self, block: u32, symbol: u8)
         requires { self.old.buffer.first ≤ block }
         ensures first { self.new.buffer.first ≡ self.old.buffer.first }
@@ -272,8 +272,9 @@ impl HeldStream {
     ///
     /// # Errors
     ///
+    /// - `Closed` after [`close`](HeldStream::close).
     /// - `Spent` if the stream would have more octets than 32 bits count, or more segments than 2^24 blocks.
-    /// - `Full` if a block would have to go that may not.
+    /// - `Full` if a block would have to go that may not, or any while `before` is false.
     ///
     /// Then nothing changes.
     pub fn write(
@@ -318,7 +319,7 @@ impl HeldStream {
         self.end(may_go)
     }
 
-    /// Whether all closed segments were sent.
+    /// Whether all closed segments were sent, given up ones among them. True if none is closed.
     pub fn is_sent(&self) -> bool
         ensures { (p : Settings) (s : SenderState) (index : ℕ) (parts : List Part) → Knows p index parts s.sent self.now
             → result ≡ all_sent s (sources_in index (shape_of p (Stream parts))) }
@@ -326,7 +327,7 @@ impl HeldStream {
         self.marks.all_sent()
     }
 
-    /// The position of the last of `segments` segments, if the stream has this index. `None` if there are none.
+    /// The position of the last of `segments` segments. `index` is the stream's. `None` if there are none.
     fn last_of(&self, index: u32, segments: u32) -> Option<Position>
         requires { segments ≤ 16777216 * self.now.buffer.cut.b }
         ensures { (p : Settings) (parts more : List Part) → StandsFor p parts self.now.buffer → segments ≡ (shape_of p (Stream more)).closed
@@ -344,14 +345,14 @@ impl HeldStream {
         })
     }
 
-    /// The position of the last closed segment, if the stream has this index. `None` if no segment is closed.
+    /// The position of the last closed segment. `index` is the stream's. `None` if no segment is closed.
     pub fn last(&self, index: u32) -> Option<Position>
         ensures { (p : Settings) (parts : List Part) → StandsFor p parts self.now.buffer → result ≡ last_in index (shape_of p (Stream parts)) }
     {
         self.last_of(index, self.buffer.segments())
     }
 
-    /// The position of the last closed segment after a [`cut`](HeldStream::cut), if the stream has this index. Cuts nothing.
+    /// The position of the last closed segment after a [`cut`](HeldStream::cut). Cuts nothing. `None` if even then no segment is closed.
     pub fn last_cut(&self, index: u32) -> Option<Position>
         ensures { (p : Settings) (parts : List Part) → StandsFor p parts self.now.buffer
             → result ≡ last_in index (shape_of p (Stream (with_cut p.e parts))) }

@@ -32,7 +32,7 @@ impl Model for Marks {
     ghost invariant = { MarksSound };
 }
 
-/// How many marks from the first on are set without a gap. Those before `from` are set.
+/// How many marks from the first on are set without a gap. Those before `from` are known to be set, and not looked at.
 fn run_from(sent: &VecDeque<bool>, from: usize) -> usize
     requires { from ≤ run_of sent.now.items }
     ensures { result ≡ run_of sent.now.items }
@@ -46,7 +46,6 @@ fn run_from(sent: &VecDeque<bool>, from: usize) -> usize
     sent.len()
 }
 
-/// Removes the first `gone` marks.
 fn give_up(sent: &mut VecDeque<bool>, gone: usize)
     requires { gone ≤ length sent.old.items }
     ensures items { sent.new.items ≡ drop gone sent.old.items }
@@ -55,7 +54,6 @@ fn give_up(sent: &mut VecDeque<bool>, gone: usize)
     sent.drain(..gone);
 }
 
-/// Removes the first `gone` marks, and keeps `kept` in all. New ones are not set.
 fn move_on(sent: &mut VecDeque<bool>, gone: usize, kept: usize)
     requires gone { gone ≤ length sent.old.items }
     requires room { kept ≤ deque_capacity sent.old }
@@ -80,7 +78,7 @@ impl Marks {
         Ok(Marks { sent, run: 0 })
     }
 
-    /// How many marks there are.
+    /// How many marks there are: one for each closed segment that was not given up.
     pub fn len(&self) -> usize
         ensures { result ≡ length self.now.sent }
     {
@@ -110,14 +108,14 @@ impl Marks {
         }
     }
 
-    /// Whether the first `count` segments were all sent.
+    /// Whether the first `count` segments were all sent. Looks at no mark, because the number of set ones at the beginning is kept.
     pub fn are_sent(&self, count: usize) -> bool
         ensures { result ≡ nat_le count (run_of self.now.sent) }
     {
         count <= self.run
     }
 
-    /// Whether all segments with a mark were sent.
+    /// Whether all segments with a mark were sent. True if there is none.
     pub fn all_sent(&self) -> bool
         ensures { result ≡ list_all (λ b. b) self.now.sent }
     {

@@ -15,19 +15,19 @@ use std::marker::Model;
 /// The segments of a stream by their numbers, and the one that fills. Each has a symbol buffer: its header of 8 octets, its own octets, and zeros.
 ///
 /// [`fill`](Rows::fill) adds octets to the segment that fills, [`seal`](Rows::seal) closes it, and [`give_up`](Rows::give_up) drops the first ones.
-// The segment that fills has no buffer of its own: its octets stand once, in the row in which they are sent and coded.
+// The segment that fills has no buffer of its own: its octets stand once, in the symbol buffer that is sent and coded.
 #[derive(Debug, Drop)]
 pub struct Rows {
     ring: Vec<u8>,
-    /// How many octets a symbol buffer has.
+    /// Octets of one symbol buffer: the profile's `e`, and 8 for the header.
     size: usize,
-    /// How many symbol buffers there are.
+    /// How many symbol buffers there are. The ring has `room * size` octets.
     room: usize,
-    /// The number of the first kept segment.
+    /// The number of the first segment that was not given up.
     first: usize,
     /// How many segments were closed. The next one fills in the symbol buffer after theirs.
     closed: usize,
-    /// How many octets the segment that fills has.
+    /// How many octets the segment that fills has, without its header.
     filled: usize,
 }
 
@@ -41,7 +41,6 @@ impl Model for Rows {
     ghost invariant = { RowsSound };
 }
 
-/// Copies a piece over the octets from `start` on.
 fn put(octets: &mut [u8], start: usize, piece: &[u8])
     requires { start + length piece.now ≤ length octets.old }
     ensures { octets.new ≡ over start piece.now octets.old }
@@ -49,7 +48,6 @@ fn put(octets: &mut [u8], start: usize, piece: &[u8])
     octets[start..start + piece.len()].copy_from_slice(piece);
 }
 
-/// Puts `len` zeros over the octets from `start` on, at most those of a symbol buffer.
 fn put_zeros(octets: &mut [u8], start: usize, len: usize)
     requires fits { start + len ≤ length octets.old }
     requires most { len ≤ 1408 }
@@ -59,7 +57,7 @@ fn put_zeros(octets: &mut [u8], start: usize, len: usize)
     put(octets, start, zeros.as_slice().split_at(len).0);
 }
 
-/// The offset in the ring of a segment's symbol buffer, if there are `room` of them.
+/// The offset in the ring of a segment's symbol buffer. Every `room`th segment has the same one.
 fn row_start(number: usize, room: usize, size: usize, len: usize) -> usize
     requires some { 0 < room }
     requires len { len ≡ room * size }
@@ -88,11 +86,10 @@ fn seal_row(ring: &mut [u8], start: usize, size: usize, used: usize, place: &[u8
     ensures { ring.new ≡ over (start + used) (replicate (size - used) 0) (over start place.now ring.old) }
 {
     put(ring, start, place);
-    // The row may still hold an older segment. Parity is made of whole rows, so what is left of that would be coded.
+    // The symbol buffer may still hold an older segment. Parity is made of whole symbol buffers, so what is left of that would be coded.
     put_zeros(ring, start + used, size - used);
 }
 
-/// Returns `len` octets from `start` on.
 fn part(octets: &[u8], start: usize, len: usize) -> &[u8]
     requires { start + len ≤ length octets.now }
     ensures part { result.now ≡ take len (drop start octets.now) }
@@ -104,7 +101,7 @@ fn part(octets: &[u8], start: usize, len: usize) -> &[u8]
 impl Rows {
     ghost use Rattle.norm_order.specs.Segments.{Segment};
 
-    /// Returns a ring of `room` symbol buffers of `size` octets.
+    /// Returns a ring of `room` symbol buffers of `size` octets. It takes no more memory later.
     ///
     /// # Errors
     ///
@@ -134,14 +131,14 @@ impl Rows {
         self.closed
     }
 
-    /// How many octets the segment that fills has.
+    /// How many octets the segment that fills has, without its header. 0 right after [`seal`](Rows::seal).
     pub fn filled(&self) -> usize
         ensures { result ≡ length self.now.filling }
     {
         self.filled
     }
 
-    /// Adds octets to the segment that fills.
+    /// Adds octets to the segment that fills. Closes nothing: call [`seal`](Rows::seal) once it is full.
     pub fn fill(&mut self, piece: &[u8])
         requires free { length self.old.rows < self.old.room }
         requires fits { place_octets + length self.old.filling + length piece.now ≤ self.old.size }
@@ -152,7 +149,7 @@ impl Rows {
         self.filled += piece.len();
     }
 
-    /// Closes the segment that fills. `offset` is that of its first octet in the stream.
+    /// Closes the segment that fills, even if it has no octets, as the end of a stream does. `offset` is that of its first octet in the stream.
     pub fn seal(&mut self, offset: u32)
         requires free { length self.old.rows < self.old.room }
         requires few { self.old.first + length self.old.rows < 4294967295 }
@@ -172,7 +169,7 @@ impl Rows {
         self.filled = 0;
     }
 
-    /// Gives up the segments before this one.
+    /// Gives up the segments before this one. Later segments take their symbol buffers.
     pub fn give_up(&mut self, first: usize)
         requires from { self.old.first ≤ first }
         requires to { first ≤ self.old.first + length self.old.rows }
@@ -181,7 +178,7 @@ impl Rows {
         self.first = first;
     }
 
-    /// The symbol buffer of a closed segment.
+    /// The symbol buffer of a closed segment that was not given up: its header, its octets and zeros.
     pub fn row(&self, number: usize) -> &[u8]
         requires from { self.now.first ≤ number }
         requires to { number < self.now.first + length self.now.rows }
@@ -193,8 +190,8 @@ impl Rows {
     }
 
     /// The symbol buffers of `count` closed segments from `number` on, which lie one after the other in the ring.
-    // The rows of a block never go round the end, because the ring has room for whole blocks. So a block is one slice, and its parity takes no
-    // copy.
+    // The symbol buffers of a block never go round the end, because the ring has room for whole blocks. So a block is one slice, and its parity takes
+    // no copy.
     pub fn run(&self, number: usize, count: usize) -> &[u8]
         requires from { self.now.first ≤ number }
         requires to { number + count ≤ self.now.first + length self.now.rows }

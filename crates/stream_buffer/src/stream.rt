@@ -29,22 +29,22 @@ use std::marker::Model;
 ///
 /// Call [`write`](StreamBuf::write) and [`cut`](StreamBuf::cut) in any order, and [`close`](StreamBuf::close) once after them. A segment has a
 /// symbol once it is closed: when it is full, is cut, or is the end. [`new`](StreamBuf::new) takes all the memory.
-// The open segment has a row too, so a cut never needs room that a write did not ask for.
+// The open segment has a symbol buffer too, so a cut never needs room that a write did not ask for.
 #[derive(Debug, Drop)]
 pub struct StreamBuf {
     code: Code,
     rows: Rows,
-    /// How many octets a full segment has.
+    /// How many octets a full segment has, without its header.
     e: u16,
-    /// How many segments a block has.
+    /// How many segments a block has. They are its source symbols.
     b: u8,
-    /// How many encoding symbols a block has.
+    /// How many encoding symbols a block has, source and parity.
     max_n: u8,
-    /// How many blocks there is room for.
+    /// How many blocks the ring has room for. For more, the oldest are given up.
     blocks: u16,
-    /// The first block that was not given up.
+    /// The first block that was not given up. It never falls.
     first: u32,
-    /// How many octets were written.
+    /// How many octets were written, given up or not: the offset of the next one.
     octets: u32,
     ended: bool,
 }
@@ -89,7 +89,7 @@ impl StreamBuf {
         })
     }
 
-    /// How the stream is cut into blocks.
+    /// How the stream is cut into blocks. It never changes: the plan of a stream has no length.
     pub fn plan(&self) -> Plan
         ensures exact { result ≡ self.now.cut }
         ensures stream { self.now.cut.l ≡ None }
@@ -98,14 +98,14 @@ impl StreamBuf {
         Plan::stream(self.e, self.b, self.max_n).unwrap()
     }
 
-    /// The first block that was not given up.
+    /// The first block that was not given up. Only [`write`](StreamBuf::write) and [`close`](StreamBuf::close) raise it.
     pub fn first_block(&self) -> u32
         ensures { result ≡ self.now.first }
     {
         self.first
     }
 
-    /// How many segments were closed so far, given up or not.
+    /// How many segments were closed, given up or not: the number of the next one.
     pub fn segments(&self) -> u32
         ensures exact { result ≡ closed_segments self.now }
         ensures few { result ≤ 16777216 * self.now.cut.b }
@@ -113,7 +113,7 @@ impl StreamBuf {
         self.rows.closed() as u32
     }
 
-    /// How many segments are closed after a [`cut`](StreamBuf::cut). Cuts nothing.
+    /// How many segments would be closed after a [`cut`](StreamBuf::cut). Cuts nothing.
     pub fn segments_cut(&self) -> u32
         ensures exact { (p : Settings) (parts : List Part) → StandsFor p parts self.now → result ≡ (shape_of p (Stream (with_cut p.e parts))).closed }
         ensures few { result ≤ 16777216 * self.now.cut.b }
@@ -130,15 +130,15 @@ impl StreamBuf {
         self.rows.closed() - self.first as usize * usize::from(self.b)
     }
 
-    /// How many octets were written so far.
-    // Only tests call it so far. It stays for programs over this crate: `Spent` comes by this number.
+    /// How many octets were written, given up or not: the offset of the next one.
+    // Only tests call it. It stays for programs over this crate: a stream has at most 2^32 - 1 octets, and then a write is `Spent`.
     pub fn octets(&self) -> u32
         ensures { result ≡ self.now.octets }
     {
         self.octets
     }
 
-    /// Whether it was closed.
+    /// Whether [`close`](StreamBuf::close) succeeded. Nothing is written after that.
     pub fn is_ended(&self) -> bool
         ensures { result ≡ self.now.ended }
     {
@@ -161,7 +161,7 @@ impl StreamBuf {
         }
     }
 
-    /// Writes octets for which there is room.
+    /// Writes octets that [`make_room`](StreamBuf::make_room) made room for. Each segment closes as soon as it is full.
     fn pour(&mut self, bytes: &[u8])
         requires free { length self.old.rows + div_ceil (length self.old.filling + length bytes.now) self.old.cut.e ≤ self.old.blocks * self.old.cut.b }
         requires named { closed_segments self.old + div_ceil (length self.old.filling + length bytes.now) self.old.cut.e ≤ 16777216 * self.old.cut.b }
@@ -180,7 +180,8 @@ impl StreamBuf {
         let _ = &self.rows;
     }
 
-    /// Makes room for `used` segments, with those that the stream has. Gives up blocks below `may_go` for that, no more than needed.
+    /// Makes room until the stream has `used` segments, with those that were given up. Gives up blocks below `may_go` for that, no more than needed.
+    /// `Spent` if 24 bits cannot number the blocks, `Full` if blocks would have to go that may not. Then nothing changes.
     #[tactic(auto, unfolding(norm_order::specs::First::first_where))]
     fn make_room(&mut self, used: u64, may_go: u32) -> Result<(), StreamFault>
         requires closed { may_go * self.old.cut.b ≤ closed_segments self.old }
@@ -204,7 +205,8 @@ impl StreamBuf {
         Ok(())
     }
 
-    /// The blocks before this one have to go if `used` segments are to have room.
+    /// The blocks before this one have to go if `used` segments are to have room. 0 if 24 bits cannot number their blocks:
+    /// [`make_room`](StreamBuf::make_room) refuses those.
     fn least(&self, used: u64) -> u32
         ensures { used ≤ 16777216 * self.now.cut.b → result ≡ div_ceil used self.now.cut.b - self.now.blocks }
     {
@@ -275,7 +277,7 @@ impl StreamBuf {
         }
     }
 
-    /// Closes the segment that fills, if it holds octets.
+    /// Closes the segment that fills, if it holds octets. Takes no room, and so cannot fail.
     pub fn cut(&mut self)
         ensures cut { (p : Settings) (parts : List Part) → StandsFor p parts self.old → StandsFor p (with_cut p.e parts) self.new }
         ensures first { self.new.first ≡ self.old.first }
@@ -330,7 +332,7 @@ impl StreamBuf {
         }
     }
 
-    /// Appends a source symbol: the header and the octets of a segment.
+    /// Appends a source symbol: the header and the octets of a segment, without the zeros after them.
     fn push_segment(&self, number: usize, out: &mut Datagram)
         requires from { kept_from self.now ≤ number }
         requires to { number < closed_segments self.now }
@@ -343,7 +345,7 @@ impl StreamBuf {
         out.push(row.split_at(len.min(row.len())).0);
     }
 
-    /// Appends a parity symbol of a block whose segments are all closed.
+    /// Appends a parity symbol. Each call makes it anew, of all symbol buffers of the block.
     fn push_parity(&self, block: u32, symbol: u8, out: &mut Datagram)
         requires from { self.now.first ≤ block }
         requires to { block * self.now.cut.b + self.now.cut.b ≤ closed_segments self.now }
@@ -364,7 +366,7 @@ impl StreamBuf {
     }
 
     /// Appends a symbol if it is there, and returns whether it is. A segment is there if it is closed and its block was not given up. Parity is there
-    /// if all segments of its block are. Takes no memory.
+    /// if all segments of its block are; each call makes it anew. Takes no memory.
     pub fn symbol(&self, block: u32, symbol: u8, out: &mut Datagram) -> bool
         requires symbol { symbol < self.now.cut.max_n }
         requires room { length out.old + self.now.cut.e + place_octets ≤ datagram_room }
