@@ -21,7 +21,7 @@ use std::marker::Model;
 ///
 /// [`whole`](ObjectBuf::whole) creates it. Then [`symbol`](ObjectBuf::symbol) appends any of its symbols, in any order.
 // The octets are padded with zeros to whole symbols, as the code sees them. With anything else there parity would not be that of the object.
-// Only tests call it so far. It stays for programs over this crate: a sender keeps its objects in a ring.
+// Only tests call it. It stays for programs over this crate: a sender keeps its objects in a ring.
 #[derive(Debug, Drop)]
 pub struct ObjectBuf {
     plan: Plan,
@@ -43,7 +43,6 @@ impl Model for ObjectBuf {
     ghost invariant = { BufferSound };
 }
 
-/// Returns the plan of an object of `len` octets.
 fn plan_of(profile: &Profile, len: u64) -> Plan
     requires some { 1 ≤ len }
     requires most { len ≤ 16777216 }
@@ -98,7 +97,8 @@ impl ObjectBuf {
         })
     }
 
-    /// Appends a symbol of the object. A source symbol has its own length, and a parity symbol `e` octets. It takes no memory.
+    /// Appends a symbol of the object. A source symbol has its own length, and a parity symbol `e` octets. Parity is made anew at each call. It takes
+    /// no memory.
     pub fn symbol(&self, block: u32, symbol: u8, out: &mut Datagram)
         requires block { block < blocks self.now.cut }
         requires symbol { symbol < encoding_symbols self.now.cut block }
@@ -117,7 +117,7 @@ impl ObjectBuf {
         );
     }
 
-    /// Returns how the object is cut into blocks and symbols.
+    /// Returns how the object is cut into blocks and symbols. It never changes.
     pub fn plan(&self) -> Plan
         ensures { result ≡ self.now.cut }
     {
@@ -131,7 +131,6 @@ impl ObjectBuf {
         self.fti
     }
 
-    /// Returns whether it is a data object or a file.
     pub fn kind(&self) -> Kind
         ensures { result ≡ self.now.kind }
     {
@@ -148,7 +147,7 @@ impl ObjectBuf {
         }
     }
 
-    /// Returns how many octets the object has.
+    /// Returns how many octets the object has, without the padding of its last symbol.
     pub fn len(&self) -> u64
         ensures { result ≡ length self.now.octets }
     {

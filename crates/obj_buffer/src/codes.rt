@@ -80,7 +80,7 @@ impl Codes {
         })
     }
 
-    /// Returns the code of a block.
+    /// Returns the code of a block. All blocks of one length share it.
     pub fn code(&self, block: u32) -> &Code
         requires { block < blocks self.now }
         ensures { IsCodeOf self.now block result.now }

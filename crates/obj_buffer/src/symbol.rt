@@ -15,7 +15,7 @@ use fec_plan::Plan;
 use norm_base::{Datagram, SYMBOL_ROOM};
 use rs_block::Code;
 
-/// Returns `len` octets from octet `start` on of `front` followed by `back`, as the part in `front` and the part in `back`.
+/// Returns `len` octets from octet `start` on of `front` followed by `back`, as the part in `front` and the part in `back`. Either may be empty.
 fn range_of<'a>(front: &'a [u8], back: &'a [u8], start: usize, len: usize) -> (&'a [u8], &'a [u8])
     requires { start + len ≤ length front.now + length back.now }
     ensures octets { result.0.now ++ result.1.now ≡ take len (drop start (front.now ++ back.now)) }
@@ -48,7 +48,7 @@ fn push_source(plan: &Plan, front: &[u8], back: &[u8], block: u32, symbol: u8, o
     out.push(rest);
 }
 
-/// Appends a parity symbol, of `e` octets.
+/// Appends a parity symbol, of `e` octets. It is made of all source symbols of its block, and not kept.
 fn push_parity(
     plan: &Plan,
     code: &Code,
@@ -81,7 +81,8 @@ fn push_parity(
     out.push(parity);
 }
 
-/// Appends a symbol of an object. A source symbol has its own length, and a parity symbol `e` octets. It takes no memory.
+/// Appends a symbol of an object. A source symbol has its own length, and a parity symbol `e` octets. Parity is made anew at each call. It takes no
+/// memory.
 ///
 /// `front` followed by `back` is the object's octets, padded with zeros to whole symbols. `front` is whole symbols.
 // Proof: it holds for every object whose octets the two pieces are. Callers bring that fact, and no ghost value is needed.

@@ -30,8 +30,8 @@ impl Model for Kept {
     ghost invariant = { λ c. arc_value c.code ≡ record { k = c.k; n = c.n } };
 }
 
-/// The codes that were made so far. A code is made once, whatever number of objects has blocks of its length. Under one profile there is at most
-/// one for each length of a block.
+/// The codes that were made. A code is made once, whatever number of objects has blocks of its length. Under one profile there is at most one for
+/// each length of a block.
 // To make a code of many source symbols takes much longer than to make a symbol, and one profile has at most 200 lengths of blocks. Objects share
 // a code by `Arc`, so each object stays whole in itself, and nothing needs to be known of the table where a symbol is made.
 #[derive(Debug, Drop)]

@@ -33,13 +33,13 @@ pub struct Held {
     codes: Codes,
     kind: Kind,
     info: Option<Octets>,
-    /// How many octets it has.
+    /// In octets, without the padding of the last symbol.
     len: u32,
     /// The offset of its first octet in the ring.
     start: usize,
     /// For each source symbol, whether it was sent.
     sent: Vec<bool>,
-    /// How many source symbols were not sent.
+    /// How many of the marks in `sent` are not set.
     unsent: usize,
     /// The block and the id of the last source symbol.
     last_block: u32,
@@ -76,7 +76,6 @@ pub fn plan_of(profile: &Profile, len: u32) -> Plan
     Plan::of(u64::from(len), profile.e, profile.b, profile.max_n).unwrap()
 }
 
-/// Returns `count` marks of what was not sent.
 fn unsent_marks(alloc: Global, count: usize) -> Result<Vec<bool>, Memory>
     ensures { IfOk result (λ marks. marks.items ≡ replicate count false) }
 {
@@ -125,7 +124,7 @@ impl Held {
         })
     }
 
-    /// How the object is cut into blocks and symbols.
+    /// How the object is cut into blocks and symbols: [`plan_of`] its length. It never changes.
     pub fn plan(&self) -> Plan
         ensures { result ≡ self.now.cut }
     {
@@ -175,14 +174,13 @@ impl Held {
         })
     }
 
-    /// Whether it has info.
     pub fn has_info(&self) -> bool
         ensures { result ≡ is_some self.now.info }
     {
         self.info.is_some()
     }
 
-    /// How many octets it has.
+    /// How many octets it has, without the padding of its last symbol.
     pub fn len(&self) -> u32
         ensures exact { result ≡ octets_of self.now.cut }
         ensures object { self.now.cut.l ≡ Some result }
@@ -197,7 +195,7 @@ impl Held {
         self.start
     }
 
-    /// The last source symbol of the object, if it has this index.
+    /// The position of the last source symbol. `index` is the object's.
     pub fn last(&self, index: u32) -> Position
         ensures { (info : Bool) → last_in index (record { cut = self.now.cut; closed = all_symbols self.now.cut; info = info }) ≡ Some result }
     {
@@ -216,7 +214,8 @@ impl Held {
         self.sent.len() * usize::from(self.plan.e())
     }
 
-    /// Appends a symbol, and returns how many octets it has. `None` if the object has no such encoded symbol; then nothing is appended.
+    /// Appends a symbol, and returns how many octets it has. `None` if the object has no such encoded symbol; then nothing is appended. Parity is
+    /// made anew at each call, on the stack.
     pub fn symbol(&self, ring: &Ring, block: u32, symbol: u8, out: &mut Datagram) -> Option<u16>
         requires lies { LiesIn ring.now self.now }
         requires room { length out.old + self.now.cut.e ≤ datagram_room }
@@ -234,7 +233,7 @@ impl Held {
         Some(self.plan.symbol_octets(block, symbol))
     }
 
-    /// Marks an encoded symbol as sent. Parity has no mark, and changes nothing.
+    /// Marks an encoded symbol as sent. Parity has no mark: for it, nothing changes. Nor does a symbol that is sent again.
     pub fn note_sent(&mut self, block: u32, symbol: u8)
         requires { block < blocks self.old.cut }
         ensures { self.new ≡ with_sent self.old block symbol }
@@ -252,7 +251,7 @@ impl Held {
         self.unsent -= 1;
     }
 
-    /// Marks the info as sent.
+    /// Marks the info as sent. An object without info is [`is_sent`](Held::is_sent) without it.
     pub fn note_info(&mut self)
         ensures { self.new ≡ record self.old { info_sent = true } }
     {
@@ -266,14 +265,14 @@ impl Held {
         self.info.is_none() || self.info_sent
     }
 
-    /// Whether all source symbols were sent.
+    /// Whether all source symbols were sent. Looks at no mark, because those that are not set are counted.
     fn are_symbols_sent(&self) -> bool
         ensures { result ≡ list_all (λ b. b) self.now.sent }
     {
         self.unsent == 0
     }
 
-    /// Whether all source symbols were sent, and the info if there is one.
+    /// Whether all source symbols were sent, and the info if there is one. Parity does not matter.
     pub fn is_sent(&self) -> bool
         ensures { result ≡ ((is_none self.now.info || self.now.info_sent) && list_all (λ b. b) self.now.sent) }
     {

@@ -21,7 +21,6 @@ impl Model for Ring {
     ghost view = { λ r. r.octets.items };
 }
 
-/// Copies a piece over the octets from `start` on.
 fn put(octets: &mut [u8], start: usize, piece: &[u8])
     requires { start + length piece.now ≤ length octets.old }
     ensures { octets.new ≡ take start octets.old ++ piece.now ++ drop (start + length piece.now) octets.old }
@@ -30,7 +29,7 @@ fn put(octets: &mut [u8], start: usize, piece: &[u8])
 }
 
 impl Ring {
-    /// Returns a ring of `len` zeros.
+    /// Returns a ring of `len` zeros. It takes no more memory later.
     ///
     /// # Errors
     ///
@@ -42,7 +41,6 @@ impl Ring {
         Ok(Ring { octets })
     }
 
-    /// How many octets it has.
     pub fn len(&self) -> usize
         ensures { result ≡ length self.now }
     {
@@ -80,7 +78,7 @@ impl Ring {
         )
     }
 
-    /// Copies octets into the ring from offset `start` on.
+    /// Copies octets into the ring from offset `start` on, around the end if need be.
     pub fn write(&mut self, start: usize, piece: &[u8])
         requires start { start < length self.old }
         requires len { length piece.now ≤ length self.old }
@@ -95,7 +93,7 @@ impl Ring {
         put(&mut self.octets, 0, rest);
     }
 
-    /// Puts `len` zeros into the ring from offset `start` on, at most 1,400.
+    /// Puts `len` zeros into the ring from offset `start` on, around the end if need be: at most those of one symbol, 1,400.
     pub fn clear(&mut self, start: usize, len: usize)
         requires start { start < length self.old }
         requires len { len ≤ length self.old }

@@ -45,7 +45,7 @@ pub enum HeldEntry {
     Stream(HeldStream),
 }
 
-/// How many octets a stream's buffer has.
+/// How many octets of the window a stream takes: those of its buffer's segments, without their headers.
 fn buffer_len(profile: &Profile) -> u64
     ensures exact { result ≡ profile.now.blocks * profile.now.b * profile.now.e }
     ensures most { result < 2 ^ 48 }
@@ -66,7 +66,8 @@ fn is_released(profile: &Profile, past: &Option<Position>, last: &Option<Positio
     }
 }
 
-/// How many symbols of a stream's block are sent by themselves, if this many segments of the stream are closed.
+/// How many symbols of a stream's block are sent by themselves, if this many segments of the stream are closed: the block's closed segments, and once
+/// all are closed, also `auto` parity symbols, or all if it has fewer.
 fn once(plan: &Plan, auto: u8, segments: u64, block: u32) -> u8
     ensures { (p : Settings) (parts : List Part) → plan.now ≡ stream_cut p.e p.b p.max_n → p.auto ≡ auto → segments ≡ (shape_of p (Stream parts)).closed
         → result ≡ sent_once p (shape_of p (Stream parts)) block }
@@ -81,7 +82,7 @@ fn once(plan: &Plan, auto: u8, segments: u64, block: u32) -> u8
     sources.saturating_add(auto).min(plan.encoded_len(block))
 }
 
-/// The first symbol of a stream from `at` on that is sent by itself. `None` if there is none.
+/// The first symbol of a stream from `at` on that is sent by itself: `at` itself, or the next block's first. `None` if there is none.
 fn next_segment(stream: &HeldStream, auto: u8, at: Position) -> Option<Position>
     ensures next { (p : Settings) (parts : List Part) → KeepsStream p parts stream.now.buffer → p.auto ≡ auto
         → IsNext p (shape_of p (Stream parts)) at result }
@@ -147,7 +148,7 @@ fn stream_symbol(stream: &HeldStream, block: u32, symbol: u8, out: &mut Datagram
 }
 
 impl HeldEntry {
-    /// How the entry is cut into blocks and symbols.
+    /// How the entry is cut into blocks and symbols. The plan of a stream has no length.
     pub fn plan(&self) -> Plan
         ensures { (r : EntryReads) → StandsFor r self.now → result ≡ (shape_of r.p r.object).cut }
     {
@@ -205,7 +206,7 @@ impl HeldEntry {
         }
     }
 
-    /// Whether it has info.
+    /// Whether it has info. A stream has none.
     pub fn has_info(&self) -> bool
         ensures { result ≡ is_some (held_info self.now) }
     {
@@ -289,8 +290,8 @@ impl HeldEntry {
         }
     }
 
-    /// Whether the entry with this index may go: all of it was sent, and in hold mode every member is listed past its last source symbol.
-    /// `past` is the least position that members are listed past.
+    /// Whether the entry with this index may go: its closed source symbols and its info, if it has them, were sent, and in hold mode every member is
+    /// listed past the last of those symbols. `past` is the least position that members are listed past.
     pub fn may_go(&self, profile: &Profile, index: u32, past: &Option<Position>) -> bool
         ensures { (ring : List ℕ) (object : Entered) (s : SenderState) → StandsFor (reads_of ring profile.now index object s) self.now
             → ((at : Place) → all_past s at ≡ reached_by past.now at) → result ≡ may_go profile.now s index (shape_of profile.now object) }
@@ -303,7 +304,7 @@ impl HeldEntry {
     }
 
     /// The first symbol from `at` on that is sent by itself: `at` itself, or the next block's first. `auto` parity symbols of each closed block are
-    /// sent by themselves. Of an open block only the closed segments are sent.
+    /// sent by themselves, or all if it has fewer. Of an open block only the closed segments are sent. `None` if there is none.
     pub fn next_in(&self, auto: u8, at: Position) -> Option<Position>
         ensures next { (r : EntryReads) → StandsFor r self.now → r.p.auto ≡ auto → IsNext r.p (shape_of r.p r.object) at result }
         ensures id { MatchOption result ⊤ (λ next. next.symbol < 255) }
@@ -314,7 +315,7 @@ impl HeldEntry {
         }
     }
 
-    /// The first kept symbol that is sent by itself, as by [`next_in`](HeldEntry::next_in). The entry has this index.
+    /// The first kept symbol that is sent by itself, as by [`next_in`](HeldEntry::next_in). The entry has this index. `None` if there is none.
     pub fn first_in(&self, auto: u8, index: u32) -> Option<Position>
         ensures next { (r : EntryReads) → StandsFor r self.now → r.p.auto ≡ auto
             → IsNext r.p (shape_of r.p r.object) (position index (first_of self.now) 0) result }
@@ -347,7 +348,7 @@ impl HeldEntry {
         }
     }
 
-    /// Marks an encoded symbol of a kept block as sent.
+    /// Marks an encoded symbol of a kept block as sent. For parity nothing changes.
     pub fn note_sent(&mut self, block: u32, symbol: u8)
         requires { IsKept self.old block }
         ensures stays { Stays self.old self.new }
@@ -361,7 +362,7 @@ impl HeldEntry {
         }
     }
 
-    /// Marks the info as sent.
+    /// Marks the info as sent. For a stream nothing changes, because it has none.
     pub fn note_info(&mut self)
         ensures stays { Stays self.old self.new }
         ensures first { first_of self.new ≡ first_of self.old }

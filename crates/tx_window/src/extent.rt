@@ -24,7 +24,7 @@ pub enum Extent {
     Stream { segments: u32 },
 }
 
-/// Whether an object of `len` octets has this source symbol.
+/// Whether an object of `len` octets has this source symbol. All of an object's are closed.
 fn is_of_object(profile: &Profile, len: u32, block: u32, symbol: u8) -> bool
     requires { IsSized (OfObject len) }
     ensures { result ≡ nat_lt symbol (closed_in (shape_of_extent profile.now (OfObject len)) block) }
@@ -41,7 +41,7 @@ fn is_of_stream(profile: &Profile, segments: u32, block: u32, symbol: u8) -> boo
     symbol < profile.b && number < u64::from(segments)
 }
 
-/// Whether an entry of this extent has this closed source symbol.
+/// Whether an entry of this extent has this source symbol, and it is closed. All of an object's are, and a stream's first `segments`.
 pub(crate) fn is_closed(profile: &Profile, extent: Extent, block: u32, symbol: u8) -> bool
     requires { IsSized extent }
     ensures { result ≡ nat_lt symbol (closed_in (shape_of_extent profile.now extent) block) }

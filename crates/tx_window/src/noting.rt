@@ -15,7 +15,8 @@ use crate::window::Window;
 use fec_plan::Position;
 
 impl Window {
-    /// Marks an encoded symbol of a kept block as sent.
+    /// Marks an encoded symbol of a kept block as sent. For parity nothing changes. An entry may go only after all its closed source symbols are
+    /// marked.
     // It does not say that the cut of the entry is sound, as `plan` does and the union's `note_sent`: it would make a plan for each symbol that is
     // sent.
     pub fn note_sent(&mut self, at: Position)
@@ -28,7 +29,7 @@ impl Window {
         self.held[place].note_sent(at.block, at.symbol);
     }
 
-    /// Marks the info of an entry of the window as sent.
+    /// Marks the info of an entry of the window as sent. Until then an entry with info may not go.
     pub fn note_info(&mut self, index: u32)
         requires { IsInWindow self.old index }
         ensures stands { WindowMoves self.old self.new (noted (InfoOf index)) }

@@ -39,14 +39,14 @@ fn is_stream(entry: &HeldEntry) -> bool
     }
 }
 
-/// How many of the entries are streams.
+/// How many of the entries are streams. Visits each.
 pub(crate) fn count_streams(held: &VecDeque<HeldEntry>) -> u32
     requires { length held.now.items ≤ 4294967295 }
     ensures { (ring : List ℕ) (p : Settings) (first : ℕ) (s : SenderState) (entries : List Entry) → AreEntries ring p first entries s held.now.items
         → result ≡ length (filter is_stream entries) }
 {
     let mut streams = 0;
-    // Proof: by place, so that the loop's invariant speaks of so many entries.
+    // Proof: by index, so that the loop's invariant speaks of this many entries.
     for place in 0..held.len() {
         if is_stream(&held[place]) {
             streams += 1;
@@ -63,7 +63,7 @@ pub(crate) fn count_repairable(held: &VecDeque<HeldEntry>) -> u64
         → result ≡ length (filter (stands_behind (point first (first_block held.now.items))) (encoded_from first (shapes_of p entries))) }
 {
     let mut repairable = 0;
-    // Proof: by place, so that the loop's invariant speaks of so many entries.
+    // Proof: by index, so that the loop's invariant speaks of this many entries.
     for place in 0..held.len() {
         repairable += held[place].repairable();
     }
@@ -77,7 +77,7 @@ pub(crate) fn hold_range(profile: &Profile)
     let _value = profile.e;
 }
 
-/// How many octets a stream's buffer has.
+/// How many octets of the window a stream takes: those of its buffer's segments, without their headers.
 pub(crate) fn buffer_len(profile: &Profile) -> u64
     ensures exact { result ≡ profile.now.blocks * profile.now.b * profile.now.e }
     ensures range { InRange profile.now }
@@ -86,14 +86,13 @@ pub(crate) fn buffer_len(profile: &Profile) -> u64
     u64::from(profile.blocks) * u64::from(profile.b) * u64::from(profile.e)
 }
 
-/// How many octets a window may have.
 fn most_octets(profile: &Profile) -> u64
     ensures { result ≡ profile.now.octets }
 {
     u64::from(profile.octets)
 }
 
-/// How many entries have to go for one of `len` octets, and how many octets the others take. All take `octets` before.
+/// How many of the first entries have to go for one of `len` octets, and how many octets the others take. All take `octets` before.
 fn room_for(profile: &Profile, held: &VecDeque<HeldEntry>, octets: u32, len: u32) -> (usize, u32)
     requires octets { octets ≡ all_sizes profile.now held.now.items }
     requires most { octets ≤ profile.now.octets }
@@ -107,7 +106,7 @@ fn room_for(profile: &Profile, held: &VecDeque<HeldEntry>, octets: u32, len: u32
         → result.0 ≡ has_to_go profile.now len entries }
 {
     let mut left = octets;
-    // Proof: by place, so that the loop's invariant speaks of so many entries.
+    // Proof: by index, so that the loop's invariant speaks of this many entries.
     for place in 0..held.len() {
         let few = held.len() - place < usize::from(profile.window);
         if few && left + len <= profile.octets {
@@ -118,7 +117,7 @@ fn room_for(profile: &Profile, held: &VecDeque<HeldEntry>, octets: u32, len: u32
     (held.len(), left)
 }
 
-/// Whether there is room for an entry of `len` octets, if there are `entries` already and they take `octets`.
+/// Whether one more entry, of `len` octets, exceeds neither the profile's `window` entries nor its `octets`.
 fn has_room(profile: &Profile, entries: usize, octets: u32, len: u32) -> bool
     requires most { octets ≤ profile.now.octets }
     requires len { len ≤ profile.now.octets }
@@ -141,7 +140,7 @@ fn reserve(held: &mut VecDeque<HeldEntry>, extents: &mut VecDeque<Extent>) -> bo
     held.reserve(1).is_ok() && extents.reserve(1).is_ok()
 }
 
-/// Drops the first `count` entries.
+/// Drops the first `count` entries, and frees the memory of the streams among them. Their extents stay.
 pub(crate) fn drop_front(held: &mut VecDeque<HeldEntry>, count: usize)
     requires { count ≤ length held.old.items }
     ensures items { held.new.items ≡ drop count held.old.items }
@@ -196,7 +195,7 @@ pub(crate) fn join(
     keep_extent(extents, forgotten, extent)
 }
 
-/// The first fault in the sizes of an object and of its info, in octets.
+/// The first of `Empty`, `TooBig` and `InfoTooBig` that applies to an object of `len` octets with `info` octets of info.
 // Proof: early returns in the order of the rules' table, so that each is answered by itself.
 #[tactic(auto, unfolding(norm_order::specs::First::first_where))]
 fn size_fault(profile: &Profile, info: usize, len: u64) -> Option<EnqueueFault>
@@ -217,7 +216,7 @@ fn size_fault(profile: &Profile, info: usize, len: u64) -> Option<EnqueueFault>
 }
 
 impl Window {
-    /// Whether there is a first entry that may not go.
+    /// Whether there is a first entry that may not go. Then none may, because entries go in their order.
     fn is_held_up(&self) -> bool
         ensures { (s : SenderState) → Stands self.now s → result ≡ true → may_all_go self.now.p s self.now.dropped (take 1 (window s)) ≡ false }
     {
@@ -281,7 +280,8 @@ impl Window {
         self.joining_fault(len as u32)
     }
 
-    /// Why a stream would not be opened now: the first fault that applies. Does not ask whether memory suffices.
+    /// Why a stream would not be opened now: the first fault that applies. Does not ask whether memory suffices. `TooBig` if a stream's buffer alone
+    /// exceeds the window's octets.
     pub fn open_fault(&self) -> Option<EnqueueFault>
         requires begun { self.now.filling ≡ None }
         ensures exact { (s : SenderState) → Stands self.now s → result ≡ open_fault self.now.p s }

@@ -26,7 +26,6 @@ use norm_send_rules::EnqueueFault;
 use std::collections::VecDeque;
 use stream_buffer::HeldStream;
 
-/// Replaces the last extent, if there is one.
 fn set_last(extents: &mut VecDeque<Extent>, extent: Extent)
     ensures items { extents.new.items ≡ slice_set extents.old.items (length extents.old.items - 1) extent }
     ensures room { deque_capacity extents.new ≡ deque_capacity extents.old }
@@ -38,7 +37,7 @@ fn set_last(extents: &mut VecDeque<Extent>, extent: Extent)
     extents[last] = extent;
 }
 
-/// The first fault in the size of a write, `len` octets.
+/// `Empty` for a write of no octets. `TooBig` if it has more octets than the stream's buffer without one block.
 #[tactic(auto, unfolding(norm_order::specs::First::first_where))]
 fn write_size_fault(profile: &Profile, len: usize) -> Option<EnqueueFault>
     ensures exact { result ≡ write_size_fault profile.now len }
@@ -188,7 +187,7 @@ impl Window {
         }
     }
 
-    /// The last closed source symbol once the open stream is cut, even if its entry was dropped. Cuts nothing.
+    /// The last closed source symbol once the open stream is cut, even if its entry was dropped. Cuts nothing. `None` if there is none.
     // Asked before the cut: what takes memory for a mark comes first, so that a lack of memory leaves the whole sender as it was.
     pub fn end_cut(&self) -> Option<Position>
         ensures { (s : SenderState) → Stands self.now s → result ≡ last_source (current_shapes self.now.p (cut self.now.p s)) }
@@ -205,7 +204,7 @@ impl Window {
         last_of(entry.last_cut(self.dropped + place as u32), self.last)
     }
 
-    /// How many segments of the last entry, a stream, are closed. They have room, and 24 bits number their blocks.
+    /// How many segments of the last entry, a stream, are closed, given up or not. They have room, and 24 bits number their blocks.
     pub fn segments(&self) -> u32
         ensures exact { (s : SenderState) (parts : List Part) → Stands self.now s → EndsIn parts s → result ≡ (shape_of self.now.p (Streamed parts)).closed }
         ensures room { (s : SenderState) (parts : List Part) → Stands self.now s → EndsIn parts s

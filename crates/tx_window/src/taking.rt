@@ -138,7 +138,7 @@ impl Window {
         Ok(())
     }
 
-    /// How many octets the begun object has once it is full.
+    /// How many octets the begun object has once it is full. 0 if none is begun.
     pub fn begun_len(&self) -> u32
         ensures { (f : Filling) → self.now.filling ≡ Some f → result ≡ f.len }
     {
@@ -148,7 +148,7 @@ impl Window {
         }
     }
 
-    /// Copies the next octets of the begun object into the window.
+    /// Copies the next octets of the begun object into the window, in pieces of any length. Takes no memory.
     pub fn fill(&mut self, piece: &[u8])
         requires { MatchOption self.old.filling ⊥ (λ f. length f.octets + length piece.now ≤ f.len) }
         ensures filling { (f : Filling) → self.old.filling ≡ Some f → self.new.filling ≡ Some (with_piece piece.now f) }
@@ -164,7 +164,7 @@ impl Window {
         self.filled += piece.len();
     }
 
-    /// Adds the begun object to the order, and returns its index. All its octets have to be there.
+    /// Adds the begun object to the order, and returns its index. All its octets have to be there. Takes no memory, and so cannot fail.
     pub fn finish(&mut self) -> u32
         requires { MatchOption self.old.filling ⊥ (λ f. length f.octets ≡ f.len) }
         ensures index { (s : SenderState) → Stands self.old s → result ≡ next_index_of s }
@@ -231,7 +231,7 @@ impl Window {
     ///
     /// The first of `Empty`, `TooBig`, `InfoTooBig`, `StreamOpen`, `IdsSpent` and `WindowFull` that applies, with the info and the octets; or
     /// `Memory` without them. Then the window is as it was.
-    // Only tests call it so far: a sender makes the steps itself, since a file comes in pieces. It stays for programs over this crate.
+    // Only tests call it: a sender makes the steps itself, since a file comes in pieces. It stays for programs over this crate.
     pub fn enqueue(
         &mut self,
         kind: Kind,

@@ -49,7 +49,7 @@ pub struct Window {
     pub(crate) profile: Profile,
     pub(crate) ring: Ring,
     pub(crate) held: VecDeque<HeldEntry>,
-    /// How many of the first entries were forgotten. No id names one of them.
+    /// How many of the first entries have no extent any more. No id names one of them.
     pub(crate) forgotten: u32,
     /// How far each of the other entries reaches, dropped or not.
     pub(crate) extents: VecDeque<Extent>,
@@ -57,13 +57,13 @@ pub struct Window {
     pub(crate) octets: u32,
     /// The offset in the ring of the octet after the objects, with the one that is being filled.
     pub(crate) free: usize,
-    /// The object that is being filled.
+    /// The object that is being filled. It is no entry yet.
     pub(crate) begun: Option<Held>,
     /// How many of its octets are there.
     pub(crate) filled: usize,
-    /// How many entries were dropped.
+    /// How many entries were dropped: the index of the first one in `held`.
     pub(crate) dropped: u32,
-    /// The last closed source symbol of the order.
+    /// The last closed source symbol of the order, even if its entry was dropped.
     pub(crate) last: Option<Position>,
     /// The least position that members are listed past. `None` if a member is listed past nothing.
     pub(crate) past: Option<Position>,
@@ -91,7 +91,7 @@ pub struct About {
     pub flags: u8,
 }
 
-/// How many parity symbols of a block are sent by themselves.
+/// How many parity symbols of a block are sent by themselves, if it has as many.
 fn auto_of(profile: &Profile) -> u8
     ensures exact { result ≡ profile.now.auto }
     ensures range { InRange profile.now }
@@ -99,7 +99,7 @@ fn auto_of(profile: &Profile) -> u8
     profile.auto
 }
 
-/// The first kept symbol of an entry from `from` on that is sent by itself, with `auto` parity symbols of each closed block.
+/// The first kept symbol of an entry from `from` on that is sent by itself, with `auto` parity symbols of each closed block. `None` if there is none.
 fn next_of(entry: &HeldEntry, auto: u8, from: Position) -> Option<Position>
     ensures next { (r : EntryReads) → StandsForEntry r entry.now → r.p.auto ≡ auto → IsNext r.p (shape_of r.p r.object) (later_of from (first_of entry.now)) result }
     ensures id { MatchOption result ⊤ (λ next. next.symbol < 255) }
@@ -121,7 +121,7 @@ fn entry_at(held: &VecDeque<HeldEntry>, dropped: u32, index: u32) -> Option<&Hel
 }
 
 impl Window {
-    /// Returns an empty window.
+    /// Returns an empty window, with the memory for the octets of all objects and for the profile's `window` entries.
     ///
     /// # Errors
     ///
@@ -168,15 +168,15 @@ impl Window {
         (self.dropped, entry.first_block())
     }
 
-    /// The last closed source symbol of the order, even if its entry was dropped.
-    // Only tests call this and `streams` so far. They stay for programs that ask a sender for its window.
+    /// The last closed source symbol of the order, even if its entry was dropped. `None` if no source symbol was closed.
+    // Only tests call it. It stays for programs that ask a sender for its window.
     pub fn end(&self) -> Option<Position>
         ensures { (s : SenderState) → Stands self.now s → result ≡ last_source (current_shapes self.now.p s) }
     {
         self.last
     }
 
-    /// The index that the next entry gets.
+    /// The index that the next entry gets: how many entries this instance had, dropped ones among them.
     pub fn next_index(&self) -> u32
         ensures exact { (s : SenderState) → Stands self.now s → result ≡ next_index_of s }
         ensures number { result ≡ self.now.dropped + length self.now.entries }
@@ -283,7 +283,7 @@ impl Window {
         None
     }
 
-    /// The first info or symbol from the symbol `from` on that is new. `None` if there is none.
+    /// The first info or kept symbol from the symbol `from` on that is sent by itself. `None` if there is none.
     fn next_symbol(&self, from: Position) -> Option<Want>
         ensures exact { (s : SenderState) → Stands self.now s → s.next ≡ Symbol from → result ≡ next_new self.now.p s }
         ensures id { MatchOption result ⊤ HasNext }
@@ -323,7 +323,7 @@ impl Window {
         is_closed(&self.profile, extent, at.block, at.symbol)
     }
 
-    /// How many streams are enqueued and not wholly dropped.
+    /// How many streams are enqueued and not wholly dropped. Visits each entry.
     pub fn streams(&self) -> u32
         ensures { (s : SenderState) → Stands self.now s → result ≡ streams s }
     {
