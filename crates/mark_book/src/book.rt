@@ -90,7 +90,7 @@ impl Book {
     }
 
     /// Returns what a node is listed past. `None` if it is not a member, or is listed past nothing.
-    // Only tests call this, `position` and `outcome` so far. They stay for programs that ask a sender for its book.
+    // Only tests call this and `position`. They stay for programs that ask a sender for its book.
     pub fn past(&self, node: NodeId) -> Option<Position>
         ensures { (p : Settings) (s : SenderState) → Stands p self.now s → result ≡ listing_of s node }
     {
@@ -127,7 +127,7 @@ impl Book {
         self.watermarks.expire(&self.listings, mark);
     }
 
-    /// Returns the position of a watermark. `None` if none has this number.
+    /// Returns the position of a watermark, open or ended. `None` if none has this number.
     pub fn position(&self, mark: u32) -> Option<Position>
         ensures { (p : Settings) (s : SenderState) → Stands p self.now s → result ≡ option_map (λ (w : Mark). w.at) (rules.watermark_of s mark) }
     {
@@ -135,7 +135,7 @@ impl Book {
         Some(watermark.at)
     }
 
-    /// Returns what became of a watermark. `None` if none has this number.
+    /// Returns what became of a watermark. `None` if none has this number: a watermark that ended keeps its number.
     pub fn outcome(&self, mark: u32) -> Option<Outcome>
         ensures { (p : Settings) (s : SenderState) → Stands p self.now s → result ≡ option_map (rules.outcome_of s) (rules.watermark_of s mark) }
     {
@@ -162,7 +162,7 @@ impl Book {
         self.listings.write_left(at, out);
     }
 
-    /// Returns the oldest open watermark. `None` if none is open.
+    /// Returns the oldest open watermark. `None` if none is open. Looks at no watermark before the first whose outcome was not reported.
     pub fn oldest(&self) -> Option<OpenWatermark>
         ensures { (p : Settings) (s : SenderState) → Stands p self.now s → result ≡ option_map open_watermark (rules.oldest s) }
     {
@@ -173,7 +173,7 @@ impl Book {
         })
     }
 
-    /// Returns how many watermarks are open.
+    /// Returns how many watermarks are open, at most 16. The cost does not depend on how many were made.
     pub fn open(&self) -> u32
         ensures { (p : Settings) (s : SenderState) → Stands p self.now s → result ≡ length (rules.open_watermarks s) }
     {
@@ -217,7 +217,7 @@ impl Book {
         Ok(())
     }
 
-    /// Strikes a member that is not the only one.
+    /// Strikes a node without a check: [`strike`](Book::strike) found that it is a member, and not the only one.
     fn strike_off(&mut self, node: NodeId)
         requires { 1 < length self.old.listings }
         ensures { (p : Settings) (s : SenderState) → Stands p self.old s → Stands p self.new (struck_off node s) }

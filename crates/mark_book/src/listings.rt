@@ -53,7 +53,7 @@ impl Listings {
         Ok(Listings { past })
     }
 
-    /// Returns how many members there are.
+    /// Returns how many members there are, without those that were struck.
     pub fn len(&self) -> u32
         requires { length self.now < 2 ^ 32 }
         ensures { result ≡ length self.now }
@@ -61,7 +61,7 @@ impl Listings {
         self.past.len() as u32
     }
 
-    /// Whether a node is a member.
+    /// Whether a node is a member: a receiver that was not struck.
     pub fn lists(&self, node: NodeId) -> bool
         ensures { result ≡ list_any (λ (l : Listing). l.node == node) self.now }
     {
@@ -76,7 +76,7 @@ impl Listings {
         *past
     }
 
-    /// Whether a node is a member and not yet listed past `at`.
+    /// Whether a node is a member and not yet listed past `at`. If not, an acknowledgement up to `at` is no news.
     pub fn rises(&self, node: NodeId, at: Position) -> bool
         ensures { result ≡ list_any (λ l. l.node == node && not (is_past at l)) self.now }
     {
@@ -98,14 +98,14 @@ impl Listings {
         *past = Some(at);
     }
 
-    /// Forgets what each member is listed past.
+    /// Forgets what each member is listed past. The members stay.
     pub fn forget(&mut self)
         ensures { self.new ≡ unlisted (map (λ (l : Listing). l.node) self.old) }
     {
         forget_all(&mut self.past);
     }
 
-    /// Removes a node from the members. The others keep their order.
+    /// Removes a node from the members, if it is one. The others keep their order.
     pub fn strike(&mut self, node: NodeId)
         ensures left { self.new ≡ filter (λ l. not (l.node == node)) self.old }
         ensures one { length self.old ≤ length self.new + 1 }
@@ -121,7 +121,7 @@ impl Listings {
         count_reached(self.past.values().as_slice(), at) as u32
     }
 
-    /// Returns how many members are not listed past a position.
+    /// Returns how many members are not listed past a position, with those that are listed past nothing.
     pub fn count_left(&self, at: Position) -> u32
         requires { length self.now < 2 ^ 32 }
         ensures { result ≡ left_count self.now at }
@@ -140,7 +140,7 @@ impl Listings {
         }
     }
 
-    /// Whether enough members are listed past a position.
+    /// Whether enough members are listed past a position: `quorum` of them, or all if there is no quorum or it is above their number.
     pub fn is_met(&self, quorum: Option<u32>, at: Position) -> bool
         requires { length self.now < 2 ^ 32 }
         ensures { result ≡ is_met_by self.now quorum at }
@@ -203,20 +203,20 @@ fn forget_all(past: &mut IndexMap<NodeId, Option<Position>>)
     ensures forgotten { past.new.entries ≡ map unsaid past.old.entries }
     ensures unique { IsUnique nat_eq past.new }
 {
-    // Proof: by place, since a map's values go by index in what is said of them.
+    // Proof: by index, since a map's values go by index in what is said of them.
     for place in 0..past.len() {
         past[place] = None;
     }
 }
 
-/// Returns how many of these reach a position.
+/// Returns how many of these reach a position. `None` reaches none.
 fn count_reached(listed: &[Option<Position>], at: Position) -> usize
     ensures { result ≡ length (filter (λ o. reached_by o at) listed.now) }
 {
     listed.iter().filter(|past| reached_by(**past, &at)).count()
 }
 
-/// Returns how many of these do not reach a position.
+/// Returns how many of these do not reach a position. `None` reaches none.
 fn count_short(listed: &[Option<Position>], at: Position) -> usize
     ensures { result ≡ length (filter (λ o. not (reached_by o at)) listed.now) }
 {

@@ -58,7 +58,7 @@ impl Model for Watermark {
 }
 
 impl Watermark {
-    /// Creates an open watermark.
+    /// Creates an open watermark. Does not ask whether enough members are past it already.
     pub fn new(mark: u32, at: Position, quorum: Option<u32>) -> Watermark
         ensures { result ≡ opened mark at quorum }
     {
@@ -81,14 +81,14 @@ impl Watermark {
         }
     }
 
-    /// Whether the watermark has not ended.
+    /// Whether the watermark was neither satisfied nor cut, and did not expire.
     pub fn is_open(&self) -> bool
         ensures { result ≡ is_none self.now.ended }
     {
         self.ended.is_none()
     }
 
-    /// Returns 1 if the watermark is open, and otherwise 0.
+    /// Returns 1 if the watermark is open, and otherwise 0, for a sum.
     pub fn count_open(&self) -> usize
         ensures { result ≡ open_count (self.now ∷ []) }
     {
@@ -115,7 +115,7 @@ impl Watermark {
         }
     }
 
-    /// Returns the watermark, satisfied if it is open and enough members are past it.
+    /// Returns the watermark, satisfied if it is open and enough members are past it. That outcome is then to be reported.
     pub fn settled(&self, listings: &Listings) -> Watermark
         requires { length listings.now < 2 ^ 32 }
         ensures { result ≡ settled_by listings.now self.now }
@@ -130,7 +130,8 @@ impl Watermark {
         }
     }
 
-    /// Returns the watermark, expired if it is open and has this number.
+    /// Returns the watermark, expired if it is open and has this number. The outcome says how many members had not confirmed it, and is to be
+    /// reported.
     pub fn expired(&self, listings: &Listings, mark: u32) -> Watermark
         requires { length listings.now < 2 ^ 32 }
         ensures { result ≡ expired_by listings.now mark self.now }
@@ -147,7 +148,7 @@ impl Watermark {
         }
     }
 
-    /// Returns the watermark, cut if it is open.
+    /// Returns the watermark, cut if it is open. That outcome is then to be reported.
     pub fn cut(&self) -> Watermark
         ensures { result ≡ cut_off self.now }
     {

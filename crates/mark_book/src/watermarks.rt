@@ -20,7 +20,7 @@ const MOST_WATERMARKS: usize = 4_294_967_295;
 ///
 /// The first `done` of them ended and were reported, and are not looked at again. `still_open` of all are open. It is kept because one that stays
 /// open keeps all later ones out of that prefix.
-// `done` only rises. What ended and was told is never changed again, so a sender that runs for long does not look at all its old watermarks in
+// `done` only rises. What ended and was reported is never changed again, so a sender that runs for long does not look at all its old watermarks in
 // each turn. `still_open` is exact: a greater number would refuse marks for good.
 #[derive(Debug, Drop)]
 pub struct Watermarks {
@@ -54,7 +54,7 @@ impl Watermarks {
         }
     }
 
-    /// Returns the watermark with this number. `None` if there is none.
+    /// Returns the watermark with this number. `None` if there is none. Not searched for: the numbers count up from 1.
     pub fn find(&self, mark: u32) -> Option<Watermark>
         ensures { result ≡ find (λ k. k.mark == mark) self.now }
     {
@@ -67,7 +67,7 @@ impl Watermarks {
         Some(self.all[mark as usize - 1])
     }
 
-    /// Returns the oldest open watermark. `None` if none is open.
+    /// Returns the oldest open watermark. `None` if none is open. Passes over the first `done`.
     pub fn oldest(&self) -> Option<Watermark>
         ensures { result ≡ find (λ k. is_none k.ended) self.now }
     {
@@ -81,7 +81,7 @@ impl Watermarks {
         self.still_open as u32
     }
 
-    /// Returns how many outcomes are to be reported.
+    /// Returns how many outcomes are to be reported. Passes over the first `done`.
     pub fn count_untold(&self) -> u32
         ensures { result ≡ length (filter (λ k. k.untold) self.now) }
     {
@@ -110,7 +110,7 @@ impl Watermarks {
         Ok(mark)
     }
 
-    /// Satisfies each open watermark that enough members are past.
+    /// Satisfies each open watermark that enough members are past. Passes over the first `done`.
     // Proof: only those from done on are written. The rule leaves those before as they are (rest_written).
     pub fn settle(&mut self, listings: &Listings)
         requires { length listings.now < 2 ^ 32 }
@@ -131,7 +131,7 @@ impl Watermarks {
         self.still_open = still_open;
     }
 
-    /// Cuts each open watermark.
+    /// Cuts each open watermark. Those outcomes are then to be reported.
     pub fn cut(&mut self)
         ensures cut { self.new ≡ map cut_off self.old }
         ensures numbered { AreNumbered 1 self.old }
@@ -182,7 +182,6 @@ fn expire(watermarks: &mut [Watermark], listings: &Listings, mark: u32) -> usize
     still_open
 }
 
-/// Cuts each open watermark.
 fn cut(watermarks: &mut [Watermark])
     ensures { watermarks.new ≡ map cut_off watermarks.old }
 {
@@ -191,7 +190,6 @@ fn cut(watermarks: &mut [Watermark])
     }
 }
 
-/// Returns how many outcomes are to be reported.
 fn count_untold(watermarks: &[Watermark]) -> usize
     ensures { result ≡ length (filter (λ k. k.untold) watermarks.now) }
 {
@@ -224,7 +222,6 @@ fn tell_first(watermarks: &mut [Watermark]) -> Option<Watermark>
     None
 }
 
-/// Returns how many watermarks are finished before the first that is not.
 fn count_finished(watermarks: &[Watermark]) -> usize
     ensures { result ≡ prefix_len is_finished watermarks.now }
 {

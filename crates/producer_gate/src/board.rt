@@ -79,7 +79,7 @@ impl Model for Front {
 }
 
 impl Front {
-    /// Returns how many entries were published.
+    /// Returns how many entries the board had published when it made this front.
     pub fn count(&self) -> u64
         ensures { result ≡ length self.now.entries }
     {
@@ -130,7 +130,7 @@ impl Board {
         Ok(self.front())
     }
 
-    /// Returns the front of all entries that were published.
+    /// Returns the front of all entries that are published by now, as the last [`publish`](Board::publish) did.
     pub fn front(&mut self) -> Front
         ensures same { self.new ≡ self.old }
         ensures front { result ≡ front_of self.old }
@@ -154,7 +154,6 @@ impl Board {
     }
 }
 
-// Only tests call a reader so far: the program's own board has one that nobody asks. Readers stay for programs whose producers wait for outcomes.
 impl BoardReader {
     /// Learns of a front of the reader's board. From now on the reader sees at least the entries of this front.
     pub fn learn(&mut self, front: Front)
@@ -173,7 +172,7 @@ impl BoardReader {
     }
 
     /// Returns what the last entry of a watermark says, among all that are published now. They include each entry that this reader saw before or
-    /// learned of.
+    /// learned of. Reads them from the last one back.
     pub fn outcome(&mut self, mark: u32) -> Seen
         ensures same { self.new.board ≡ self.old.board }
         ensures before { IsPrefix self.old.known self.new.known }

@@ -7,7 +7,7 @@ pub struct Submitted {
     pub producer: u32,
     /// Its number among the commands of this producer, from 1.
     pub number: u64,
-    /// The item that was submitted.
+    /// What the producer submitted. The gate does not read it.
     pub item: u32,
 }
 

@@ -13,8 +13,7 @@ pub enum Seen {
     Known(Outcome),
 }
 
-/// The number of kinds of outcomes.
-// The variants of `Outcome`.
+/// How many variants `Outcome` has. Two bits hold which one it is.
 const KINDS: u64 = 4;
 
 /// The number of values that a count of 32 bits has.
@@ -33,7 +32,7 @@ pub(crate) fn word_of(outcome: Outcome) -> u64
     }
 }
 
-/// Returns the outcome that a 64-bit word stands for.
+/// Undoes [`word_of`]. Of a count, the lowest 32 bits are read, so every 64-bit word stands for an outcome.
 pub(crate) fn outcome_of(word: u64) -> Outcome
     ensures { result ≡ outcome_in word }
 {

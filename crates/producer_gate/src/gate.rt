@@ -154,7 +154,7 @@ impl Gate {
     }
 
     /// Ends a gate. Call it after all threads have given their seats back. Returns what was pulled, in order, and how many commands were not.
-    // Only tests call it so far: a session's run keeps what was pulled. It stays for programs over this crate.
+    // Only tests call it: a session's run keeps what was pulled. It stays for programs over this crate.
     pub fn close(self, seats: Vec<Seat>, pull: PullSeat) -> Order
         requires seats { All (λ s. s.gate ≡ self.id) seats.items }
         requires every { vec_len seats ≡ self.producers }

@@ -6,7 +6,7 @@ use crossbeam_queue::protocol::{Join, Lesson, Outcome, Protocol, Split};
 use crossbeam_queue::{Pass, RuledArrayQueue};
 use std::collections::LinkedList;
 
-/// What a pass knows.
+/// What a pass of the ring knows, by the kind of its seat.
 pub enum Knows {
     /// How many seats were made, what was pulled, and which seat was taken in last, with what it submitted.
     Pulls(u32, LinkedList<Submitted>, u32, LinkedList<u32>),
@@ -55,7 +55,7 @@ impl Join<Knows> for TakesIn {
     ghost spent = { Spent };
 }
 
-/// A push.
+/// A push. Its producer's pass then knows one item more.
 pub struct Adds;
 
 impl Outcome<Submitted, Knows> for Adds {
@@ -70,7 +70,7 @@ impl Lesson<Submitted, Knows> for Adds {
     ghost fact = { WasSo };
 }
 
-/// A pull.
+/// A pull. The pull seat's pass then knows one command more, the next one of its producer.
 pub struct Takes;
 
 impl Outcome<Submitted, Knows> for Takes {

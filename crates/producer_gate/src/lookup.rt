@@ -28,7 +28,7 @@ pub(crate) fn post(words: &Words, place: &mut Place, count: u64, first: u64, sec
     show(words, place, count);
 }
 
-/// Returns what the last entry of a watermark says, of the `count` entries that the reader knows.
+/// Returns what the last entry of a watermark says, of the `count` entries that the reader knows. Reads them from the last one back.
 pub(crate) fn find_last(words: &Words, place: &mut Place, count: usize, mark: u64) -> Seen
     requires place { IsAt words.now.shared.table_id place.old × IsReader place.old.me.0 }
     requires count { (count ≡ length (known_in place.old.me.0)) × (count ≤ 4096) }

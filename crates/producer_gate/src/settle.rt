@@ -66,7 +66,6 @@ pub(crate) fn seats_of(
     Ok(seats)
 }
 
-// How many of these names are a producer's.
 fn count_of(names: &[(u32, u64)], producer: u32) -> usize
     ensures { result ≡ count_by (λ e. e.0 == producer) names.now }
 {

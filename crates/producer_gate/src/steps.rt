@@ -9,7 +9,7 @@ use crate::words::{
     Compares, Hears, Looks, Notes, Place, PutsFirst, PutsSecond, Reads, Shows, Words,
 };
 
-/// Writes the first word of entry `at`, which is the next one and not yet published.
+/// Writes the first word of entry `at`, a watermark's number. The entry is the next one and not yet published.
 pub(crate) fn put_first(words: &Words, place: &mut Place, at: usize, word: u64)
     requires place { IsAt words.now.shared.table_id place.old × IsWriter place.old.me.0 }
     requires room { (at ≡ length (own_in place.old.me.0)) × (at < 4096) }
@@ -19,7 +19,7 @@ pub(crate) fn put_first(words: &Words, place: &mut Place, at: usize, word: u64)
     words.shared.store::<PutsFirst>(place, 2 * at + 1, word);
 }
 
-/// Writes the second word of entry `at`, which is the next one and not yet published.
+/// Writes the second word of entry `at`, an outcome. The entry is the next one and not yet published.
 pub(crate) fn put_second(words: &Words, place: &mut Place, at: usize, word: u64)
     requires place { IsAt words.now.shared.table_id place.old × IsWriter place.old.me.0 }
     requires room { (at ≡ length (own_in place.old.me.0)) × (at < 4096) }
@@ -39,7 +39,7 @@ pub(crate) fn show(words: &Words, place: &mut Place, at: u64)
     words.shared.store::<Shows>(place, 0, at + 1);
 }
 
-/// Reads how many entries are published.
+/// Reads how many entries are published. The reader knows all of them from then on.
 pub(crate) fn look(words: &Words, place: &mut Place) -> usize
     requires place { IsAt words.now.shared.table_id place.old × IsReader place.old.me.0 }
     ensures place { IsAt words.now.shared.table_id place.new × IsReader place.new.me.0 }
@@ -49,7 +49,7 @@ pub(crate) fn look(words: &Words, place: &mut Place) -> usize
     words.shared.load::<Looks>(place, 0) as usize
 }
 
-/// Reads the first word of an entry that the reader knows.
+/// Reads the watermark's number, the first word of an entry that the reader knows.
 pub(crate) fn first_at(words: &Words, place: &mut Place, at: usize) -> u64
     requires place { IsAt words.now.shared.table_id place.old × IsReader place.old.me.0 }
     requires room { (at < length (known_in place.old.me.0)) × (at < 4096) }
@@ -59,7 +59,7 @@ pub(crate) fn first_at(words: &Words, place: &mut Place, at: usize) -> u64
     words.shared.load::<Reads>(place, 2 * at + 1)
 }
 
-/// Reads the second word of an entry that the reader knows.
+/// Reads the outcome, the second word of an entry that the reader knows.
 pub(crate) fn second_at(words: &Words, place: &mut Place, at: usize) -> u64
     requires place { IsAt words.now.shared.table_id place.old × IsReader place.old.me.0 }
     requires room { (at < length (known_in place.old.me.0)) × (at < 4096) }

@@ -67,7 +67,7 @@ impl Play<u8, Role> for Shows {
     ghost then = { Shown };
 }
 
-/// Reads the count.
+/// Reads the count. The reader then knows as many entries, with all that it knew and was told of.
 pub struct Looks;
 
 impl Play<u8, Role> for Looks {
@@ -76,7 +76,7 @@ impl Play<u8, Role> for Looks {
     ghost then = { Looked };
 }
 
-/// Reads a word of an entry.
+/// Reads a word of an entry. A reader learns something by it only if it knows the entry.
 pub struct Reads;
 
 impl Play<u8, Role> for Reads {
@@ -85,7 +85,7 @@ impl Play<u8, Role> for Reads {
     ghost then = { Read };
 }
 
-/// Compares what a reader knows with what is published.
+/// Compares the entries of the note that the writer took in last with those that it published.
 pub struct Compares;
 
 impl Play<u8, Role> for Compares {
@@ -105,7 +105,7 @@ impl Split<Role> for Notes {
     ghost right = { noted };
 }
 
-/// Takes in a note.
+/// Takes in a note, whose own seat knows nothing after that.
 pub struct Hears;
 
 impl Join<Role> for Hears {
