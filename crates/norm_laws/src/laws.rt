@@ -10,16 +10,15 @@ pub fn idle_has_sent()
     ensures { IdleHasSent }
 {}
 
-/// Nothing is dropped before it was sent. If a sender is idle, each closed source symbol and each info of its order was sent in the
-/// instance, dropped or not.
+/// If a sender is idle, each closed source symbol and each info of its order was sent in the instance, even if it was dropped since.
 #[tactic(auto, using(crate::proofs::IdleRun::idle_has_sources))]
 pub fn idle_has_sources()
     ensures { IdleHasSources }
 {}
 
-/// Everything is handed up if a lawful run passes on each datagram of the sender before its next tick: delivers it to all receivers, and
-/// takes their hand-ups. Whenever the sender is idle then, every receiver has handed up everything of the current instance's order, and
-/// nothing else.
+/// Everything is handed up if a lawful run passes on each datagram of the sender before its next tick and before the end: delivers it to all
+/// receivers, and takes their hand-ups. If the sender is idle at the end, every receiver has handed up everything of the current instance's order
+/// whose source symbols are closed, and nothing else.
 pub fn all_is_handed_up()
     ensures { AllIsHandedUp }
 {}

@@ -11,25 +11,25 @@ pub fn segments()
     ensures { SegmentLaws }
 {}
 
-/// What is handed up before a watermark is a prefix of what is handed up before a later one.
+/// What is handed up through a watermark is a prefix of what is handed up through a later one.
 #[tactic(auto, using(crate::proofs::UptoLemmas::grows_with_position))]
 pub fn later_watermarks()
     ensures { GrowsWithPosition }
 {}
 
-/// What is handed up before a watermark stays the same if entries are added to the order.
+/// What is handed up through a watermark stays the same if entries are added to the order.
 #[tactic(auto, using(crate::proofs::UptoLemmas::kept_as_order_grows))]
 pub fn later_entries()
     ensures { KeptAsOrderGrows }
 {}
 
-/// What is handed up before a watermark stays the same if an open stream goes on.
+/// What is handed up through a watermark stays the same if an open stream goes on.
 #[tactic(auto, using(crate::proofs::GoingOnLemmas::kept_as_stream_goes_on))]
 pub fn longer_streams()
     ensures { KeptAsStreamGoesOn }
 {}
 
-/// What is handed up before a watermark stays the same as the order grows, by further entries or by further parts of its last stream.
+/// What is handed up through a watermark stays the same as the order grows, by further entries or by further parts of its last stream.
 #[tactic(auto, using(crate::proofs::LaterLemmas::orders_grow))]
 pub fn orders_grow()
     ensures { OrdersGrow }

@@ -41,7 +41,7 @@ pub fn beside()
     ensures { BesideLaws }
 {}
 
-/// In a stream, each block before that of the hand-up point is done. In the point's own block, each symbol before the point is there, and
+/// In the stream at the hand-up point, each block before the point's is done. In the point's own block, each symbol before the point is there, and
 /// none is the end.
 // Proof: a test that refuses what is joined finds what it found before.
 #[tactic(auto, using(crate::proofs::PassedLemmas::passed_laws))]

@@ -15,11 +15,11 @@ ghost use Rattle.norm_safety.specs.TailLaws.{TailLaws};
 ghost use Rattle.norm_safety.specs.WorldLaws.{WorldLaws};
 
 /// Every lawful run is safe, whatever the network loses, repeats, reorders or delays, and however often the sender restarts:
-/// 1. Accepted objects, and what is written to streams, enter the transport order once each. This holds of every honest run.
-/// 2. Each receiver hands up an instance's order from its beginning, without a gap and octet for octet, a stream segment by segment. It
-/// reports a loss only if the sender dropped data. It is in each instance once.
+/// 1. Accepted objects, and what is written to streams, enter the transport order once each. This holds of every honest run ([`in_time`]).
+/// 2. Each receiver hands up an instance's order from its beginning, octet for octet, a stream segment by segment. It leaves out only what it reports
+/// as lost, and that only if the sender dropped data. It is in each instance once.
 /// 3. A receiver is listed past a watermark only after it handed up everything before.
-/// 4. A watermark is satisfied if and only if its quorum is listed past it.
+/// 4. A watermark is satisfied if and only if its quorum was listed past it before it ended.
 // Proof: hand-ups are exact first (Passed), and the relation GoesThrough follows at the end.
 #[tactic(auto, using(crate::proofs::SafeRun::safe_run))]
 pub fn safe_run()
@@ -122,16 +122,17 @@ pub fn acknowledge_run()
     ensures { AcknowledgeRun }
 {}
 
-/// If the network gives only what was offered, however late, and no instance has more than 32,768 objects, a run is lawful: nothing comes
-/// too late. If a run accepts at most 32,768 commands, no instance has more objects than that.
+/// A run is honest if it is lawful except that datagrams may be delivered too late. An honest run in which no instance has more than 32,768 objects
+/// is lawful: nothing comes too late. If an honest run accepts at most 32,768 commands, no instance has more objects than that.
 // 32,768 objects, because 16 bits of an id then still name every index that any node knows, however late a datagram comes.
 #[tactic(auto, using(crate::proofs::InTime::time_laws))]
 pub fn in_time()
     ensures { TimeLaws }
 {}
 
-/// What an event changes. Only an offer adds to what was offered. Only the sender's events change the sender. Each other event changes only
-/// the receiver of its node. The nodes stay those of the profile, in order. A take returns the next hand-up of its node's receiver.
+/// What an event changes. Only an offer adds to what was offered. Only the sender's events change the sender, and they change no receiver. Each other
+/// event changes no receiver except that of its node. The nodes stay those of the profile, in order. A take returns the next hand-up of its node's
+/// receiver, or nothing if none is left.
 // An offer of what no tick gave changes nothing, and a lawful run has none. So no law has to find a message in octets again.
 #[tactic(auto, using(crate::proofs::WorldLemmas::world_laws))]
 pub fn world_steps()

@@ -6,7 +6,7 @@ ghost use Rattle.norm_send_rules.specs.Waiting.{may_wait};
 use norm_base::{InstanceId, NodeId};
 use thiserror::Error;
 
-/// Why a stream takes no more octets.
+/// Why a stream takes no more octets, or no end.
 #[derive(Clone, Copy, Debug, PartialEq, Eq, Error)]
 pub enum StreamFault {
     #[error("the stream was closed")]
@@ -28,15 +28,14 @@ pub enum EnqueueFault {
     InfoTooBig { len: u64 },
     /// The stream with this index is open, so nothing else can be enqueued.
     StreamOpen { index: u32 },
-    /// No stream is open.
+    /// A write or a close finds no open stream.
     NoStream,
     /// The instance has used up its object indices.
     IdsSpent,
     /// The open stream takes no more.
     Stream(StreamFault),
-    /// There is no room in the window, and not enough objects may be dropped yet. `first` is the index of the window's first object.
+    /// There is no room in the window, and not enough entries may be dropped yet. `first` is the index of the window's first entry.
     WindowFull { first: u32 },
-    /// Memory ran out.
     Memory,
 }
 
@@ -45,11 +44,10 @@ pub enum EnqueueFault {
 pub enum MarkFault {
     /// The quorum is 0, or more than the receivers of the profile.
     Quorum { q: u32 },
-    /// The instance has nothing to confirm: no symbol was sent or waits to be sent.
+    /// The instance has nothing to confirm: no source symbol of it is closed, even after the open stream was cut.
     NothingEnqueued,
     /// This many watermarks are open, the most that can be.
     TooMany { count: u32 },
-    /// Memory ran out.
     Memory,
 }
 

@@ -9,18 +9,18 @@ use norm_order::copy_of_octets;
 /// A command for a sender.
 #[derive(Debug, Drop)]
 pub enum Job {
-    /// Enqueues a data object. `info` is optional.
+    /// Enqueues a data object. Its info, if it has one, goes out in a message of its own.
     Data { info: Option<Octets>, bytes: Octets },
     /// Enqueues a file. Its info is its name.
     File { name: Octets, bytes: Octets },
-    /// Opens a stream. Only one can be open.
+    /// Opens a stream. Nothing else can be enqueued until it is closed.
     Open,
-    /// Appends octets to the open stream.
+    /// Appends octets, at least one, to the open stream.
     Write { bytes: Octets },
-    /// Closes the open stream.
+    /// Closes the open stream. Another object or stream can be enqueued after that.
     Close,
-    /// Asks this many members, or all if `None`, to confirm everything that was enqueued so far. If there are fewer members left, all of
-    /// them.
+    /// Cuts the open stream, and asks this many members, or all if `None`, to confirm everything that was enqueued before. If there are fewer members
+    /// left, all of them.
     Mark { quorum: Option<u32> },
     /// Begins a new instance with this id. Open watermarks end with [`Outcome::Cut`](crate::Outcome::Cut).
     Restart { instance: InstanceId },
@@ -80,11 +80,9 @@ pub enum Receipt {
     Opened { index: u32 },
     /// This many octets were appended to this stream. `offset` is that of the first one.
     Wrote { index: u32, offset: u32, len: u64 },
-    /// This stream was closed.
     Closed { index: u32 },
     /// The watermark was made with this number. It asks for everything up to `at`.
     Mark { mark: u32, at: Position },
-    /// This instance began.
     Restarted { instance: InstanceId },
     /// This node is not a member any more.
     Struck { node: NodeId },

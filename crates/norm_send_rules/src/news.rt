@@ -21,6 +21,6 @@ pub enum Outcome {
 pub enum News {
     /// This member is now listed past `at`.
     Past { node: NodeId, at: Position },
-    /// This watermark ended, with this outcome.
+    /// This watermark ended, with this outcome, which is never `Open`.
     Done { mark: u32, outcome: Outcome },
 }
