@@ -21,7 +21,7 @@ pub struct Shorts {
     end: u32,
     /// The first short block, or `end` if all are done.
     first: u32,
-    /// The first of the done blocks at the window's end.
+    /// The first of the done blocks at the window's end, or `end` if the last block is short.
     done_from: u32,
     /// The link of each block, in order. Empty if the window has one block: the fields above say all of it.
     links: VecDeque<Link>,
@@ -39,7 +39,6 @@ impl Model for Shorts {
     ghost invariant = { IsShorts };
 }
 
-/// Returns the block if it is before the end of the window.
 fn block_before(block: u32, end: u32) -> Option<u32>
     ensures { result ≡ cond (nat_lt block end) (Some block) None }
 {
@@ -91,7 +90,7 @@ impl Shorts {
         block_before(link.next, self.end)
     }
 
-    /// Marks a short block as done.
+    /// Marks a short block as done. The short blocks before and after it are then linked to each other.
     pub fn settle(&mut self, block: u32)
         requires reached { self.old.start ≤ block }
         requires short { is_short self.old block ≡ true }

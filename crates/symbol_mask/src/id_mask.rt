@@ -28,21 +28,19 @@ impl Model for IdMask {
 }
 
 impl IdMask {
-    /// Returns the empty set.
     pub fn new() -> IdMask
         ensures { result ≡ [] }
     {
         IdMask { words: [0; WORDS] }
     }
 
-    /// Whether the id is in the set.
     pub fn contains(&self, id: u8) -> bool
         ensures { result ≡ is_member nat_lt id self.now }
     {
         self.words[usize::from(id) / 64] >> (id % 64) & 1 == 1
     }
 
-    /// Adds the id.
+    /// Adds the id, if it is not there.
     pub fn insert(&mut self, id: u8)
         ensures { self.new ≡ with_member nat_lt id self.old }
     {

@@ -35,7 +35,7 @@ impl Model for Mask {
     ghost invariant = { IsSound };
 }
 
-/// Returns the index of the first 64-bit word, from `from` on, that has a member.
+/// Returns the index of the first 64-bit word, from `from` on, that has a member. `None` if there is none.
 fn first_filled(words: &[u64], from: usize) -> Option<usize>
     ensures found { IfSome result (λ i. (from ≤ i) × (i < length words.now) × (slice_index words.now i ≢ 0)) }
     ensures before { MatchOption result ((k : ℕ) → from ≤ k → slice_index words.now k ≡ 0) (λ i. (k : ℕ) → from ≤ k → k < i → slice_index words.now k ≡ 0) }
@@ -118,7 +118,6 @@ impl Mask {
         })
     }
 
-    /// Whether the number is in the set.
     pub fn contains(&self, place: usize) -> bool
         requires { place < self.now.size }
         ensures { result ≡ is_member nat_lt place self.now.members }
@@ -153,7 +152,7 @@ impl Mask {
         is_new
     }
 
-    /// Adds the numbers `from` to `to - 1`, if there are any.
+    /// Adds the numbers `from` to `to - 1`, if there are any, 64 at a time.
     pub fn insert_run(&mut self, from: usize, to: usize)
         requires { to ≤ self.old.size }
         ensures members { (place : ℕ) → is_member nat_lt place self.new.members ≡ (is_member nat_lt place self.old.members || in_run from to place) }
@@ -188,7 +187,7 @@ impl Mask {
         }
     }
 
-    /// Removes all members below `limit`. Returns how many.
+    /// Removes all members below `limit`, one by one. Returns how many.
     pub fn take_below(&mut self, limit: usize) -> usize
         requires few { self.old.size < 2 ^ 64 }
         ensures members { self.new.members ≡ filter (λ place. not (nat_lt place limit)) self.old.members }
@@ -211,8 +210,7 @@ impl Mask {
         taken
     }
 
-    /// Removes the lowest member and returns it, or `None` if there is none. The search goes on at the 64-bit word of the lowest member
-    /// before.
+    /// Removes the lowest member and returns it, or `None` if there is none. Looks at no 64-bit word before the first that may have a member.
     pub fn take_lowest(&mut self) -> Option<usize>
         ensures members { MatchOption result ((self.old.members ≡ []) × (self.new.members ≡ []))
             (λ place. self.old.members ≡ place ∷ self.new.members) }
