@@ -71,7 +71,7 @@ impl Watermark {
         }
     }
 
-    /// Returns the watermark, with nothing to report.
+    /// Returns the watermark as it is after its outcome was reported.
     pub fn told(&self) -> Watermark
         ensures { result ≡ record self.now { untold = false } }
     {

@@ -16,7 +16,6 @@ pub enum Fit {
 /// Whether a symbol or an info is kept.
 #[derive(Clone, Copy, Debug, PartialEq, Eq)]
 pub enum Put {
-    /// It is kept.
     Kept,
     /// It is not needed: it is held already, its block has enough symbols, or its object was handed up or lost.
     Had,
@@ -29,10 +28,10 @@ pub enum Put {
 /// What a block still needs.
 #[derive(Clone, Copy, Debug, PartialEq, Eq)]
 pub enum Missing {
-    /// Unknown: the object has no plan.
+    /// Unknown, because the object has no plan.
     Unseen,
     /// This many more symbols, with which it can be decoded.
     Short { wanted: u8 },
-    /// Nothing.
+    /// Nothing: it has as many symbols as source symbols.
     Done,
 }

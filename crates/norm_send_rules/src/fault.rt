@@ -32,7 +32,7 @@ pub enum EnqueueFault {
     NoStream,
     /// The instance has used up its object indices.
     IdsSpent,
-    /// The open stream takes no more.
+    /// The open stream takes no more octets, or no end, for this reason.
     Stream(StreamFault),
     /// There is no room in the window, and not enough entries may be dropped yet. `first` is the index of the window's first entry.
     WindowFull { first: u32 },

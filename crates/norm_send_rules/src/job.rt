@@ -13,7 +13,7 @@ pub enum Job {
     Data { info: Option<Octets>, bytes: Octets },
     /// Enqueues a file. Its info is its name.
     File { name: Octets, bytes: Octets },
-    /// Opens a stream. Nothing else can be enqueued until it is closed.
+    /// Opens a stream. Nothing else can be enqueued until it is closed, or another instance begins.
     Open,
     /// Appends octets, at least one, to the open stream.
     Write { bytes: Octets },
@@ -76,7 +76,7 @@ pub fn copy_of_job(job: &Job) -> Result<Job, Memory>
 pub enum Receipt {
     /// The object was enqueued with this index in the transport order. `len` is its octets.
     Object { index: u32, len: u64 },
-    /// The stream was opened with this index.
+    /// The stream was opened with this index in the transport order.
     Opened { index: u32 },
     /// This many octets were appended to this stream. `offset` is that of the first one.
     Wrote { index: u32, offset: u32, len: u64 },

@@ -7,7 +7,7 @@ pub struct Submitted {
     pub producer: u32,
     /// Its number among the commands of this producer, from 1.
     pub number: u64,
-    /// What the producer submitted. The gate does not read it.
+    /// What the producer submitted. The gate does not read it. In a session it is the index of a line of the script.
     pub item: u32,
 }
 

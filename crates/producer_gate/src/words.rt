@@ -40,7 +40,7 @@ pub type Words = Table<u8, Role, (), Posted, Global>;
 
 pub type Place = Seat<u8, Role>;
 
-/// Writes the first word after the entries.
+/// Writes the first word after the entries, the watermark's number of the next one.
 pub struct PutsFirst;
 
 impl Play<u8, Role> for PutsFirst {
@@ -49,7 +49,7 @@ impl Play<u8, Role> for PutsFirst {
     ghost then = { PutFirst };
 }
 
-/// Writes the second word after the entries.
+/// Writes the second word after the entries, the outcome of the next one.
 pub struct PutsSecond;
 
 impl Play<u8, Role> for PutsSecond {
@@ -94,7 +94,7 @@ impl Play<u8, Role> for Compares {
     ghost then = { Compared };
 }
 
-/// Makes a seat that knows what this one knows.
+/// Makes a seat for reading that knows the entries that this one knows.
 pub struct Notes;
 
 impl Split<Role> for Notes {

@@ -54,7 +54,7 @@ impl Model for HeldStream {
     ghost invariant = { HeldSound };
 }
 
-/// Whether every member is listed past `last`, or need not be in this mode.
+/// Whether every member is listed past `last`, or the mode does not ask for that: only hold mode does.
 fn is_released(profile: &Profile, past: &Option<Position>, last: Position) -> bool
     ensures { result ≡ (elim profile.now.mode [ Hold ↦ reached_by past.now last | Dropping ↦ true ]) }
 {

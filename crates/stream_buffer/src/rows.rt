@@ -124,7 +124,7 @@ impl Rows {
         })
     }
 
-    /// How many segments were closed, given up or not.
+    /// How many segments were closed, given up or not: the number of the segment that fills.
     pub fn closed(&self) -> usize
         ensures { result ≡ self.now.first + length self.now.rows }
     {
@@ -149,7 +149,7 @@ impl Rows {
         self.filled += piece.len();
     }
 
-    /// Closes the segment that fills, even if it has no octets, as the end of a stream does. `offset` is that of its first octet in the stream.
+    /// Closes the segment that fills. It may have no octets: such a segment ends a stream. `offset` is that of its first octet in the stream.
     pub fn seal(&mut self, offset: u32)
         requires free { length self.old.rows < self.old.room }
         requires few { self.old.first + length self.old.rows < 4294967295 }

@@ -180,8 +180,8 @@ impl StreamBuf {
         let _ = &self.rows;
     }
 
-    /// Makes room until the stream has `used` segments, with those that were given up. Gives up blocks below `may_go` for that, no more than needed.
-    /// `Spent` if 24 bits cannot number the blocks, `Full` if blocks would have to go that may not. Then nothing changes.
+    /// Makes room for `used` segments in all, given up ones among them. Gives up blocks below `may_go` for that, no more than needed. `Spent` if 24
+    /// bits cannot number the blocks, `Full` if blocks would have to go that may not. Then nothing changes.
     #[tactic(auto, unfolding(norm_order::specs::First::first_where))]
     fn make_room(&mut self, used: u64, may_go: u32) -> Result<(), StreamFault>
         requires closed { may_go * self.old.cut.b ≤ closed_segments self.old }
@@ -341,7 +341,7 @@ impl StreamBuf {
     {
         let row = self.rows.row(number);
         let len = PLACE + usize::from(u16::from_be_bytes([row[0], row[1]]));
-        // The lesser of the two is always `len`: `seal` wrote it, and it is at most what the row has behind its place.
+        // The lesser of the two is always `len`: `seal` wrote it, and it is at most what the symbol buffer has after its header.
         out.push(row.split_at(len.min(row.len())).0);
     }
 

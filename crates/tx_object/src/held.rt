@@ -251,14 +251,13 @@ impl Held {
         self.unsent -= 1;
     }
 
-    /// Marks the info as sent. An object without info is [`is_sent`](Held::is_sent) without it.
+    /// Marks the info as sent. Without info, no answer depends on it.
     pub fn note_info(&mut self)
         ensures { self.new ≡ record self.old { info_sent = true } }
     {
         self.info_sent = true;
     }
 
-    /// Whether the info was sent, or there is none.
     fn is_info_sent(&self) -> bool
         ensures { result ≡ (is_none self.now.info || self.now.info_sent) }
     {

@@ -35,7 +35,7 @@ use norm_ext::{Fti, flags};
 use stream_buffer::HeldStream;
 use tx_object::{Held, Ring};
 
-/// An entry of the window. Each call answers for the object that the entry stands for.
+/// An entry of the window, with one set of calls for an object and a stream.
 // What the window asks of an object and of a stream is said here once, of one entry at a time.
 #[derive(Debug, Drop)]
 pub enum HeldEntry {
@@ -226,7 +226,7 @@ impl HeldEntry {
         }
     }
 
-    /// Whether it is a stream that was not closed.
+    /// Whether it is a stream that was not closed. Only the last entry of a window can be one.
     pub fn is_open(&self) -> bool
         ensures { (r : EntryReads) → StandsFor r self.now → result ≡ is_some (open_parts r.object) }
     {
@@ -236,7 +236,7 @@ impl HeldEntry {
         }
     }
 
-    /// How many segments of a stream are closed. 0 for an object.
+    /// How many segments of a stream are closed, given up or not. 0 for an object.
     pub fn segments(&self) -> u32
         ensures { (r : EntryReads) (parts : List Part) → StandsFor r self.now → r.object ≡ Stream parts → result ≡ (shape_of r.p r.object).closed }
     {
@@ -279,7 +279,7 @@ impl HeldEntry {
         }
     }
 
-    /// Whether all closed source symbols were sent, and the info if there is one.
+    /// Whether all closed source symbols were sent, given up ones of a stream among them, and the info if there is one.
     pub fn is_sent(&self) -> bool
         ensures { (ring : List ℕ) (p : Settings) (index : ℕ) (object : Entered) (s : SenderState) → StandsFor (reads_of ring p index object s) self.now
             → result ≡ is_sent s index (shape_of p object) }

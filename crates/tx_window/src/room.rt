@@ -140,7 +140,7 @@ fn reserve(held: &mut VecDeque<HeldEntry>, extents: &mut VecDeque<Extent>) -> bo
     held.reserve(1).is_ok() && extents.reserve(1).is_ok()
 }
 
-/// Drops the first `count` entries, and frees the memory of the streams among them. Their extents stay.
+/// Drops the first `count` entries, and frees what memory each has for itself: a stream's buffer, or an object's info and marks. Their extents stay.
 pub(crate) fn drop_front(held: &mut VecDeque<HeldEntry>, count: usize)
     requires { count ≤ length held.old.items }
     ensures items { held.new.items ≡ drop count held.old.items }

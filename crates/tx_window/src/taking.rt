@@ -164,7 +164,8 @@ impl Window {
         self.filled += piece.len();
     }
 
-    /// Adds the begun object to the order, and returns its index. All its octets have to be there. Takes no memory, and so cannot fail.
+    /// Adds the begun object to the order, and returns its index. All its octets have to be there. Cannot fail: [`begin`](Window::begin) took the
+    /// memory.
     pub fn finish(&mut self) -> u32
         requires { MatchOption self.old.filling ⊥ (λ f. length f.octets ≡ f.len) }
         ensures index { (s : SenderState) → Stands self.old s → result ≡ next_index_of s }

@@ -121,7 +121,8 @@ fn entry_at(held: &VecDeque<HeldEntry>, dropped: u32, index: u32) -> Option<&Hel
 }
 
 impl Window {
-    /// Returns an empty window, with the memory for the octets of all objects and for the profile's `window` entries.
+    /// Returns an empty window. Takes the ring for the octets of all objects, and a list with room for the profile's `window` entries. What else an
+    /// entry needs is taken when it is begun or opened.
     ///
     /// # Errors
     ///

@@ -29,7 +29,7 @@ fn encoded_blocks(held: &Held) -> u64
     in_larger + in_smaller
 }
 
-/// How many infos and encoded symbols an object has.
+/// How many encoded symbols an object has, and one more if it has info.
 fn of_object(held: &Held) -> u64
     ensures exact { (r : EntryReads) → IsObject r held.now → result ≡ repairable_from (shape_of r.p r.object) 0 }
     ensures most { result < 2 ^ 42 }
