@@ -113,7 +113,7 @@ impl Listings {
         self.past.shift_remove(&node);
     }
 
-    /// Returns how many members are listed past a position, or further.
+    /// Returns how many members are listed past a position, or further. A quorum is compared with this.
     pub fn count_past(&self, at: Position) -> u32
         requires { length self.now < 2 ^ 32 }
         ensures { result ≡ past_count self.now at }

@@ -207,7 +207,6 @@ fn first_open(watermarks: &[Watermark]) -> Option<Watermark>
     Some(*watermark)
 }
 
-/// Returns the first watermark whose outcome is to be reported, and marks it as reported. `None` if there is none.
 fn tell_first(watermarks: &mut [Watermark]) -> Option<Watermark>
     ensures first { result ≡ find (λ k. k.untold) watermarks.old }
     ensures told { watermarks.new ≡ told_first watermarks.old }

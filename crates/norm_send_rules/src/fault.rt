@@ -6,7 +6,7 @@ ghost use Rattle.norm_send_rules.specs.Waiting.{may_wait};
 use norm_base::{InstanceId, NodeId};
 use thiserror::Error;
 
-/// Why a stream takes no more octets, or no end.
+/// Why a stream takes no more octets, or no end. The stream stays as it was.
 #[derive(Clone, Copy, Debug, PartialEq, Eq, Error)]
 pub enum StreamFault {
     #[error("the stream was closed")]
@@ -39,7 +39,7 @@ pub enum EnqueueFault {
     Memory,
 }
 
-/// Why a watermark is not made.
+/// Why a watermark is not made. The open stream is cut all the same, except after `Quorum` and `Memory`.
 #[derive(Clone, Copy, Debug, PartialEq, Eq)]
 pub enum MarkFault {
     /// The quorum is 0, or more than the receivers of the profile.
@@ -51,7 +51,7 @@ pub enum MarkFault {
     Memory,
 }
 
-/// Why a node is not struck.
+/// Why a node is not struck. Nothing changes then.
 #[derive(Clone, Copy, Debug, PartialEq, Eq)]
 pub enum StrikeFault {
     /// The node is not a receiver, or was struck already.

@@ -11,7 +11,7 @@ pub struct Submitted {
     pub item: u32,
 }
 
-/// Why a command was not submitted.
+/// Why a command was not submitted. The item comes back, and the seat stays as it was.
 #[derive(Clone, Copy, Debug, PartialEq, Eq)]
 pub enum GateFault {
     /// The ring was full. The producer may try again.
