@@ -9,7 +9,8 @@ use crate::parts::Parts;
 use norm_base::Moment;
 
 impl Parts {
-    /// Closes the open round if its closing moment has come. What it asked for is wanted from then on.
+    /// Closes the open round if its closing moment has come. What it asked for is wanted from then on. If it asked for what was dropped, a squelch is
+    /// due.
     pub(crate) fn close_where_due(&mut self, now: Moment)
         ensures profile { self.new.profile ≡ self.old.profile }
         ensures stands { SenderMoves (kept_of self.old) (kept_of self.new) (λ p s. closed_where_due p now s) }

@@ -50,7 +50,6 @@ fn mark_refusal(quorum: Option<u32>, fault: MarkFault) -> (Option<Job>, SendFaul
 }
 
 impl Parts {
-    /// Enqueues a data object.
     fn enqueue_data(&mut self, info: Option<Octets>, bytes: Octets) -> Answer
         requires { IsStanding (kept_of self.old) }
         ensures profile { self.new.profile ≡ self.old.profile }
@@ -117,7 +116,6 @@ impl Parts {
         }
     }
 
-    /// Makes a watermark.
     fn mark_for(&mut self, quorum: Option<u32>) -> Answer
         requires { IsStanding (kept_of self.old) }
         ensures profile { self.new.profile ≡ self.old.profile }
@@ -129,7 +127,6 @@ impl Parts {
         }
     }
 
-    /// Begins another instance.
     fn restart_in(&mut self, instance: InstanceId) -> Answer
         requires { IsStanding (kept_of self.old) }
         ensures profile { self.new.profile ≡ self.old.profile }
@@ -141,7 +138,6 @@ impl Parts {
         }
     }
 
-    /// Strikes a member.
     fn strike_off(&mut self, node: NodeId) -> Answer
         ensures profile { self.new.profile ≡ self.old.profile }
         ensures obeys { Obeys (kept_of self.old) (kept_of self.new) (job.Strike node) result }
@@ -152,7 +148,6 @@ impl Parts {
         }
     }
 
-    /// Opens a stream.
     fn open_up(&mut self) -> Answer
         requires { IsStanding (kept_of self.old) }
         ensures profile { self.new.profile ≡ self.old.profile }
@@ -164,7 +159,6 @@ impl Parts {
         }
     }
 
-    /// Writes octets to the open stream.
     fn write_all(&mut self, bytes: Octets) -> Answer
         requires { IsStanding (kept_of self.old) }
         ensures profile { self.new.profile ≡ self.old.profile }
@@ -176,7 +170,6 @@ impl Parts {
         }
     }
 
-    /// Ends the open stream.
     fn close_off(&mut self) -> Answer
         requires { IsStanding (kept_of self.old) }
         ensures profile { self.new.profile ≡ self.old.profile }
@@ -188,7 +181,7 @@ impl Parts {
         }
     }
 
-    /// Passes a command to the call that obeys it.
+    /// Obeys a command. The window gets a copy of its octets. A refusal gives back the command as it came, without a copy.
     pub(crate) fn command(&mut self, job: Job) -> Answer
         requires { IsStanding (kept_of self.old) }
         ensures range { InRange self.old.profile }

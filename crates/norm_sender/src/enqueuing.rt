@@ -27,7 +27,7 @@ use norm_send_rules::{EnqueueFault, Receipt};
 use tx_window::{info_len, plan_of};
 
 impl Parts {
-    /// Forgets what was asked of the entries and blocks that the window dropped. A squelch is due if a want was among it.
+    /// Call after the window may have dropped entries or blocks: forgets what was asked of them. A squelch is due if any of it was wanted.
     pub(crate) fn retire(&mut self)
         requires { CanRetire self.old.union (drop_of self.old.window) }
         ensures rest { (self.new.profile ≡ self.old.profile) × (self.new.window ≡ self.old.window) × (self.new.book ≡ self.old.book) }
@@ -90,7 +90,7 @@ impl Parts {
         }
     }
 
-    /// Copies the next octets of the begun object into the window.
+    /// Copies the next octets of the begun object into the window, which sends and repairs them from there.
     pub(crate) fn fill(&mut self, piece: &[u8])
         requires { MatchOption self.old.window.filling ⊥ (λ f. length f.octets + length piece.now ≤ f.len) }
         ensures profile { self.new.profile ≡ self.old.profile }
@@ -100,7 +100,7 @@ impl Parts {
         self.window.fill(piece);
     }
 
-    /// Adds the begun object to the end of the order. All its octets have to be there.
+    /// Adds the begun object to the end of the order. It cannot fail: `begin` took the memory and looked for each fault.
     pub(crate) fn finish(&mut self) -> Receipt
         requires { MatchOption self.old.window.filling ⊥ (λ f. length f.octets ≡ f.len) }
         ensures range { InRange self.old.profile }

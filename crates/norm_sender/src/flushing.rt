@@ -17,13 +17,13 @@ use fec_plan::Position;
 use mark_book::keeps_oldest;
 use norm_base::{Datagram, Moment, Sent};
 
-/// A watermark expires after this many flushes without progress.
+/// The most flushes for one watermark while no round makes a want. After them it expires.
 // NORM_ROBUST_FACTOR of RFC 5740, 20 by default. After this many without a new want the watermark expires, as soon as no round is open: members
 // that are left are taken to be silent.
 const MOST_FLUSHES: u32 = 20;
 
 impl Parts {
-    /// Writes a FLUSH up to a position. Its nodes are the members that are not past it.
+    /// Writes a FLUSH up to a position. It asks the members that are not listed past it, in the order of the receivers.
     fn write_flush(&self, at: Position, out: &mut Datagram)
         ensures { (s : SenderState) → Agrees (kept_of self.now) s → out.new ≡ octets_of (flush_message self.now.profile s at (pending s at)) }
     {
@@ -43,7 +43,8 @@ impl Parts {
         Sent::Datagram
     }
 
-    /// Ends the oldest open watermark, which has this number, as expired. The count of flushes restarts if another one is the oldest now.
+    /// Ends the oldest open watermark, which has this number, as expired. The count of flushes restarts if another one is the oldest now, and stays if
+    /// none is open.
     fn expire(&mut self, mark: u32)
         ensures profile { self.new.profile ≡ self.old.profile }
         ensures stands { SenderMoves (kept_of self.old) (kept_of self.new) (λ p s. expired mark s) }
@@ -56,8 +57,8 @@ impl Parts {
         self.pace = self.pace.counted_anew();
     }
 
-    /// Flushes for the oldest watermark. After 20 flushes it expires, and the next one is flushed for. If a round is open then, it does not expire
-    /// yet, and nothing is sent.
+    /// Flushes for the oldest open watermark, if there is one. After 20 flushes it expires, and the next one is flushed for. If a round is open then,
+    /// it does not expire yet, and nothing is sent.
     fn flush_in_turn(&mut self, now: Moment, out: &mut Datagram) -> Sent
         ensures profile { self.new.profile ≡ self.old.profile }
         ensures stands { SenderSends (kept_of self.old) (kept_of self.new) out.new result (λ p s. flushes_in_turn p now s) }
@@ -76,7 +77,7 @@ impl Parts {
         self.flush_next(now, out)
     }
 
-    /// Flushes for the oldest watermark, after the one before it expired.
+    /// Flushes for the oldest open watermark, if one is left after the one before it expired.
     // Not `flush_in_turn` again: in one tick at most one watermark expires, so a tick has a bound.
     fn flush_next(&mut self, now: Moment, out: &mut Datagram) -> Sent
         ensures profile { self.new.profile ≡ self.old.profile }
@@ -89,7 +90,8 @@ impl Parts {
         self.flush_for(oldest.at, now, out)
     }
 
-    /// Flushes if none was sent in this instance, or if two round trips have passed since the last.
+    /// Flushes for the oldest open watermark, if there is one, unless the last flush of this instance is less than two round trips ago. It may expire
+    /// instead.
     pub(crate) fn flush(&mut self, now: Moment, out: &mut Datagram) -> Sent
         ensures profile { self.new.profile ≡ self.old.profile }
         ensures stands { SenderSends (kept_of self.old) (kept_of self.new) out.new result (λ p s. flushes p now s) }

@@ -1,4 +1,4 @@
-//! Makes watermarks for the command `mark` (RFC 5740 section 5.5.3): a quorum of the members shall confirm what was enqueued so far.
+//! Makes watermarks for the command `mark` (RFC 5740 section 5.5.3): a quorum of the members shall confirm what was enqueued before.
 
 ghost use Rattle.std.specs.Prelude.{◌≡◌, ◌≢◌, Err, Some};
 ghost use Rattle.norm_base.specs.Settings.{InRange};
@@ -61,7 +61,8 @@ impl Parts {
         }
     }
 
-    /// Cuts the open stream, and makes a watermark for everything that was enqueued.
+    /// Cuts the open stream, and makes a watermark for everything that was enqueued. The stream stays uncut if the quorum is not possible or memory
+    /// runs out.
     pub(crate) fn mark(&mut self, quorum: Option<u32>) -> Result<Receipt, MarkFault>
         requires { IsStanding (kept_of self.old) }
         ensures range { InRange self.old.profile }

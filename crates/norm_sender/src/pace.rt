@@ -16,20 +16,19 @@ use norm_send_rules::Want;
 pub struct Pace {
     /// The first instance. Later ids are counted from its id.
     pub first: InstanceId,
-    /// The current instance.
     pub instance: InstanceId,
     /// Infos and symbols are new from this one on.
     pub next: Want,
-    /// When the open repair round closes. `None` if no round is open.
+    /// When the open repair round closes. `None` if no round is open; no other field says whether one is.
     pub closes: Option<Moment>,
     pub squelch_due: bool,
-    /// How many flushes were counted since another watermark became the oldest, or a round made a want.
+    /// How many flushes were sent since another watermark became the oldest, a round made a want, or the instance began.
     pub flushes: u32,
     /// When the last flush of this instance was sent. `None` if there was none.
     pub last_flush: Option<Moment>,
     /// No datagram may be sent before this moment.
     pub next_send: Moment,
-    /// The sequence number of the next datagram.
+    /// The sequence number of the next datagram, of whatever instance.
     pub sequence: u16,
 }
 
@@ -41,7 +40,7 @@ pub(crate) fn moment_after(now: Moment, span: u64) -> Moment
 }
 
 impl Pace {
-    /// The numbers of a new sender, in its first instance.
+    /// The numbers of a new sender, in its first instance. It may send at once.
     pub(crate) fn begun(instance: InstanceId) -> Pace
         ensures { (p : Settings) → result ≡ pace_of (sender_opening p instance) }
     {
@@ -84,7 +83,7 @@ impl Pace {
         above <= rise(self.first, self.instance) || above > MOST_RISE
     }
 
-    /// The numbers after a datagram: the next one may be sent `gap` later, and has the next sequence number.
+    /// Call after each datagram, with the profile's gap in microseconds. The sequence number after 65,535 is 0.
     pub(crate) fn sent(&self, gap: u32, now: Moment) -> Pace
         ensures { result ≡ record self.now { next_send = moment_after now gap; sequence = (self.now.sequence + 1) % 65536 } }
     {
@@ -95,7 +94,7 @@ impl Pace {
         }
     }
 
-    /// The numbers after a squelch was sent: none is due.
+    /// Call after a squelch was sent.
     pub(crate) fn squelched(&self) -> Pace
         ensures { result ≡ record self.now { squelch_due = false } }
     {
@@ -105,7 +104,7 @@ impl Pace {
         }
     }
 
-    /// The numbers after something was dropped. A squelch is due if a want went with it (`dropped`).
+    /// Call after something was dropped. A squelch is due if a want went with it (`dropped`), or if one was due before.
     pub(crate) fn retired(&self, dropped: bool) -> Pace
         ensures { result ≡ record self.now { squelch_due = self.now.squelch_due || dropped } }
     {
@@ -115,7 +114,7 @@ impl Pace {
         }
     }
 
-    /// The numbers after one more flush.
+    /// Call after a flush was sent. The next one may be sent two round trips later.
     pub(crate) fn flushed(&self, now: Moment) -> Pace
         ensures { self.now.flushes < 4294967295 → result ≡ record self.now { flushes = self.now.flushes + 1; last_flush = Some now } }
     {
@@ -127,7 +126,7 @@ impl Pace {
         }
     }
 
-    /// The numbers with a count of 0 flushes.
+    /// Call after another watermark became the oldest: it gets all its flushes.
     pub(crate) fn counted_anew(&self) -> Pace
         ensures { result ≡ record self.now { flushes = 0 } }
     {
@@ -137,14 +136,14 @@ impl Pace {
         }
     }
 
-    /// The numbers if infos and symbols are new from `next` on.
+    /// Call as something new is sent. `next` is what comes just after it.
     pub(crate) fn goes_on(&self, next: Want) -> Pace
         ensures { result ≡ record self.now { next = next } }
     {
         Pace { next, ..*self }
     }
 
-    /// The numbers with an open round that closes at this moment.
+    /// Call only if no round is open. A round keeps its closing moment, however many NACKs join it.
     pub(crate) fn opened(&self, closes: Moment) -> Pace
         ensures { result ≡ record self.now { closes = Some closes } }
     {
@@ -167,14 +166,14 @@ impl Pace {
         }
     }
 
-    /// Whether a datagram may be sent now.
+    /// Whether the gap after the last datagram is over. True if none was sent, and goes on across instances.
     pub(crate) fn may_send(&self, now: Moment) -> bool
         ensures { nat_lt now self.now.next_send ≡ elim result [ true ↦ false | false ↦ true ] }
     {
         now.0 >= self.next_send.0
     }
 
-    /// Whether a round is open and its closing moment has come.
+    /// Whether the open round has to be closed. `false` if no round is open.
     pub(crate) fn is_round_over(&self, now: Moment) -> bool
         ensures { result ≡ is_over self.now.closes now }
     {

@@ -8,8 +8,8 @@ use nack_union::Union;
 use norm_base::Profile;
 use tx_window::Window;
 
-/// The parts of a sender under one profile: what it may still repair (`window`), what is asked of that (`union`), its receivers and their
-/// watermarks (`book`), and its numbers (`pace`).
+/// The parts of a sender under one profile: what it may still repair (`window`), what is asked of that and still to be repeated (`union`),
+/// its members and watermarks (`book`), and its numbers (`pace`).
 #[derive(Debug, Drop)]
 pub(crate) struct Parts {
     pub profile: Profile,

@@ -24,7 +24,7 @@ impl Parts {
         self.pace = self.pace.begun_anew(instance);
     }
 
-    /// Begins a new instance if its id is above each one before.
+    /// Begins a new instance, unless its id counts as used (`Pace::is_used`): then nothing changes.
     pub(crate) fn restart(&mut self, instance: InstanceId) -> Result<Receipt, SendFault>
         ensures range { InRange self.old.profile }
         ensures profile { self.new.profile ≡ self.old.profile }

@@ -80,7 +80,6 @@ impl Model for Sender {
     ghost invariant = { λ s. SenderSound (kept_of s.parts) };
 }
 
-/// The receivers of a profile in the order of their ids.
 fn receivers(alloc: Global, profile: &Profile) -> Result<Vec<NodeId>, Memory>
     ensures { IfOk result (λ nodes. nodes.items ≡ receivers_of profile.now profile.now.receivers) }
 {
@@ -92,7 +91,8 @@ fn receivers(alloc: Global, profile: &Profile) -> Result<Vec<NodeId>, Memory>
 }
 
 impl Sender {
-    /// Returns a sender in its first instance, with nothing enqueued.
+    /// Returns a sender in its first instance, with nothing enqueued. Takes the memory for the octets of all objects that its window may have. A
+    /// stream takes its own when it opens.
     ///
     /// # Errors
     ///
@@ -129,7 +129,8 @@ impl Sender {
         self.parts.deliver(bytes, now);
     }
 
-    /// Closes the repair round if its time has come, and writes the datagram to send now, if there is one. Takes no memory.
+    /// Closes the repair round if its time has come, even if no datagram may be sent yet. Then writes the datagram to send now, if there is one. The
+    /// oldest watermark may expire before that. Takes no memory.
     pub fn tick(&mut self, now: Moment, out: &mut Datagram) -> Sent
         requires { self.old.window.filling ≡ None }
         ensures profile { self.new.p ≡ self.old.p }
@@ -186,7 +187,7 @@ impl Sender {
         self.parts.begin_file(name, len)
     }
 
-    /// Takes the next octets of the begun file.
+    /// Copies the next octets of the begun file into the window. Takes no memory.
     pub fn file_piece(&mut self, piece: &[u8])
         requires { MatchOption self.old.window.filling ⊥ (λ f. length f.octets + length piece.now ≤ f.len) }
         ensures profile { self.new.p ≡ self.old.p }
@@ -197,7 +198,8 @@ impl Sender {
         self.parts.fill(piece);
     }
 
-    /// Adds the begun file to the order. Returns the receipt that [`command`](Sender::command) would give for all its octets.
+    /// Adds the begun file to the order, so that ticks send it. Returns the receipt that [`command`](Sender::command) would give for all its octets.
+    /// Takes no memory.
     pub fn end_file(&mut self, by: Origin, now: Moment) -> Receipt
         requires { MatchOption self.old.window.filling ⊥ (λ f. length f.octets ≡ f.len) }
         ensures profile { self.new.p ≡ self.old.p }
@@ -222,7 +224,7 @@ impl Sender {
         self.parts.leave();
     }
 
-    /// Cuts the open stream, and asks that `quorum` members, or all of them, confirm everything that was enqueued so far. The watermark is satisfied
+    /// Cuts the open stream, and asks that `quorum` members, or all of them, confirm everything that was enqueued before. The watermark is satisfied
     /// at once if enough members are past it.
     ///
     /// # Errors
@@ -233,7 +235,7 @@ impl Sender {
     /// - `TooMany` if 16 watermarks are open. The open stream is cut all the same.
     ///
     /// Or `Memory` if memory runs out. Then nothing changes.
-    // Only tests call this and `restart` so far, and nothing `strike`: commands come by `command`. They stay for programs over a sender.
+    // This, `restart` and `strike` are for programs over a sender. In a session, commands come by `command`.
     // Proof: the invariant goes by cases: the answer is Memory and all is as it was, or the rule holds.
     pub fn mark(&mut self, quorum: Option<u32>) -> Result<Receipt, MarkFault>
         requires { self.old.window.filling ≡ None }
@@ -251,7 +253,8 @@ impl Sender {
     ///
     /// # Errors
     ///
-    /// `IdUsed` if the id is not above each one before. Then nothing changes.
+    /// `IdUsed` if the id, counted round from that of the first instance, is not above the current one, or is 32,768 or more above the first. Then
+    /// nothing changes.
     pub fn restart(&mut self, instance: InstanceId) -> Result<Receipt, SendFault>
         requires { self.old.window.filling ≡ None }
         ensures profile { self.new.p ≡ self.old.p }
@@ -276,7 +279,7 @@ impl Sender {
     }
 
     /// Returns the next change to report: a member that is newly listed past a position, or, once all of these are reported, a watermark that ended.
-    /// `None` if there is nothing to report; then nothing changes.
+    /// Each change is reported once, and of a member only the last position. `None` if there is nothing to report; then nothing changes.
     pub fn news(&mut self) -> Option<News>
         requires { self.old.window.filling ≡ None }
         ensures profile { self.new.p ≡ self.old.p }
@@ -287,57 +290,58 @@ impl Sender {
         self.parts.news()
     }
 
-    /// How many changes are still to be reported.
+    /// How many changes [`news`](Sender::news) would report now, until it returns `None`.
     pub fn untold(&self) -> usize
         ensures { (s : SenderState) → Stands self.now s → result ≡ length s.untold_nodes + length s.untold_marks }
     {
         self.parts.untold()
     }
 
-    /// Whether no squelch is due, nothing is wanted, nothing new is left to send, and no round is open.
+    /// Whether no squelch is due, nothing is wanted, nothing new is left to send, and no round is open. An idle sender may still flush for an open
+    /// watermark, and have changes to report.
     pub fn idle(&self) -> bool
         ensures { (s : SenderState) → Stands self.now s → result ≡ is_idle self.now.p s }
     {
         self.parts.is_idle()
     }
 
-    /// How many watermarks are open.
+    /// How many watermarks are open: neither satisfied nor expired nor cut. At most 16.
     pub fn open_requests(&self) -> u32
         ensures { (s : SenderState) → Stands self.now s → result ≡ length (open_watermarks s) }
     {
         self.parts.open_requests()
     }
 
-    /// How many flushes were counted since another watermark became the oldest, or a round made a want.
-    // Nothing calls this, `repairable` and `window` so far. They stay for programs that compute how long a watermark may stay open.
+    /// How many flushes were sent since another watermark became the oldest, a round made a want, or the instance began. At most 20.
+    // This, `repairable` and `window` are for callers that compute how long a watermark may stay open, as `norm_tail` does.
     pub fn flushes(&self) -> u32
         ensures { (s : SenderState) → Stands self.now s → result ≡ s.flushes }
     {
         self.parts.flushes()
     }
 
-    /// How many infos and encoded symbols the window has. All of them may still have to be repaired.
+    /// How many infos and encoded symbols the window has. All of them may still have to be repaired. Visits each entry of the window.
     pub fn repairable(&self) -> u64
         ensures { (s : SenderState) → Stands self.now s → result ≡ repairable self.now.p s }
     {
         self.parts.window.repairable()
     }
 
-    /// The current instance.
+    /// The id of the current instance: that of the last restart, or the one given to [`new`](Sender::new).
     pub fn instance(&self) -> InstanceId
         ensures { (s : SenderState) → Stands self.now s → result ≡ s.current.id }
     {
         self.parts.instance()
     }
 
-    /// The book of members and watermarks.
+    /// The book of members and watermarks, which can tell more of them than [`news`](Sender::news): for example who a watermark waits for.
     pub fn book(&self) -> &Book
         ensures { result.now ≡ self.now.book }
     {
         &self.parts.book
     }
 
-    /// The window: the objects and streams that the sender may still repair.
+    /// The window: the objects and streams that the sender may still repair. It has a file that is being taken in only after `end_file`.
     pub fn window(&self) -> &Window
         ensures { result.now ≡ self.now.window }
     {

@@ -25,12 +25,13 @@ use norm_base::{Datagram, Moment, Sent};
 use norm_ext::flags;
 use norm_send_rules::Want;
 
-/// What is added to the flags of a repair that was asked for by its own name.
+/// What is added to the flags of a repair, if it is an info or a source symbol.
 // NORM_FLAG_REPAIR and NORM_FLAG_EXPLICIT of RFC 5740 section 4.2.1. Which of what is sent again has the second is our own choice.
 const EXPLICIT_REPAIR: u8 = flags::REPAIR + flags::EXPLICIT;
 
 impl Parts {
-    /// Writes an encoded symbol of the window, with `repair` added to its flags. Returns `false` if the window has no such symbol.
+    /// Writes the DATA of an encoded symbol of the window, with `repair` added to its flags. Returns `false` if the window has no such symbol; then
+    /// `out` may hold anything.
     fn write_symbol(&self, at: Position, repair: u8, out: &mut Datagram) -> bool
         ensures { (s : SenderState) (object : Object) → Agrees (kept_of self.now) s → kept_at s at.index ≡ Some object
             → nat_lt at.symbol (encoded_in (shape_of self.now.profile object) at.block) ≡ true → nat_le (first_kept s at.index) at.block ≡ true → repair ≤ 3
@@ -44,7 +45,7 @@ impl Parts {
         self.window.symbol(at, out).is_some()
     }
 
-    /// Writes the info of an object of the window, with `repair` added to its flags. Returns `false` if the window has no such info.
+    /// Writes the INFO of an object of the window, with `repair` added to its flags. Returns `false` if the window has no such info.
     fn write_info(&self, index: u32, repair: u8, out: &mut Datagram) -> bool
         requires { self.now.window.p ≡ self.now.profile }
         ensures { (s : SenderState) (kind : Kind) (info octets : List ℕ) → Agrees (kept_of self.now) s → kept_at s index ≡ Some (Whole kind (Some info) octets)
@@ -75,7 +76,7 @@ impl Parts {
         self.union.note_sent(at);
     }
 
-    /// Notes that the info of an object of the window was sent.
+    /// Notes in the window that an info was sent. The union need not know: no count asks for an info.
     fn note_info(&mut self, index: u32)
         requires { IsInWindow self.old.window index }
         ensures profile { self.new.profile ≡ self.old.profile }
@@ -91,7 +92,7 @@ impl Parts {
         self.pace = self.pace.sent(self.profile.gap, now);
     }
 
-    /// Sends an encoded symbol of the window, with `repair` added to its flags.
+    /// Writes an encoded symbol as `write_symbol` does, notes that it was sent, and starts the gap before the next datagram.
     fn send_symbol(&mut self, at: Position, repair: u8, now: Moment, out: &mut Datagram) -> Sent
         requires { CanSend (kept_of self.old) (Symbol at) }
         ensures profile { self.new.profile ≡ self.old.profile }
@@ -107,7 +108,7 @@ impl Parts {
         Sent::Datagram
     }
 
-    /// Sends the info of an object of the window, with `repair` added to its flags.
+    /// Writes an info as `write_info` does, notes that it was sent, and starts the gap before the next datagram.
     fn send_info(&mut self, index: u32, repair: u8, now: Moment, out: &mut Datagram) -> Sent
         requires { CanSend (kept_of self.old) (Info index) }
         ensures profile { self.new.profile ≡ self.old.profile }
@@ -142,7 +143,7 @@ impl Parts {
         }
     }
 
-    /// What a repair adds to the flags. An info and a source symbol were asked for by their own names, parity was not.
+    /// What a repair adds to the flags: REPAIR, and EXPLICIT too if it is an info or a source symbol, whichever request asked for it.
     pub(crate) fn repair_flags(&self, want: &Want) -> u8
         ensures few { result ≤ 3 }
         ensures exact { (s : SenderState) → Agrees (kept_of self.now) s → IsValid self.now.profile s want.now

@@ -20,7 +20,7 @@ use fec_plan::Plan;
 use norm_base::Profile;
 use norm_send_rules::{EnqueueFault, Receipt};
 
-/// How each stream is cut into blocks.
+/// How each stream is cut into blocks: all streams of a profile alike, since a stream has no length when it opens.
 fn stream_plan(profile: &Profile) -> Plan
     ensures { result ≡ stream_cut profile.now.e profile.now.b profile.now.max_n }
 {
@@ -77,7 +77,12 @@ impl Parts {
         self.union.grow(index, segments);
     }
 
-    /// Writes octets to the open stream. If there is no room, its first blocks are dropped, and before them all entries before the stream.
+    /// Writes octets to the open stream. If there is no room, its first blocks are dropped if they may go, and before them all entries before the
+    /// stream. Takes no memory.
+    ///
+    /// # Errors
+    ///
+    /// The window's fault. Then nothing changes.
     pub(crate) fn write(&mut self, bytes: &[u8]) -> Result<Receipt, EnqueueFault>
         requires { IsStanding (kept_of self.old) }
         ensures range { InRange self.old.profile }
@@ -101,7 +106,7 @@ impl Parts {
         }
     }
 
-    /// Ends the open stream. Blocks are dropped for room as in `write`.
+    /// Ends the open stream. Blocks are dropped for room as in `write`, and a fault changes nothing, as there.
     pub(crate) fn close(&mut self) -> Result<Receipt, EnqueueFault>
         requires { IsStanding (kept_of self.old) }
         ensures range { InRange self.old.profile }
@@ -120,7 +125,7 @@ impl Parts {
         }
     }
 
-    /// Closes the open stream's segment that fills, if it holds octets.
+    /// Closes the open stream's segment that fills, if it holds octets. Does nothing if no stream is open.
     pub(crate) fn cut(&mut self)
         requires { CanCut (kept_of self.old) }
         ensures profile { self.new.profile ≡ self.old.profile }

@@ -13,7 +13,7 @@ use norm_base::InstanceId;
 use norm_send_rules::News;
 
 impl Parts {
-    /// Returns the next change to report.
+    /// Takes the next change to report out of the book: each is reported once.
     pub(crate) fn news(&mut self) -> Option<News>
         ensures range { InRange self.old.profile }
         ensures profile { self.new.profile ≡ self.old.profile }
@@ -24,14 +24,12 @@ impl Parts {
         self.book.news()
     }
 
-    /// How many changes are still to be reported.
     pub(crate) fn untold(&self) -> usize
         ensures { (s : SenderState) → Agrees (kept_of self.now) s → result ≡ length s.untold_nodes + length s.untold_marks }
     {
         self.book.untold()
     }
 
-    /// How many watermarks are open.
     pub(crate) fn open_requests(&self) -> u32
         ensures { (s : SenderState) → Agrees (kept_of self.now) s → result ≡ length (open_watermarks s) }
     {
@@ -39,14 +37,12 @@ impl Parts {
         count
     }
 
-    /// How many flushes were counted.
     pub(crate) fn flushes(&self) -> u32
         ensures { (s : SenderState) → Agrees (kept_of self.now) s → result ≡ s.flushes }
     {
         self.pace.flushes
     }
 
-    /// The current instance.
     pub(crate) fn instance(&self) -> InstanceId
         ensures { (s : SenderState) → Agrees (kept_of self.now) s → result ≡ s.current.id }
     {

@@ -18,7 +18,7 @@ use fec_plan::{Point, Position};
 use norm_base::{Datagram, Moment, Sent};
 use norm_send_rules::Want;
 
-/// Returns what comes just after an info or a symbol: the first symbol, or the next one of the block.
+/// Returns what comes just after an info or a symbol: the first symbol, or the next one of the block, even if the block has no more.
 fn behind(want: &Want) -> Want
     requires { HasNext want.now }
     ensures { result ≡ behind want.now }
@@ -42,7 +42,7 @@ fn behind(want: &Want) -> Want
 }
 
 impl Parts {
-    /// Sends the next new info or symbol. If nothing is new, flushes.
+    /// Sends the next new info or symbol. If nothing is new, flushes if that is due.
     fn send_further(&mut self, now: Moment, out: &mut Datagram) -> Sent
         requires { IsStanding (kept_of self.old) }
         ensures profile { self.new.profile ≡ self.old.profile }
@@ -57,7 +57,7 @@ impl Parts {
         self.send_want(&want, 0, now, out)
     }
 
-    /// Sends the lowest want. If nothing is wanted, sends what is new, or flushes.
+    /// Sends the want that is first in transport order, and takes it out. If nothing is wanted, sends what is new, or flushes.
     fn send_wanted(&mut self, now: Moment, out: &mut Datagram) -> Sent
         requires { IsStanding (kept_of self.old) }
         ensures profile { self.new.profile ≡ self.old.profile }
@@ -72,7 +72,7 @@ impl Parts {
         self.send_want(&want, flags, now, out)
     }
 
-    /// Sends a squelch, which names the first block of the window.
+    /// Sends a squelch, which names the first block of the window: of an empty window, block 0 of the entry that comes next.
     fn squelch(&mut self, now: Moment, out: &mut Datagram) -> Sent
         ensures profile { self.new.profile ≡ self.old.profile }
         ensures stands { (s : SenderState) → Agrees (kept_of self.old) s → s.squelch_due ≡ true

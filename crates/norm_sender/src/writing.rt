@@ -19,7 +19,7 @@ use norm_objmsg::{DataMsg, InfoMsg, write_data, write_info};
 // RFC 5510 section 5.1: 24 bits name a block.
 const BLOCK_COUNT: u32 = 16_777_216;
 
-/// A symbol's name as messages spell it: the lowest 24 bits of its block's number, and its id.
+/// A symbol's name as messages spell it (RFC 5510 section 5.1): 24 bits for the block, 8 for the symbol.
 fn name_of(block: u32, symbol: u8) -> PayloadId
     ensures { result ≡ record { block = block % 16777216; symbol = symbol } }
 {
@@ -29,7 +29,7 @@ fn name_of(block: u32, symbol: u8) -> PayloadId
     }
 }
 
-/// The head of an INFO and of a DATA.
+/// The fields that INFO and DATA share (RFC 5740 sections 4.2.1 and 4.2.2), with the sequence number of the next datagram.
 fn object_head(profile: &Profile, pace: &Pace, index: u32, flags: u8) -> ObjHead
     ensures exact { result ≡ object_front profile.now pace.now index flags }
     ensures backoff { result.backoff < 16 }
@@ -48,7 +48,7 @@ fn object_head(profile: &Profile, pace: &Pace, index: u32, flags: u8) -> ObjHead
     }
 }
 
-/// The head of a command.
+/// The fields that all commands share (RFC 5740 section 4.2.3), with the sequence number of the next datagram.
 fn command_head(profile: &Profile, pace: &Pace) -> CmdHead
     ensures exact { result ≡ command_front profile.now pace.now }
     ensures backoff { result.backoff < 16 }
@@ -64,7 +64,7 @@ fn command_head(profile: &Profile, pace: &Pace) -> CmdHead
     }
 }
 
-/// Writes an INFO with this head and no info into the empty datagram.
+/// Writes an INFO up to where its info begins: the caller appends that from the window. The datagram must be empty.
 fn put_info_front(head: &ObjHead, fti: &Fti, out: &mut Datagram)
     requires empty { out.old ≡ [] }
     requires backoff { head.now.backoff < 16 }
@@ -83,7 +83,7 @@ fn put_info_front(head: &ObjHead, fti: &Fti, out: &mut Datagram)
     );
 }
 
-/// Writes a DATA with this head and no payload into the empty datagram.
+/// Writes a DATA up to where its payload begins: the caller appends that from the window. The datagram must be empty.
 fn put_data_front(head: &ObjHead, id: &PayloadId, fti: &Fti, out: &mut Datagram)
     requires empty { out.old ≡ [] }
     requires backoff { head.now.backoff < 16 }
@@ -103,7 +103,7 @@ fn put_data_front(head: &ObjHead, id: &PayloadId, fti: &Fti, out: &mut Datagram)
     );
 }
 
-/// Writes a FLUSH with this head and no nodes into the empty datagram.
+/// Writes a FLUSH up to where its nodes begin: the caller appends them from the book. The datagram must be empty.
 fn put_flush_front(head: &CmdHead, object: u16, id: &PayloadId, out: &mut Datagram)
     requires empty { out.old ≡ [] }
     requires backoff { head.now.backoff < 16 }
@@ -123,7 +123,7 @@ fn put_flush_front(head: &CmdHead, object: u16, id: &PayloadId, out: &mut Datagr
     );
 }
 
-/// Writes a SQUELCH with this head into the empty datagram.
+/// Writes a whole SQUELCH: it lists no objects, so nothing is appended. The datagram must be empty.
 fn put_squelch(head: &CmdHead, object: u16, id: &PayloadId, out: &mut Datagram)
     requires empty { out.old ≡ [] }
     requires backoff { head.now.backoff < 16 }
@@ -143,7 +143,7 @@ fn put_squelch(head: &CmdHead, object: u16, id: &PayloadId, out: &mut Datagram)
     );
 }
 
-/// Clears the datagram, and writes an INFO without its info.
+/// Clears the datagram, and writes an INFO up to its info, which [`push_info`] appends.
 pub(crate) fn write_info_front(
     profile: &Profile,
     pace: &Pace,
@@ -160,8 +160,7 @@ pub(crate) fn write_info_front(
     put_info_front(&head, fti, out);
 }
 
-/// Clears the datagram, and writes a DATA without its symbol.
-// Without the symbol: the caller appends it from the window, so its octets are copied once.
+/// Clears the datagram, and writes a DATA up to its payload, which the window's `symbol` appends.
 pub(crate) fn write_data_front(
     profile: &Profile,
     pace: &Pace,
@@ -179,7 +178,7 @@ pub(crate) fn write_data_front(
     put_data_front(&head, &id, fti, out);
 }
 
-/// Clears the datagram, and writes a FLUSH without its nodes.
+/// Clears the datagram, and writes a FLUSH up to its nodes, which the book's `write_pending` appends.
 pub(crate) fn write_flush_front(profile: &Profile, pace: &Pace, at: &Position, out: &mut Datagram)
     ensures exact { out.new ≡ octets_of (Flush (record { head = command_front profile.now pace.now; object = id_of_index profile.now at.now.index; id = record { block = at.now.block; symbol = at.now.symbol }; extensions = []; nodes = [] })) }
     ensures size { length out.new ≡ 20 }
@@ -190,7 +189,7 @@ pub(crate) fn write_flush_front(profile: &Profile, pace: &Pace, at: &Position, o
     put_flush_front(&head, object_id(profile, at.index), &id, out);
 }
 
-/// Clears the datagram, and writes a SQUELCH that names this block and lists no objects.
+/// Clears the datagram, and writes a SQUELCH that names the first symbol of this block. It lists no single objects as invalid.
 pub(crate) fn write_squelch(profile: &Profile, pace: &Pace, first: &Point, out: &mut Datagram)
     ensures { out.new ≡ octets_of (Squelch (record { head = command_front profile.now pace.now; object = id_of_index profile.now first.now.index; id = record { block = first.now.block; symbol = 0 }; extensions = []; invalid = [] })) }
 {
@@ -200,7 +199,7 @@ pub(crate) fn write_squelch(profile: &Profile, pace: &Pace, first: &Point, out: 
     put_squelch(&head, object_id(profile, first.index), &id, out);
 }
 
-/// Appends an object's info to an INFO that was written without it.
+/// Appends an object's info to what [`write_info_front`] wrote. An info has at most the octets of one symbol, so it fits.
 pub(crate) fn push_info(profile: &Profile, info: &[u8], out: &mut Datagram)
     requires front { length out.old ≡ 28 }
     requires most { length info.now ≤ profile.now.e }
