@@ -26,7 +26,7 @@ impl Parts {
         self.numbers = self.numbers.acknowledged().sent();
         Sent::Datagram
     }
-    /// Returns the position that is to be acknowledged, if any.
+
     pub(crate) fn due(&self) -> Option<Position>
         ensures { (s : ReceiverState) → Stands (kept_of self.now) s → result ≡ s.knows.due }
     {

@@ -14,7 +14,7 @@ use norm_ext::RequestWriter;
 #[derive(Debug, Drop)]
 pub(crate) struct Asking {
     pub writer: RequestWriter,
-    /// Whether others asked for everything that it asks for so far.
+    /// Whether others asked for everything that was added. True if nothing was.
     pub all_heard: bool,
     /// Whether a need did not fit. No further one is added then.
     pub full: bool,

@@ -23,7 +23,6 @@ use norm_codec::{Message, decode};
 use norm_ext::{CmdHead, ObjHead};
 use norm_objmsg::grammar::{DataMsg, InfoMsg};
 
-/// Returns the sender, instance and object id of an object's message.
 fn object_naming(head: &ObjHead) -> Naming
     ensures { result ≡ record { source = head.now.source; instance = head.now.instance; object = head.now.object } }
 {
@@ -34,7 +33,6 @@ fn object_naming(head: &ObjHead) -> Naming
     }
 }
 
-/// Returns the sender and instance of a command, with the object id that it names.
 fn command_naming(head: &CmdHead, object: u16) -> Naming
     ensures { result ≡ record { source = head.now.source; instance = head.now.instance; object = object } }
 {
@@ -52,7 +50,6 @@ fn block_of(id: PayloadId) -> u32
 }
 
 impl Parts {
-    /// Takes in an INFO.
     fn deliver_info(&mut self, msg: &InfoMsg<'_>, now: Moment, draw: u32) -> Result<(), Memory>
         ensures profile { self.new.profile ≡ self.old.profile }
         ensures state { IfOk result (λ _. (s : ReceiverState) → Stands (kept_of self.old) s
@@ -69,7 +66,6 @@ impl Parts {
         self.deliver_said(&object_naming(&msg.head), &said, now, draw)
     }
 
-    /// Takes in a DATA.
     fn deliver_data(&mut self, msg: &DataMsg<'_>, now: Moment, draw: u32) -> Result<(), Memory>
         ensures profile { self.new.profile ≡ self.old.profile }
         ensures state { IfOk result (λ _. (s : ReceiverState) → Stands (kept_of self.old) s

@@ -42,7 +42,6 @@ impl Parts {
         })
     }
 
-    /// Whether nothing is needed.
     pub(crate) fn needs_nothing(&self) -> bool
         ensures { (s : ReceiverState) → Stands (kept_of self.now) s → result ≡ needs_nothing self.now.profile s }
     {
@@ -85,7 +84,7 @@ impl Parts {
         Ok(())
     }
 
-    /// Takes in a message of the current instance.
+    /// Takes in a message of the current instance. If its object id stands for no index, nothing changes.
     fn take_in(
         &mut self,
         object: u16,

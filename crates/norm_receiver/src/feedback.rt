@@ -26,7 +26,7 @@ impl Numbers {
     }
 }
 
-/// Writes the acknowledgement of a position.
+/// Clears the datagram, and writes the acknowledgement of a flush that named this position.
 pub(crate) fn write_mark(profile: &Profile, numbers: &Numbers, at: FlushPlace, out: &mut Datagram)
     ensures { (s : ReceiverState) → numbers.now ≡ numbers_of s → out.new ≡ octets_of (ack_message profile.now s at) }
 {
@@ -49,7 +49,7 @@ pub(crate) fn write_mark(profile: &Profile, numbers: &Numbers, at: FlushPlace, o
     );
 }
 
-/// Writes a NACK without requests.
+/// Clears the datagram, and writes a NACK up to where its requests begin.
 pub(crate) fn write_nack_front(profile: &Profile, numbers: &Numbers, out: &mut Datagram)
     ensures exact { (s : ReceiverState) → numbers.now ≡ numbers_of s → out.new ≡ octets_of (nack_message profile.now s []) }
     ensures size { length out.new ≡ 24 }

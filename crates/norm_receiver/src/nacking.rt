@@ -66,7 +66,7 @@ impl Parts {
         asking.add(&self.profile, Need::ObjectInfo { index }, heard, out);
     }
 
-    /// Requests the symbols that an incomplete block lacks.
+    /// Requests as many symbols of an incomplete block as it lacks, whichever they are.
     fn ask_block(
         &self,
         index: u32,
@@ -103,7 +103,7 @@ impl Parts {
         }
     }
 
-    /// Requests the symbols that an object's blocks before `due` lack. It looks at incomplete blocks only.
+    /// Requests the symbols that an object's blocks before `due` lack. It looks at incomplete blocks only, and stops if a request does not fit.
     pub(crate) fn ask_blocks(
         &self,
         index: u32,
@@ -151,7 +151,7 @@ impl Parts {
         self.ask_blocks(index, plan, due, asking, out);
     }
 
-    /// Requests what is needed of an object.
+    /// Requests what is needed of an object: its info first, then symbols. One that was not taken up is requested whole.
     fn ask_object(&self, index: u32, asking: &mut Asking, out: &mut Datagram)
         requires reached { self.now.hold.point.index ≤ index }
         requires room { HasRoom asking.old.writer out.old }

@@ -95,14 +95,13 @@ pub(crate) fn lacks_info(hold: &Hold, index: u32, flags: u8, covered: bool) -> b
     !hold.has_info(index)
 }
 
-/// Whether an object's flags are a stream's.
 pub(crate) fn is_stream(flags: u8) -> bool
     ensures { result ≡ says_stream flags }
 {
     has_flag(flags, STREAM)
 }
 
-/// Whether all blocks of an object before `due` are done.
+/// Whether all blocks of an object before `due` are done. It takes constant time.
 pub(crate) fn is_done_before(hold: &Hold, index: u32, due: u32) -> bool
     requires { hold.now.point.index ≤ index }
     ensures { (s : Holding) → HoldStands hold.now s → IfSome (plan_of s index) (λ plan. due ≤ blocks (cut_of_plan plan) → result ≡ is_nil (counts_from s plan due 0)) }
@@ -113,7 +112,7 @@ pub(crate) fn is_done_before(hold: &Hold, index: u32, due: u32) -> bool
     }
 }
 
-/// Whether no symbols are needed of data or a file.
+/// Whether no symbols are needed of data or a file: its due blocks are done. Its info is looked at before.
 fn is_object_quiet(hold: &Hold, numbers: &Numbers, index: u32, plan: &Plan) -> bool
     requires reached { hold.now.point.index ≤ index }
     requires plan { IsPlanOf hold.now index plan.now }
@@ -123,7 +122,7 @@ fn is_object_quiet(hold: &Hold, numbers: &Numbers, index: u32, plan: &Plan) -> b
     is_done_before(hold, index, due)
 }
 
-/// Whether nothing is needed of an object.
+/// Whether nothing is needed of an object. One that was not taken up is needed itself as soon as it is covered.
 fn is_quiet(hold: &Hold, numbers: &Numbers, index: u32) -> bool
     requires { hold.now.point.index ≤ index }
     ensures { (s : Holding) → HoldStands hold.now s → HasSeenBlocks s → result ≡ is_nil (needs_of hold.now.p numbers.now.farthest numbers.now.flush s index) }

@@ -11,25 +11,25 @@ use norm_base::{InstanceId, Moment, NodeId, Profile};
 use norm_ext::is_above;
 use std::marker::Model;
 
-/// The numbers of a receiver. Each has the meaning that it has in the rules' state.
+/// The numbers of a receiver. Each has the meaning that it has in the rules' state. A call that changes them returns new ones.
 #[derive(Clone, Copy, Debug, PartialEq, Eq)]
 pub struct Numbers {
     pub node: NodeId,
-    /// The current instance, if one began.
+    /// The instance of the sender that is taken in. `None` until a message begins the first one.
     pub instance: Option<InstanceId>,
-    /// The greatest object index that a message of this instance named.
+    /// The greatest object index that a message of the sender named in this instance. 0 if none did.
     pub known: u32,
-    /// The farthest block of the sender that was seen.
+    /// The farthest block of which an INFO or DATA came in this instance, kept or not. An INFO counts as block 0 of its object.
     pub farthest: Option<Point>,
-    /// The greatest flush position.
+    /// The farthest position that a flush of this instance named.
     pub flush: Option<Position>,
     /// When the running back-off expires. `None` if none is running.
     pub backoff: Option<Moment>,
     /// When the hold-off ends. No back-off begins before it.
     pub holdoff: Moment,
-    /// The position that is to be acknowledged, if any.
+    /// The farthest position that is still to be acknowledged, if any.
     pub due: Option<FlushPlace>,
-    /// The sequence number of the next datagram.
+    /// The sequence number of the next datagram. It goes on across instances.
     pub sequence: u16,
 }
 
@@ -52,7 +52,6 @@ impl Model for FlushPlace {
 }
 
 impl FlushPlace {
-    /// Returns the position.
     pub(crate) fn position(&self) -> Position
         ensures exact { result ≡ self.now }
         ensures block { IsBlock result.block }
@@ -64,7 +63,7 @@ impl FlushPlace {
         }
     }
 
-    /// Returns the further of this position and the one that is due already, if any.
+    /// Returns this position, or the one that is due already if it is as far or farther: a flush that comes late must not lower it.
     fn further(self, due: Option<FlushPlace>) -> Option<FlushPlace>
         ensures { result ≡ further self due }
     {
@@ -83,7 +82,7 @@ fn moment_after(now: Moment, span: u64) -> Moment
 }
 
 impl Numbers {
-    /// Returns the numbers of a receiver that is in no instance yet.
+    /// Returns the numbers of a receiver that is in no instance yet. No hold-off is in effect.
     pub(crate) fn new(node: NodeId) -> Numbers
         ensures { result ≡ opening_numbers node }
     {
@@ -131,7 +130,7 @@ impl Numbers {
         }
     }
 
-    /// Notes an index that a message named.
+    /// Notes an index that a message named. Later object ids are read near the greatest one.
     pub(crate) fn learning(&self, index: u32) -> Numbers
         ensures { result ≡ record self.now { known = max self.now.known index } }
     {
@@ -141,7 +140,7 @@ impl Numbers {
         }
     }
 
-    /// Notes a block that was seen.
+    /// Notes the block of an INFO or DATA. One before the farthest changes nothing.
     pub(crate) fn seeing(&self, at: Point) -> Numbers
         ensures { result ≡ record self.now { farthest = further_point at self.now.farthest } }
     {
@@ -167,7 +166,7 @@ impl Numbers {
         }
     }
 
-    /// Whether a back-off may begin: none is running, and no hold-off is in effect.
+    /// Whether a back-off may begin if something is needed. A running one never begins anew.
     pub(crate) fn may_back_off(&self, now: Moment) -> bool
         ensures { result ≡ (is_none self.now.backoff && not (nat_lt now self.now.holdoff)) }
     {
@@ -187,7 +186,7 @@ impl Numbers {
         }
     }
 
-    /// Whether a back-off is running and has expired.
+    /// Whether the running back-off has expired. `false` if none is running.
     pub(crate) fn ends_back_off(&self, now: Moment) -> bool
         ensures { result ≡ has_ended now self.now.backoff }
     {
@@ -197,7 +196,7 @@ impl Numbers {
         }
     }
 
-    /// Ends the back-off.
+    /// Call after the back-off expired, whether a NACK is sent then or not.
     pub(crate) fn backed_off(&self) -> Numbers
         ensures { result ≡ record self.now { backoff = None } }
     {
@@ -219,7 +218,6 @@ impl Numbers {
         }
     }
 
-    /// Returns the position that is to be acknowledged, if any.
     pub(crate) fn due_position(&self) -> Option<Position>
         ensures { result ≡ self.now.due }
     {
@@ -229,14 +227,14 @@ impl Numbers {
         }
     }
 
-    /// Notes that nothing is to be acknowledged any more.
+    /// Call as the acknowledgement is sent. None is due then until another flush asks for one.
     pub(crate) fn acknowledged(&self) -> Numbers
         ensures { result ≡ record self.now { due = None } }
     {
         Numbers { due: None, ..*self }
     }
 
-    /// Counts a datagram that was sent.
+    /// Call for each datagram that is sent. The sequence number after 65,535 is 0.
     pub(crate) fn sent(&self) -> Numbers
         ensures { result ≡ record self.now { sequence = (self.now.sequence + 1) % 65536 } }
     {

@@ -39,7 +39,7 @@ impl Model for Receiver {
 }
 
 impl Receiver {
-    /// Creates a node's receiver, which is in no instance yet.
+    /// Creates a node's receiver, which is in no instance yet. The first INFO, DATA, FLUSH or SQUELCH of the profile's sender begins one.
     ///
     /// # Errors
     ///
@@ -98,7 +98,7 @@ impl Receiver {
         self.parts.due()
     }
 
-    /// Returns how many hand-ups wait to be taken.
+    /// Returns how many hand-ups [`take_up`](Receiver::take_up) still returns before `None`. Takes constant time.
     pub fn ups(&self) -> usize
         ensures exact { result ≡ length self.now.hold.ups }
         ensures stands { (s : ReceiverState) → StandsFor self.now s → result ≡ length s.holding.ups }
@@ -106,14 +106,14 @@ impl Receiver {
         self.parts.ups()
     }
 
-    /// Returns the current instance, if one began.
+    /// Returns the instance of the sender that is taken in. `None` until a message begins the first one.
     pub fn instance(&self) -> Option<InstanceId>
         ensures { (s : ReceiverState) → StandsFor self.now s → result ≡ s.instance }
     {
         self.parts.instance()
     }
 
-    /// Whether an object was lost in this instance.
+    /// Whether an object, or the rest of a stream, was lost in this instance. If so, the receiver acknowledges nothing more in it.
     pub fn has_lost(&self) -> bool
         ensures { (s : ReceiverState) → StandsFor self.now s → lost_nothing s.holding ≡ not result }
     {

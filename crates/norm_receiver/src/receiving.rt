@@ -86,7 +86,7 @@ fn lets_put(word: Fit) -> bool
     }
 }
 
-/// Keeps the info of an object if it is new.
+/// Keeps the info of an object, unless [`Hold::put_info`] answers that it does not. That makes no difference to the caller.
 fn keep_info(hold: &mut Hold, index: u32, info: &[u8]) -> Result<(), Memory>
     ensures profile { hold.new.p ≡ hold.old.p }
     ensures state { IfOk result (λ _. (s : Holding) → HoldStands hold.old s → HoldStands hold.new (put_info hold.old.p index info.now s)) }
@@ -96,7 +96,7 @@ fn keep_info(hold: &mut Hold, index: u32, info: &[u8]) -> Result<(), Memory>
     Ok(())
 }
 
-/// Keeps a symbol of an object if it is new.
+/// Keeps a symbol of an object, unless [`Hold::put`] answers that it does not. That makes no difference to the caller.
 fn keep_symbol(hold: &mut Hold, index: u32, id: PayloadId, payload: &[u8]) -> Result<(), Memory>
     ensures profile { hold.new.p ≡ hold.old.p }
     ensures state { IfOk result (λ _. (s : Holding) → HoldStands hold.old s
@@ -107,7 +107,6 @@ fn keep_symbol(hold: &mut Hold, index: u32, id: PayloadId, payload: &[u8]) -> Re
     Ok(())
 }
 
-/// Keeps what is brought if it is new.
 fn put_brought(hold: &mut Hold, index: u32, brought: &Brought<'_>) -> Result<(), Memory>
     ensures profile { hold.new.p ≡ hold.old.p }
     ensures state { IfOk result (λ _. (s : Holding) → HoldStands hold.old s → HoldStands hold.new (puts hold.old.p index brought.now s)) }
@@ -141,8 +140,8 @@ fn keep(hold: &mut Hold, index: u32, brought: &Brought<'_>) -> Result<(), Memory
     Ok(())
 }
 
-/// Keeps what an INFO or DATA with transmission information brings, if that fits. If memory runs out, an object that it took up is forgotten
-/// again.
+/// Keeps what an INFO or DATA with transmission information brings, if that fits. Otherwise only notes its block as seen. If memory runs out, an
+/// object that it took up is forgotten again.
 fn keep_told(
     hold: &mut Hold,
     index: u32,
@@ -171,7 +170,7 @@ fn keep_told(
     Err(fault)
 }
 
-/// Keeps what an INFO or DATA brings, with or without transmission information.
+/// Keeps what an INFO or DATA brings. Without transmission information that is possible only if the object was taken up before.
 fn keep_object(
     hold: &mut Hold,
     index: u32,
@@ -203,7 +202,7 @@ impl Parts {
         self.hold.hand_up().all_handed_up(&at, self.hold.has_lost())
     }
 
-    /// Takes in an INFO or DATA of the object with this index, and notes the index as known.
+    /// Takes in an INFO or DATA of the object with this index, and notes the index as known, and its block if it is the farthest.
     #[tactic(auto, using(crate::proofs::BlockLemmas::held_blocks))]
     fn receive_object(
         &mut self,
@@ -224,7 +223,8 @@ impl Parts {
         Ok(())
     }
 
-    /// Takes in a flush up to a symbol of the object with this index, and notes the index as known.
+    /// Takes in a flush up to a symbol of the object with this index, and notes the index as known. Whether to acknowledge it is decided now: what is
+    /// handed up later is acknowledged only after another flush.
     fn receive_flush(&mut self, index: u32, id: PayloadId, nodes: &[u8])
         requires { length nodes.now % 4 ≡ 0 }
         ensures profile { self.new.profile ≡ self.old.profile }
@@ -250,7 +250,7 @@ impl Parts {
         Ok(())
     }
 
-    /// Does what a message says of the object with this index, and notes the index as known.
+    /// Does what a message says of the object with this index, and notes the index as known. It starts no back-off.
     pub(crate) fn receive(&mut self, index: u32, said: &Said<'_>) -> Result<(), Memory>
         requires whole { IsSaid said.now }
         requires last { index < 4294967295 }

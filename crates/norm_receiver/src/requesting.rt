@@ -14,16 +14,16 @@ use norm_ext::flags::{WANT_BLOCK, WANT_INFO, WANT_OBJECT, WANT_SEGMENT};
 use norm_ext::items::item_of;
 use norm_ext::{Form, RequestWriter};
 
-/// What a receiver needs.
+/// What a receiver needs. A NACK has one repair request for each.
 #[derive(Clone, Copy, Debug, PartialEq, Eq)]
 pub enum Need {
     /// An object of which nothing is known, and its info.
     Object { index: u32 },
     /// The info of an object that has a plan. Its flags have INFO, and the info is not held.
     ObjectInfo { index: u32 },
-    /// This many symbols of a block.
+    /// This many symbols of a block, of those that did not come.
     Symbols { index: u32, block: u32, wanted: u8 },
-    /// A source symbol of a stream.
+    /// A source symbol of a stream, by its own name.
     Source { at: Position },
     /// Everything of a stream from a block on.
     Rest { index: u32, block: u32 },

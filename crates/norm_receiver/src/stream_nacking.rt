@@ -39,7 +39,7 @@ impl Parts {
         asking.add(&self.profile, Need::Source { at }, heard, out);
     }
 
-    /// Requests the missing source symbols of a run.
+    /// Requests the missing source symbols of a run one by one, unless its block is done. It stops if a request does not fit.
     fn ask_run(&self, index: u32, plan: &Plan, run: Run, asking: &mut Asking, out: &mut Datagram)
         requires stream { IsStreamOf self.now.hold index plan.now }
         requires block { IsBlock run.block }
@@ -69,7 +69,6 @@ impl Parts {
         }
     }
 
-    /// Requests the missing source symbols of a run, if there is one.
     fn ask_missing(
         &self,
         index: u32,

@@ -29,13 +29,13 @@ pub struct Run {
 /// What may be needed of a stream apart from its info.
 #[derive(Clone, Copy, Debug, PartialEq, Eq)]
 pub struct StreamWants {
-    /// The blocks before this one are needed whole.
+    /// Each block before this one is needed if it is incomplete.
     pub due: u32,
-    /// The source symbols up to the flush.
+    /// The source symbols of the flush's block up to the flush, if it is in this stream.
     pub flushed: Option<Run>,
-    /// The source symbols of the end's block before the end, except those that the flush names.
+    /// The source symbols of the end's block before the end, except those in `flushed`. `None` if the end is not known, or the stream not covered.
     pub ended: Option<Run>,
-    /// The block from which on everything is needed.
+    /// The block from which on everything is needed, because the sender is past the stream and its end is not known.
     pub rest: Option<u32>,
 }
 
@@ -78,7 +78,7 @@ fn stream_due(seen: u32, within: &Option<Position>) -> u32
     }
 }
 
-/// Returns the greatest block that was seen of a stream, at most the last that a message can name.
+/// Returns the greatest block that was seen of a stream, at most the last that a message can name. 0 if none was.
 fn block_seen(hold: &Hold, index: u32) -> u32
     requires { hold.now.point.index ≤ index }
     ensures block { IsBlock result }
@@ -159,7 +159,7 @@ fn symbols_flushed(plan: &Plan, within: &Option<Position>, block: u32) -> u8
     }
 }
 
-/// Returns the source symbols of the flush's block up to and including the flush.
+/// Returns the source symbols of the flush's block up to and including the flush. `None` if the flush is in another object.
 fn flush_run(plan: &Plan, within: &Option<Position>) -> Option<Run>
     requires { IfSome within.now (λ at. IsBlock at.block) }
     ensures exact { result ≡ flush_run plan.now within.now }
@@ -175,7 +175,8 @@ fn flush_run(plan: &Plan, within: &Option<Position>) -> Option<Run>
     }
 }
 
-/// Returns the source symbols of the end's block before the end, except those that a flush names.
+/// Returns the source symbols of the end's block before the end, except those that a flush in this block names. `None` if the end is not known, or
+/// the stream not covered.
 fn end_run(
     plan: &Plan,
     covered: bool,
@@ -220,7 +221,7 @@ fn rest_from(end: &Option<Position>, behind: bool, least: u32) -> Option<u32>
     Some(least)
 }
 
-/// Returns what may be needed of a stream apart from its info.
+/// Returns what may be needed of a stream apart from its info. If the stream is covered, it searches all blocks that are held for the end.
 pub(crate) fn stream_wants(hold: &Hold, numbers: &Numbers, index: u32, plan: &Plan) -> StreamWants
     requires { IsStreamOf hold.now index plan.now }
     ensures widths { AreBlocks result }

@@ -16,7 +16,7 @@ use rx_hold::Hold;
 use std::alloc::Global;
 
 impl Parts {
-    /// Creates a node's receiver, which is in no instance yet.
+    /// Creates a node's receiver, which is in no instance yet. Takes the memory of an empty hold; what is heard takes memory as it comes.
     pub(crate) fn new(alloc: Global, profile: &Profile, node: NodeId) -> Result<Parts, Memory>
         ensures profile { IfOk result (λ parts. parts.profile ≡ profile.now) }
         ensures state { IfOk result (λ parts. Stands (kept_of parts) (receiver_opening node)) }
@@ -49,7 +49,6 @@ impl Parts {
         self.hold.ups()
     }
 
-    /// Returns the current instance, if one began.
     pub(crate) fn instance(&self) -> Option<InstanceId>
         ensures { (s : ReceiverState) → Stands (kept_of self.now) s → result ≡ s.instance }
     {
