@@ -1,4 +1,4 @@
-//! The symbols of one block, decoded in place. A block has a slot for each of its source symbols: `size` octets in its row, and the id of the
+//! The symbols of one block, decoded in place. A block has a slot for each of its source symbols: `size` octets of its symbol buffer, and the id of the
 //! symbol that came into it, which stays after decoding.
 
 ghost use Rattle.std.specs.Prelude.{ℕ, ◌≡◌, ◌==◌, ◌<◌, ◌≤◌, ◌+◌, ◌*◌, ◌≢◌, length, false, slice_index, IsTrue, EachIndex, MatchOption};
@@ -15,7 +15,6 @@ use rs_block::Solver;
 // No symbol has this id: a block has at most 255 encoded symbols (RFC 5510 section 8), with the ids 0 to 254.
 pub const FREE: u8 = 255;
 
-/// Returns the first free slot. `None` if there is none.
 fn first_free(ids: &[u8]) -> Option<usize>
     ensures { MatchOption result (EachIndex ids.now (λ i. slice_index ids.now i ≢ 255)) (λ i. (i < length ids.now) × (slice_index ids.now i ≡ 255)) }
 {
@@ -29,15 +28,15 @@ fn free_place(ids: &[u8], symbol: u8) -> usize
     ensures free { slice_index ids.now result ≡ 255 }
 {
     let own = usize::from(symbol);
-    // A source symbol at its own place stays there as the block is solved.
+    // A source symbol in its own slot stays there as the block is solved.
     if own < ids.len() && ids[own] == FREE {
         return own;
     }
-    // It does not fail: a symbol is put only into a block that lacks some, and so has a free place.
+    // It does not fail: a symbol is put only into a block that lacks some, and so has a free slot.
     first_free(ids).unwrap()
 }
 
-/// Puts a new symbol into a free slot.
+/// Puts a new symbol into a free slot, with zeros up to `size` octets.
 fn keep(ids: &mut [u8], row: &mut [u8], size: usize, symbol: u8, payload: &[u8])
     requires id { symbol < 255 }
     requires new { has_id symbol ids.old ≡ false }
@@ -56,7 +55,7 @@ fn keep(ids: &mut [u8], row: &mut [u8], size: usize, symbol: u8, payload: &[u8])
     put_padded(&mut row[start..start + size], payload);
 }
 
-/// Whether each slot has its own source symbol.
+/// Whether each slot has its own source symbol, so that nothing is left to decode.
 fn are_own(ids: &[u8]) -> bool
     ensures { Decides result (EachIndex ids.now (λ i. slice_index ids.now i ≡ i)) }
 {
@@ -68,7 +67,7 @@ fn are_own(ids: &[u8]) -> bool
     true
 }
 
-/// Replaces the symbols of a block without free slots by its source symbols.
+/// Replaces the symbols of a block without free slots by its source symbols. Computes nothing if just these came.
 fn solve(solver: &mut Solver, ids: &[u8], row: &mut [u8])
     requires some { 1 ≤ length ids.now }
     requires few { length ids.now ≤ solver.old.k }

@@ -43,10 +43,10 @@ pub struct Object {
     info: Option<Octets>,
     rows: Rows,
     /// How many symbols are held of each block.
-    // Always as many as the block has places that are not free. A greater count would have a block solved too early, with wrong
+    // Always as many as the block has slots that are not free. A greater count would have a block solved too early, with wrong
     // octets for what did not come.
     counts: Vec<u8>,
-    /// The incomplete blocks.
+    /// Which blocks are incomplete. It tells the first and the next one in constant time.
     shorts: Shorts,
 }
 
@@ -86,7 +86,7 @@ fn note(shorts: &mut Shorts, block: u32, lacked: u8)
     }
 }
 
-/// Returns the kind that the flags say: a file or data.
+/// Returns `File` if the flags have FILE (RFC 5740 section 4.2.1), and `Data` otherwise.
 fn kind_of(flags: u8) -> Kind
     ensures { result ≡ kind_of flags }
 {
@@ -96,7 +96,7 @@ fn kind_of(flags: u8) -> Kind
     Kind::Data
 }
 
-/// Returns the info of an object if its flags have one.
+/// Returns the info to hand up: none without the flag INFO (RFC 5740 section 4.2.1), whatever is held.
 fn told_info(flags: u8, info: Option<Octets>) -> Option<Octets>
     ensures { result ≡ elim (says_info flags) [ true ↦ info | false ↦ None ] }
 {
@@ -106,7 +106,7 @@ fn told_info(flags: u8, info: Option<Octets>) -> Option<Octets>
     None
 }
 
-/// Returns the first `len` octets of these.
+/// Returns the first `len` octets of these, in the same memory: what is left out is the padding of the last symbol.
 fn front_of(octets: Vec<u8>, len: usize) -> Octets
     ensures exact { result ≡ take len octets.items }
     ensures bytes { (i : ℕ) → slice_index octets.items i < 256 }
@@ -149,53 +149,50 @@ impl Object {
         })
     }
 
-    /// Returns the transmission information.
     pub fn fti(&self) -> Fti
         ensures { result ≡ self.now.plan.fti }
     {
         self.fti
     }
 
-    /// Returns how many octets the object has.
+    /// Returns how many octets the object will have when it is handed up, not how many came.
     pub fn octets(&self) -> u64
         ensures { result ≡ self.now.plan.fti.l }
     {
         self.fti.l
     }
 
-    /// Returns the flags.
     pub fn flags(&self) -> u8
         ensures { result ≡ self.now.plan.flags }
     {
         self.flags
     }
 
-    /// Returns how the object is cut.
     pub fn plan(&self) -> Plan
         ensures { result ≡ cut_of_plan self.now.plan }
     {
         self.rows.plan
     }
 
-    /// Whether the info is held.
+    /// Whether the info is held. `false` also if the object has none.
     pub fn has_info(&self) -> bool
         ensures { result ≡ is_some self.now.info }
     {
         self.info.is_some()
     }
 
-    /// Whether a symbol is held.
+    /// Whether a symbol came and was kept. It takes constant time. A symbol that was decoded did not come. `false` if the object has no such symbol.
     pub fn holds(&self, block: u32, symbol: u8) -> bool
         ensures { result ≡ holds (alone self.now) (position self.now.plan.index block symbol) }
     {
-        // 255 stands for a place that is free, and is no symbol's id.
+        // 255 stands for a slot that is free, and is no symbol's id.
         if block >= self.rows.plan.blocks() || symbol == FREE {
             return false;
         }
         self.rows.holds(block, symbol)
     }
 
-    /// Returns how many more symbols a block needs to be decoded.
+    /// Returns how many more symbols a block needs to be decoded. It takes constant time.
     pub fn lacking(&self, block: u32) -> u8
         requires { block < blocks (cut_of_plan self.now.plan) }
         ensures { result ≡ lacking (alone self.now) self.now.plan block }
@@ -235,7 +232,7 @@ impl Object {
         self.shorts.next(block)
     }
 
-    /// Whether all blocks are done.
+    /// Whether all blocks are done. It takes constant time.
     fn all_done(&self) -> bool
         ensures { result ≡ list_all (is_done (alone self.now) self.now.plan) (range_with_len 0 (blocks (cut_of_plan self.now.plan))) }
     {
@@ -264,7 +261,7 @@ impl Object {
         self.info = Some(info);
     }
 
-    /// Keeps a new symbol of an incomplete block.
+    /// Keeps a new symbol of an incomplete block. If the block lacks no more symbols then, `solver` decodes it.
     fn put(&mut self, block: u32, symbol: u8, payload: &[u8], solver: &mut Solver)
         requires id { symbol < 255 }
         requires new { holds (alone self.old) (position self.old.plan.index block symbol) ≡ false }

@@ -16,12 +16,11 @@ use symbol_mask::IdMask;
 
 /// A slot for each source symbol of an object, block by block.
 // One buffer for the whole object, made with its plan: a hand-up cuts it to the object's length and gives it away, with no copy and no memory.
-// Source symbols lie at their places, so of a block that lacked some only the places are written that had another symbol.
+// Source symbols lie in their own slots, so decoding a block writes only the slots that had another symbol.
 #[derive(Debug, Drop)]
 pub struct Rows {
-    /// How the object is cut.
     pub plan: Plan,
-    /// The octets of all slots.
+    /// The octets of all slots, `e` for each. Those of a free slot are zeros.
     pub octets: Vec<u8>,
     /// The id of the symbol that came into each slot, or [`FREE`]. It stays after the block was decoded.
     pub ids: Vec<u8>,
@@ -30,7 +29,7 @@ pub struct Rows {
     pub masks: Vec<IdMask>,
 }
 
-/// Returns the first slot of a block.
+/// Returns the first slot of a block: as many slots lie before it as the blocks before have source symbols.
 fn start_of(plan: &Plan, block: u32) -> usize
     requires object { is_some plan.now.l ≡ true }
     ensures exact { result ≡ start_of plan.now block }
@@ -47,7 +46,6 @@ fn end_of(plan: &Plan, block: u32) -> usize
     start_of(plan, block) + usize::from(plan.source_len(block))
 }
 
-/// Returns this many empty sets.
 fn empty_masks(alloc: Global, count: u32) -> Result<Vec<IdMask>, Memory>
     ensures { IfOk result (λ masks. masks.items ≡ replicate count []) }
 {

@@ -22,20 +22,20 @@ use symbol_mask::IdMask;
 
 /// What is held of a block. [`put`](Block::put) each new symbol while the block lacks some. With the last one that it lacks, the block's
 /// source symbols replace the symbols that came.
-// A row for each symbol, in the order of ids: a stream's octets then stand once, and what is held is listed in the order of the rules. A symbol
-// that comes in order costs a comparison with the last id. `ids`, `mask` and `rows` speak of the same symbols; if one went apart, a block would be
-// solved from rows that are not what their ids say.
+// A symbol buffer for each symbol, in the order of ids: a stream's octets then stand once, and what is held is listed in the order of the rules. A
+// symbol that comes in order costs a comparison with the last id. `ids`, `mask` and `rows` speak of the same symbols; if one went apart, a block
+// would be solved from symbol buffers that are not what their ids say.
 #[derive(Debug, Drop)]
 pub struct Block {
     k: u8,
-    /// The octets of a coded symbol.
+    /// How many octets a coded symbol has.
     size: usize,
     /// The ids of the symbols that came, in ascending order.
     ids: Vec<u8>,
     /// The same ids as a set, which tells in constant time whether a symbol came.
     // The ids twice, because symbols come in any order: the list says what lies where, and this in one look whether a symbol came.
     mask: IdMask,
-    /// The octets of each symbol in `ids`. After the block was decoded, those of its source symbols 0 to k - 1.
+    /// A symbol buffer for each symbol in `ids`. After the block was decoded, they have its source symbols 0 to k - 1.
     rows: Vec<Row>,
 }
 
@@ -77,7 +77,7 @@ fn place_for(ids: &[u8], id: u8) -> usize
     ids.len()
 }
 
-/// Returns the index of an id.
+/// Returns the index of an id. `None` if that symbol did not come. It visits the ids one by one.
 fn position_of(ids: &[u8], id: u8) -> Option<usize>
     ensures { MatchOption result
         (EachIndex ids.now (λ i. slice_index ids.now i ≢ id))
@@ -86,7 +86,7 @@ fn position_of(ids: &[u8], id: u8) -> Option<usize>
     ids.iter().position(|other| *other == id)
 }
 
-/// Inserts an id and its row at their index, and returns that. If memory runs out nothing changes.
+/// Inserts an id and its symbol buffer at their index, and returns that. If memory runs out nothing changes.
 // Proof: the id and its row go to one index, so they are one insertion into the list of ids with rows (listed_more).
 fn keep(
     ids: &mut Vec<u8>,
@@ -169,14 +169,14 @@ impl Block {
         }
     }
 
-    /// Whether a symbol came. It takes constant time.
+    /// Whether a symbol came. It takes constant time. A symbol that was decoded did not come.
     pub fn has(&self, id: u8) -> bool
         ensures { result ≡ has_id self.now id }
     {
         self.mask.contains(id)
     }
 
-    /// Returns how many more symbols the block needs to be decoded.
+    /// Returns how many more symbols the block needs to be decoded. 0 if it was.
     pub fn lacks(&self) -> u8
         ensures exact { result ≡ lacks self.now }
         ensures most { result ≤ self.now.k }
@@ -184,7 +184,8 @@ impl Block {
         self.k - self.ids.len() as u8
     }
 
-    /// Adds a new symbol to a block that lacks some. It takes the memory of one symbol, and none for decoding.
+    /// Adds a new symbol to a block that lacks some, and decodes the block if that was the last one. It takes memory for the symbol and for its place
+    /// in the lists, and none for decoding.
     ///
     /// # Errors
     ///
@@ -253,7 +254,7 @@ impl Block {
         None
     }
 
-    /// Returns the rows of a block whose source symbols are all there. It takes no memory.
+    /// Returns the symbol buffers of a block whose source symbols are all there. It takes no memory.
     pub fn into_rows(self) -> Vec<Row>
         requires { (symbol : ℕ) → symbol < self.k → is_some (source_of self symbol) ≡ true }
         ensures count { length result.items ≡ self.k }

@@ -1,4 +1,4 @@
-//! Decoding a block in the rows of its symbols. First each source symbol that came is moved to its own row.
+//! Decoding a block in its symbol buffers. First each source symbol that came is moved to its own one.
 
 ghost use Rattle.std.specs.Prelude.{ℕ, ◌≡◌, ◌<◌, ◌≤◌, length};
 ghost use Rattle.std.specs.List.{AllByRecursion};
@@ -8,8 +8,8 @@ ghost use Rattle.rx_stream.specs.SameBlock.{SameBlock};
 
 use rs_block::{Row, Solver};
 
-/// Moves the symbol in row `from` to its own row if it is a source symbol, and the symbol that is there to row `from`.
-// Proof: every symbol still lies in some row with its id, so the codeword is the same. It is said for all k and sizes, so the loop takes none.
+/// Moves the symbol in symbol buffer `from` to its own one if it is a source symbol, and the symbol that is there to `from`.
+// Proof: every symbol still lies in some symbol buffer with its id, so the codeword is the same. It is said for all k and sizes, so the loop takes none.
 fn move_home(ids: &mut [u8], rows: &mut [Row], from: usize)
     requires within { from < length ids.old }
     requires count { length rows.old ≡ length ids.old }
@@ -24,7 +24,7 @@ fn move_home(ids: &mut [u8], rows: &mut [Row], from: usize)
     rows.swap(from, place);
 }
 
-/// Moves each source symbol to its own row, if the ids rise. It begins at the last row, so that none is moved away again.
+/// Moves each source symbol to its own symbol buffer, if the ids rise. It begins at the last one, so that none is moved away again.
 fn move_all_home(ids: &mut [u8], rows: &mut [Row])
     requires { length rows.old ≡ length ids.old }
     ensures { (k size : ℕ) → k ≤ 255 → AreIds k 255 ids.old → AreSymbols k size rows.old
@@ -36,7 +36,7 @@ fn move_all_home(ids: &mut [u8], rows: &mut [Row])
     }
 }
 
-/// Replaces the rows of k symbols of a block by its source symbols, in order. `ids` are the ids of the k symbols. It takes no memory. If the
+/// Replaces the k symbols of a block by its source symbols, in order. `ids` are the ids of the k symbols. It takes no memory. If the
 /// ids rise, it computes only those source symbols that did not come.
 pub fn solve(solver: &mut Solver, ids: &[u8], rows: &mut [Row])
     requires some { 1 ≤ solver.old.k }

@@ -30,7 +30,7 @@ pub fn segment_len(row: &Row, most: u16) -> u16
     requires { 8 ≤ length row.now }
     ensures { result ≡ min (number 2 0 row.now) most }
 {
-    // A row that was solved from false symbols may say any length. No segment reaches past its row whatever it says.
+    // A segment that was solved from false symbols may say any length. None reaches past its symbol buffer whatever it says.
     read_16(row.octets(), 0).min(most)
 }
 
@@ -48,7 +48,7 @@ pub fn segment_of(row: Row, len: usize) -> Octets
     ensures { result ≡ take len (drop 8 row) }
 {
     let mut octets = row.into_inner();
-    // Within the row's own memory, so that a hand-up takes none.
+    // Within the memory of the symbol buffer, so that a hand-up takes none.
     octets.copy_within(PLACE..PLACE + len, 0);
     octets.truncate(len);
     Octets::of(octets)

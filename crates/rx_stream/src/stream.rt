@@ -39,14 +39,14 @@ use std::mem;
 
 /// What is held of a stream. [`offer`](Stream::offer) symbols in any order, from the block of the next segment on. Then call
 /// [`hand_up`](Stream::hand_up) until it returns `None` or the stream's end.
-// There is a spare row for each segment that is left of the first block. With one less a hand-up would need memory.
+// There is a spare symbol buffer for each segment that is left of the first block. With one less a hand-up would need memory.
 #[derive(Debug, Drop)]
 pub struct Stream {
     alloc: Global,
     index: u32,
     fti: Fti,
     flags: u8,
-    /// The greatest block that was seen.
+    /// The greatest block that was seen, even if no symbol of it was kept. 0 if none was.
     seen: u32,
     info: Option<Octets>,
     plan: Plan,
@@ -55,10 +55,10 @@ pub struct Stream {
     symbol: u8,
     /// The blocks from `first` on.
     ring: VecDeque<Block>,
-    /// Buffers for handing up the first block, one for each segment of it that is left. After a block was handed up, its rows serve for the
-    /// next block.
+    /// Symbol buffers for handing up the first block, one for each segment of it that is left. After a block was handed up, its own ones serve for
+    /// the next block.
     spares: Vec<Row>,
-    /// Which blocks of the ring are incomplete.
+    /// Which blocks of the ring are incomplete. It tells the first and the next one in constant time.
     shorts: Shorts,
 }
 
@@ -122,7 +122,6 @@ fn fill(alloc: Global, k: u8, size: usize, ring: &mut VecDeque<Block>, room: usi
     }
 }
 
-/// Keeps a symbol of the block in a slot.
 fn put_at(
     ring: &mut VecDeque<Block>,
     place: usize,
@@ -166,7 +165,7 @@ fn first_of(found: Option<u32>, behind: u32, blocks: u32) -> Option<u32>
     None
 }
 
-/// Returns the block after a ring.
+/// Returns the block after a ring, for which there is no room yet.
 fn behind_ring(first: u32, ring: &VecDeque<Block>) -> u32
     requires named { first ≤ 16777216 }
     requires few { length ring.now.items < 65536 }
@@ -175,7 +174,7 @@ fn behind_ring(first: u32, ring: &VecDeque<Block>) -> u32
     first + ring.len() as u32
 }
 
-/// Returns the slot of a block.
+/// Returns the slot of a block. It may lie outside the ring.
 fn place_of(first: u32, block: u32) -> usize
     requires { first ≤ block }
     ensures { result + first ≡ block }
@@ -183,7 +182,7 @@ fn place_of(first: u32, block: u32) -> usize
     (block - first) as usize
 }
 
-/// Whether a slot lies outside the ring.
+/// Whether a slot lies outside the ring: its block has no room until earlier ones are handed up.
 fn is_beyond(ring: &VecDeque<Block>, place: usize) -> bool
     ensures beyond { result ≡ true → length ring.now.items ≤ place }
     ensures within { result ≡ false → place < length ring.now.items }
@@ -191,7 +190,8 @@ fn is_beyond(ring: &VecDeque<Block>, place: usize) -> bool
     place >= ring.len()
 }
 
-/// Replaces the first block, whose source symbols are all there, by an empty one at the end. Returns the rows of the first block.
+/// Replaces the first block, whose source symbols are all there, by an empty one at the end. Returns the symbol buffers of the first
+/// block.
 // Proof: replace and rotate_left need no room to be shown.
 fn shift(ring: &mut VecDeque<Block>, block: Block) -> Vec<Row>
     requires some { 0 < length ring.old.items }
@@ -205,7 +205,7 @@ fn shift(ring: &mut VecDeque<Block>, block: Block) -> Vec<Row>
     first.into_rows()
 }
 
-/// Returns this many rows of zeros.
+/// Returns the first spare symbol buffers of a stream, with zeros.
 fn spare_rows(alloc: Global, count: u8, size: usize) -> Result<Vec<Row>, Memory>
     ensures count { IfOk result (λ rows. length rows.items ≡ count) }
     ensures sizes { IfOk result (λ rows. AllByRecursion (λ (row : List ℕ). length row ≡ size) rows.items) }
@@ -217,8 +217,8 @@ fn spare_rows(alloc: Global, count: u8, size: usize) -> Result<Vec<Row>, Memory>
     Ok(rows)
 }
 
-/// Returns the first `len` octets of a segment's data, copied into one of the spare rows.
-// An unfinished block needs its own row to be solved, so a hand-up goes into a spare one. There are as many spares as segments left.
+/// Returns the first `len` octets of a segment's data, copied into one of the spare symbol buffers.
+// An unfinished block needs its own symbol buffer to be solved, so a hand-up goes into a spare one. There are as many spares as segments left.
 fn copy_of(row: &Row, spares: &mut Vec<Row>, len: usize) -> Octets
     requires some { 0 < length spares.old.items }
     requires sizes { AllByRecursion (λ (spare : List ℕ). length spare ≡ length row.now) spares.old.items }
@@ -282,35 +282,32 @@ impl Stream {
         })
     }
 
-    /// Notes that a block was seen, whether or not its symbol was kept.
+    /// Notes that a block was seen, whether or not its symbol was kept. One before the greatest changes nothing.
     pub fn see(&mut self, block: u32)
         ensures { self.new ≡ record self.old { plan = record (self.old.plan) { seen = max self.old.plan.seen block } } }
     {
         self.seen = self.seen.max(block);
     }
 
-    /// Returns the transmission information.
     pub fn fti(&self) -> Fti
         ensures { result ≡ self.now.plan.fti }
     {
         self.fti
     }
 
-    /// Returns how the stream is cut.
     pub fn plan(&self) -> Plan
         ensures { result ≡ cut_of_plan self.now.plan }
     {
         self.plan
     }
 
-    /// Returns the flags.
     pub fn flags(&self) -> u8
         ensures { result ≡ self.now.plan.flags }
     {
         self.flags
     }
 
-    /// Returns the greatest block that was seen.
+    /// Returns the greatest block that was seen, even if it has no room yet. 0 if none was.
     pub fn seen(&self) -> u32
         ensures { result ≡ self.now.plan.seen }
     {
@@ -331,7 +328,7 @@ impl Stream {
         self.symbol
     }
 
-    /// Whether the info is held.
+    /// Whether the info is held. `false` also if the stream has none.
     pub fn has_info(&self) -> bool
         ensures { result ≡ is_some self.now.info }
     {
@@ -353,7 +350,7 @@ impl Stream {
         self.info = Some(info);
     }
 
-    /// Whether a symbol is held, of a block from the next segment's on.
+    /// Whether a symbol came and was kept, of a block from the next segment's on. It takes constant time. A symbol that was decoded did not come.
     pub fn holds(&self, block: u32, symbol: u8) -> bool
         requires { self.now.point.block ≤ block }
         ensures { result ≡ holds (alone self.now) (position self.now.plan.index block symbol) }
@@ -385,7 +382,8 @@ impl Stream {
         self.lacking(block) == 0
     }
 
-    /// Returns the first incomplete block from the next segment's on. It takes constant time.
+    /// Returns the first incomplete block from the next segment's on: the one after the ring if all in it are done. `None` if no message can name that
+    /// one. It takes constant time.
     pub fn first_short(&self) -> Option<u32>
         ensures { IsShortFrom (alone self.now) self.now.plan self.now.point.block result }
     {
@@ -394,7 +392,8 @@ impl Stream {
         first_of(self.shorts.first(), behind, blocks)
     }
 
-    /// Returns the next incomplete block after this one, which is incomplete. It takes constant time.
+    /// Returns the next incomplete block after this one, which is incomplete. It goes on after the ring, and ends, as
+    /// [`first_short`](Stream::first_short) does. It takes constant time.
     pub fn next_short(&self, block: u32) -> Option<u32>
         requires reached { self.now.point.block ≤ block }
         requires block { block < blocks (cut_of_plan self.now.plan) }
@@ -410,7 +409,7 @@ impl Stream {
         first_of(self.shorts.next(block), behind, blocks)
     }
 
-    /// Whether there is no room for a block yet.
+    /// Whether there is no room for a block until earlier ones are handed up.
     fn is_far(&self, block: u32) -> bool
         requires { self.now.point.block ≤ block }
         ensures exact { (p : Settings) → IsOf p self.now → result ≡ is_far p (alone self.now) self.now.plan block }
@@ -451,7 +450,7 @@ impl Stream {
         Put::Kept
     }
 
-    /// Keeps a symbol, which is new. If memory runs out nothing changes.
+    /// Keeps a new symbol, and decodes its block if that was the last one that it lacked. If memory runs out nothing changes.
     fn keep(
         &mut self,
         block: u32,
@@ -506,8 +505,8 @@ impl Stream {
         Ok(word)
     }
 
-    /// Returns the next segment as it is coded, if it is there: the eight octets of its header, its data, and zeros up to the size of a
-    /// symbol.
+    /// Returns the next segment as it is coded, if it is there, even if the info is not: the eight octets of its header, its data, and zeros up to
+    /// the size of a symbol.
     pub fn next(&self) -> Option<&Row>
         ensures coded { IsRow (self.now.plan.fti.e + 8) (next_segment (alone self.now) self.now.plan) (option_copied result) }
         ensures long { IfSome (option_copied result) (λ row. length row ≡ self.now.plan.fti.e + 8) }
@@ -533,7 +532,7 @@ impl Stream {
         let size = usize::from(self.plan.e()) + PLACE;
         self.symbol = 0;
         self.first += 1;
-        // The rows of a block that was passed are no longer needed, and there are as many as the next block has segments.
+        // The symbol buffers of a block that was passed are no longer needed, and there are as many as the next block has segments.
         self.spares = shift(&mut self.ring, Block::new(self.alloc, count, size));
         self.shorts.advance();
         bytes
