@@ -1,5 +1,5 @@
 //! The nodes of a session as one world (RFC 5740 section 5): [`World`] has a sender and its receivers. It stands for the list of its events.
-//! `norm_session` calls it.
+//! `norm_session` and `norm_tail` call it.
 #![tactic(auto)]
 
 mod world;

@@ -23,10 +23,10 @@ use std::marker::Model;
 
 /// A sender and the receivers of its profile, in the order of their ids.
 ///
-/// Each call is one event of the nodes' world: a command ([`job`](World::job)), a datagram that is delivered, a node's tick, an offer of
-/// what it gave, a hand-up that is taken, or news that are asked for. So a world stands for the list of the events so far, and what holds of
-/// each such list ([`laws`](crate::laws)) holds of what it did. It keeps no datagrams: its caller has to see that what is delivered was
-/// offered before.
+/// A call is one event of the nodes' world: a command ([`job`](World::job)), a datagram that is delivered, a node's tick, an offer of what it
+/// gave, a hand-up that is taken, or news that are asked for. A file in pieces is one event, at its end. So a world stands for the list of its
+/// events, and what holds of each such list ([`laws`](crate::laws)) holds of what it did. It keeps no datagrams: its caller has to see that what
+/// is delivered was offered before.
 ///
 /// The order of calls is free, except for two things. Before a receiver ticks ([`tick_receiver`](World::tick_receiver)), call
 /// [`take_up`](World::take_up) until it returns `None`. The command of a file may come in pieces: [`begin_file`](World::begin_file), then
@@ -52,7 +52,7 @@ impl Model for World {
     ghost invariant = { λ w. length w.receivers.items ≡ w.profile.receivers };
 }
 
-/// The receivers of a profile as they begin, in the order of their ids. `Memory` if memory runs out.
+/// The receivers of a profile in the order of their ids, each in no instance yet. `Memory` if memory runs out.
 fn receivers(alloc: Global, profile: &Profile) -> Result<Vec<Receiver>, Memory>
     ensures { IfOk result (λ receivers. AreBegun profile.now receivers.items profile.now.receivers) }
 {
@@ -75,7 +75,7 @@ fn place(profile: &Profile, node: NodeId) -> usize
 }
 
 impl World {
-    /// The nodes of a profile as they begin.
+    /// The nodes of a profile: the sender in the profile's first instance with nothing enqueued, and the receivers in no instance yet.
     ///
     /// # Errors
     ///
@@ -94,14 +94,14 @@ impl World {
         })
     }
 
-    /// Whether a node is one of the receivers.
+    /// Whether a node is one of the receivers, struck or not.
     pub fn is_receiver(&self, node: NodeId) -> bool
         ensures { result ≡ is_receiver self.now.p node }
     {
         self.profile.is_receiver(node)
     }
 
-    /// Whether a node is the sender or one of the receivers.
+    /// Whether a node is the sender or one of the receivers, struck or not.
     pub fn is_member(&self, node: NodeId) -> bool
         ensures { result ≡ is_node self.now.p node }
     {
@@ -111,14 +111,14 @@ impl World {
         node.number() == self.profile.sender
     }
 
-    /// The sender.
+    /// The sender, to ask it what is no event.
     pub fn sender(&self) -> &Sender
         ensures { result.now ≡ self.now.sender }
     {
         &self.sender
     }
 
-    /// The receiver of a node.
+    /// The receiver of a node, to ask it what is no event.
     pub fn receiver(&self, node: NodeId) -> &Receiver
         requires { is_receiver self.now.p node ≡ true }
         ensures { receiver_of self.now node ≡ Some result.now }
@@ -126,7 +126,7 @@ impl World {
         &self.receivers[place(&self.profile, node)]
     }
 
-    /// The instance that a receiver is in, if one began.
+    /// The instance of the sender that a receiver takes in. `None` until a message begins the first one.
     pub fn instance_at(&self, node: NodeId) -> Option<InstanceId>
         requires { is_receiver self.now.p node ≡ true }
         ensures { (w : Rules) → StandsFor self.now w → result ≡ instance_in w node }

@@ -34,7 +34,6 @@ pub enum Entry {
 }
 
 impl Entry {
-    /// Returns the transmission information.
     pub fn fti(&self) -> Fti
         ensures { result ≡ (entry_of self.now).plan.fti }
     {
@@ -44,7 +43,6 @@ impl Entry {
         }
     }
 
-    /// Returns the flags.
     pub fn flags(&self) -> u8
         ensures { result ≡ (entry_of self.now).plan.flags }
     {
@@ -54,14 +52,12 @@ impl Entry {
         }
     }
 
-    /// Whether its flags are a stream's.
     pub fn says_stream(&self) -> bool
         ensures { result ≡ says_stream (entry_of self.now).plan.flags }
     {
         is_stream(self.flags())
     }
 
-    /// Returns how it is cut.
     pub fn plan(&self) -> Plan
         ensures { result ≡ cut_of_plan (entry_of self.now).plan }
     {
@@ -71,7 +67,7 @@ impl Entry {
         }
     }
 
-    /// Whether its info is held.
+    /// Whether its info is held. `false` also if it has none.
     pub fn has_info(&self) -> bool
         ensures { result ≡ is_some (entry_of self.now).info }
     {
@@ -101,7 +97,7 @@ impl Entry {
         }
     }
 
-    /// Whether a symbol is held, of a block that was not handed up whole.
+    /// Whether a symbol came and was kept, of a block that was not handed up whole. A symbol that was decoded did not come.
     pub fn holds(&self, block: u32, symbol: u8) -> bool
         requires { (entry_of self.now).point.block ≤ block }
         ensures { result ≡ holds (alone_in (entry_of self.now)) (position (entry_of self.now).plan.index block symbol) }

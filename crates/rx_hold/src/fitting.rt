@@ -128,7 +128,7 @@ impl Front {
         Ok(())
     }
 
-    /// Takes an object up if its transmission information and flags fit and are new.
+    /// Takes an object up if its transmission information and flags fit and are new. Returns what [`Hold::fti`](crate::Hold::fti) says.
     ///
     /// # Errors
     ///
@@ -153,7 +153,7 @@ impl Front {
         }
     }
 
-    /// Removes an object of which nothing is held, so that it has no plan again.
+    /// Removes an object of which nothing is held, so that it has no plan again. The memory that was reserved for its hand-ups is kept.
     pub fn untake(&mut self, index: u32)
         requires front { IsFront self.old }
         requires unused { IsUnused (front_view self.old) index }

@@ -26,7 +26,7 @@ use rs_block::Solver;
 use std::alloc::Global;
 use std::collections::VecDeque;
 
-/// The objects from the hand-up point on.
+/// The objects from the hand-up point on, and the hand-ups of earlier ones. Room is reserved for each hand-up that may come of what is held.
 // Proof: it has no model, so clauses can name the ring's capacity, which no model shows.
 #[derive(Debug, Drop)]
 pub struct Front {
@@ -38,11 +38,11 @@ pub struct Front {
     /// The octets that the objects in the ring take: of a stream, its whole buffer.
     pub taken: u64,
     /// How many hand-ups may still come of the objects in the ring: the sum of their seats' `waiting`.
-    // The sum over all seats. `ups` has room for this many beside what it holds. If it were less, a hand-up could find no room.
+    // `ups` has room for this many beside what it holds. If it were less, a hand-up could find no room.
     pub waiting: usize,
-    /// The hand-ups that were not taken yet. There is room for `waiting` more.
+    /// The hand-ups that were not taken yet, in transport order.
     pub ups: VecDeque<Up>,
-    /// Whether an object was lost in this instance.
+    /// Whether an object, or the rest of a stream, was lost in this instance.
     pub lost: bool,
 }
 
@@ -54,7 +54,7 @@ fn is_bad_info(profile: &Profile, flags: u8, info: &[u8]) -> bool
 }
 
 impl Front {
-    /// Returns the object with an index at or after the hand-up point.
+    /// Returns the object with an index at or after the hand-up point. `None` if it was not taken up.
     pub fn entry(&self, index: u32) -> Option<&Entry>
         requires { self.now.point ≤ index }
         ensures { option_map entry_of (option_copied result) ≡ entry_at (states_of self.now.ring.items) (index - self.now.point) }
@@ -62,7 +62,7 @@ impl Front {
         entry_at(&self.ring, self.point, index)
     }
 
-    /// Returns the block of the next source symbol to hand up.
+    /// Returns the block of the next source symbol to hand up. 0 if its object was not taken up.
     pub fn first_block(&self) -> u32
         ensures { result ≡ (point_of_front self.now).block }
     {
@@ -72,7 +72,7 @@ impl Front {
         }
     }
 
-    /// Returns the next source symbol to hand up, within its block.
+    /// Returns the next source symbol to hand up, within its block. 0 if its object was not taken up.
     pub fn first_symbol(&self) -> u8
         ensures { result ≡ (point_of_front self.now).symbol }
     {
@@ -102,7 +102,7 @@ impl Front {
         Ok(())
     }
 
-    /// Puts an object into its slot, which is free.
+    /// Puts an object into its free slot, and counts its octets and its hand-ups, for which there is room. It takes no memory.
     pub fn seat(&mut self, place: usize, seat: Seat, octets: u64)
         requires front { IsFront self.old }
         requires room { HasRoom seat.waiting self.old }
@@ -122,7 +122,7 @@ impl Front {
         self.taken += octets;
     }
 
-    /// Returns how an object is cut. `None` if it has no plan.
+    /// Returns how an object is cut. `None` if it was not taken up.
     pub fn plan(&self, index: u32) -> Option<Plan>
         requires front { IsFront self.now }
         requires reached { self.now.point ≤ index }
@@ -135,7 +135,7 @@ impl Front {
         }
     }
 
-    /// Returns the flags of an object. `None` if it has no plan.
+    /// Returns the flags with which an object was taken up. `None` if it was not.
     pub fn flags(&self, index: u32) -> Option<u8>
         requires front { IsFront self.now }
         requires reached { self.now.point ≤ index }
@@ -148,7 +148,7 @@ impl Front {
         }
     }
 
-    /// Whether the info of an object is held.
+    /// Whether the info of an object is held. `false` also if it was not taken up.
     pub fn has_info(&self, index: u32) -> bool
         requires front { IsFront self.now }
         requires reached { self.now.point ≤ index }
@@ -160,7 +160,7 @@ impl Front {
         }
     }
 
-    /// Returns what a block lacks that was not handed up whole.
+    /// Returns what a block lacks that was not handed up whole: `Unseen` if its object was not taken up.
     pub fn missing(&self, index: u32, block: u32) -> Missing
         requires front { IsFront self.now }
         requires reached { point_before (point_at index block) (point_of (point_of_front self.now)) ≡ false }
@@ -177,7 +177,7 @@ impl Front {
         Missing::Short { wanted }
     }
 
-    /// Whether a symbol is held, of a block that was not handed up whole.
+    /// Whether a symbol came and was kept, of a block that was not handed up whole. `false` also if its object was not taken up.
     pub fn holds(&self, index: u32, block: u32, symbol: u8) -> bool
         requires front { IsFront self.now }
         requires reached { point_before (point_at index block) (point_of (point_of_front self.now)) ≡ false }
@@ -223,7 +223,7 @@ impl Front {
         Ok(word)
     }
 
-    /// Notes that a block was seen of the object in a slot.
+    /// Notes that a block was seen of the object in a slot. Only a stream keeps it.
     pub fn see(&mut self, place: usize, block: u32)
         requires front { IsFront self.old }
         requires place { place < 256 }
@@ -235,7 +235,7 @@ impl Front {
         see_at(&mut self.ring, place, block);
     }
 
-    /// Keeps the info of the object in a slot, which lacks it.
+    /// Keeps the info of the object in a slot, which lacks it. It takes no memory.
     pub fn put_info(&mut self, place: usize, info: Octets)
         requires front { IsFront self.old }
         requires place { place < 256 }
@@ -270,7 +270,7 @@ impl Front {
         Put::Kept
     }
 
-    /// Keeps the info of an object if it is new.
+    /// Keeps a copy of the info of an object if it is new. Returns what [`Hold::put_info`](crate::Hold::put_info) says.
     ///
     /// # Errors
     ///
@@ -292,7 +292,7 @@ impl Front {
         Ok(word)
     }
 
-    /// Notes that a block of an object was seen. It changes nothing if the object was handed up or lost.
+    /// Notes that a block of an object was seen. It changes nothing unless the object is a stream that was taken up, and neither handed up nor lost.
     pub fn see_block(&mut self, index: u32, block: u32)
         requires { IsFront self.old }
         ensures sound { IsFront self.new }
@@ -308,7 +308,7 @@ impl Front {
         }
     }
 
-    /// Keeps a symbol of an object if it is new.
+    /// Keeps a symbol of an object if it is new. Returns what [`Hold::put`](crate::Hold::put) says.
     ///
     /// # Errors
     ///

@@ -17,7 +17,7 @@ use norm_order::Up;
 use std::collections::VecDeque;
 
 impl Seat {
-    /// Hands up the next segment of a stream if it is there, and gives up the room for `told` hand-ups.
+    /// Hands up the next segment or the end of a stream if it is there, and gives up the room for `told` hand-ups then.
     fn hand_on(&mut self, told: usize) -> Option<Up>
         requires { is_stream self.old.entry ≡ true → told ≤ self.old.waiting }
         ensures { HandsOn self.old.entry told result self.old self.new }
@@ -28,7 +28,7 @@ impl Seat {
     }
 }
 
-/// Whether the first slot has a stream.
+/// Whether the first slot has a stream. `false` if it is empty.
 fn is_stream_first(ring: &VecDeque<Option<Seat>>) -> bool
     ensures { result ≡ has_stream (at_place ring.now.items 0) }
 {
@@ -38,7 +38,7 @@ fn is_stream_first(ring: &VecDeque<Option<Seat>>) -> bool
     }
 }
 
-/// Whether the first slot has a whole object of data or a file.
+/// Whether the first slot has data or a file that can be handed up: all its blocks are done, and if it has an info, that is held.
 fn is_whole_first(ring: &VecDeque<Option<Seat>>) -> bool
     ensures { result ≡ has_whole (at_place ring.now.items 0) }
 {
@@ -48,7 +48,7 @@ fn is_whole_first(ring: &VecDeque<Option<Seat>>) -> bool
     }
 }
 
-/// Returns the hand-up of a whole object of data or a file.
+/// Returns the hand-up of a whole object of data or a file. It copies no octets.
 fn up_at(place: Option<Seat>) -> Up
     requires { has_whole place ≡ true }
     ensures { MatchOption (object_of place) ⊥ (λ o. result ≡ up_of o) }
@@ -60,7 +60,7 @@ fn up_at(place: Option<Seat>) -> Up
     }
 }
 
-/// Returns how many octets the object in a slot takes.
+/// Returns how many octets the object in a slot takes: of a stream, its whole buffer. 0 if the slot is empty.
 pub fn octets_of(profile: &Profile, place: &Option<Seat>) -> u64
     ensures { result ≡ octets_at profile.now place.now }
 {
@@ -70,7 +70,7 @@ pub fn octets_of(profile: &Profile, place: &Option<Seat>) -> u64
     }
 }
 
-/// Returns how many hand-ups of the object in a slot have room reserved.
+/// Returns how many hand-ups of the object in a slot have room reserved. 0 if the slot is empty.
 pub fn waiting_of(place: &Option<Seat>) -> usize
     ensures { result ≡ waiting_at place.now }
 {
@@ -80,7 +80,7 @@ pub fn waiting_of(place: &Option<Seat>) -> usize
     }
 }
 
-/// Hands up the next segment of a stream in the first slot if it is there, and gives up the room for `told` hand-ups.
+/// Hands up the next segment or the end of a stream in the first slot if it is there, and gives up the room for `told` hand-ups then.
 // Proof: match on &mut ring[0] keeps the arm that writes nothing apart.
 fn hand_on(ring: &mut VecDeque<Option<Seat>>, told: usize) -> Option<Up>
     requires some { 0 < length ring.old.items }
@@ -104,7 +104,7 @@ fn shift(ring: &mut VecDeque<Option<Seat>>) -> Option<Seat>
     ensures capacity { deque_capacity ring.new ≡ deque_capacity ring.old }
 {
     let first = ring.pop_front();
-    // It does not fail: one place was just taken from the ring.
+    // It does not fail: one slot was just taken from the ring.
     ring.push_back(None).unwrap();
     match first {
         Some(seat) => seat,
@@ -112,7 +112,7 @@ fn shift(ring: &mut VecDeque<Option<Seat>>) -> Option<Seat>
     }
 }
 
-/// Returns how many hand-ups a segment causes: two if it opens the stream, otherwise one.
+/// Returns how many hand-ups a segment or an end causes: two if it opens the stream, otherwise one.
 fn told_with(opens: bool) -> usize
     ensures { result ≡ told_with opens }
 {
@@ -164,7 +164,7 @@ impl Front {
         self.first_block() == 0 && self.first_symbol() == 0
     }
 
-    /// Moves the hand-up point to the next object, and returns what was in the first slot.
+    /// Moves the hand-up point to the next object, and returns what was in the first slot. Its octets, and the room for its hand-ups, are free then.
     pub fn pass_first(&mut self) -> Option<Seat>
         requires places { 0 < length self.old.ring.items }
         requires room { length self.old.ring.items ≤ deque_capacity self.old.ring }
@@ -204,7 +204,7 @@ impl Front {
         true
     }
 
-    /// Hands up the next segment of the first object, a stream, if it is there. Returns whether it did.
+    /// Hands up the next segment of the first object, a stream, if it is there. With its end, goes on to the next object. Returns whether it did.
     fn hand_up_stream(&mut self) -> bool
         requires front { IsFront self.old }
         requires stream { has_stream (at_place self.old.ring.items 0) ≡ true }

@@ -72,7 +72,7 @@ impl Model for Hold {
 }
 
 impl Hold {
-    /// Creates an empty hold.
+    /// Creates an empty hold. It takes the memory of its 256 slots and of two solvers. Each object takes its own as it is taken up.
     ///
     /// # Errors
     ///
@@ -145,7 +145,7 @@ impl Hold {
         }
     }
 
-    /// Returns how an object is cut. `None` if it has no plan.
+    /// Returns how an object is cut. `None` until [`fti`](Hold::fti) took it up.
     pub fn plan(&self, index: u32) -> Option<Plan>
         requires { self.now.point.index ≤ index }
         ensures exact { result ≡ plan_in self.now index }
@@ -154,7 +154,7 @@ impl Hold {
         self.front.plan(index)
     }
 
-    /// Returns the flags of an object. `None` if it has no plan.
+    /// Returns the flags with which an object was taken up. `None` if it was not. Those of later messages are not kept.
     pub fn flags(&self, index: u32) -> Option<u8>
         requires { self.now.point.index ≤ index }
         ensures exact { result ≡ flags_in self.now index }
@@ -163,7 +163,7 @@ impl Hold {
         self.front.flags(index)
     }
 
-    /// Whether the info of an object is held.
+    /// Whether the info of an object is held. `false` also if it was not taken up.
     pub fn has_info(&self, index: u32) -> bool
         requires { self.now.point.index ≤ index }
         ensures { (s : Holding) → StandsFor self.now s → result ≡ is_some (info_of s index) }
@@ -171,7 +171,7 @@ impl Hold {
         self.front.has_info(index)
     }
 
-    /// Whether a symbol is held, at or after the block of the hand-up point.
+    /// Whether a symbol came and was kept, at or after the block of the hand-up point. A symbol that was decoded did not come.
     pub fn holds(&self, at: Position) -> bool
         requires { point_before (point_of at) (point_of self.now.point) ≡ false }
         ensures { (s : Holding) → StandsFor self.now s → result ≡ holds s at }
@@ -179,7 +179,8 @@ impl Hold {
         self.front.holds(at.index, at.block, at.symbol)
     }
 
-    /// Returns what a block lacks. It is at or after the block of the hand-up point, and within the object if that has a plan.
+    /// Returns what a block lacks: `Unseen` if its object was not taken up. The block is at or after that of the hand-up point, and within the object
+    /// if that has a plan.
     pub fn missing(&self, index: u32, block: u32) -> Missing
         requires reached { point_before (point_at index block) (point_of self.now.point) ≡ false }
         requires block { MatchOption (plan_in self.now index) ⊤ (λ cut. block < blocks cut) }
@@ -228,14 +229,14 @@ impl Hold {
         self.front.end(index)
     }
 
-    /// Whether an object was lost in this instance.
+    /// Whether an object, or the rest of a stream, was lost since the hold was empty.
     pub fn has_lost(&self) -> bool
         ensures { (s : Holding) → StandsFor self.now s → lost_nothing s ≡ not result }
     {
         self.front.lost
     }
 
-    /// Returns how many hand-ups wait to be taken.
+    /// Returns how many hand-ups [`next_up`](Hold::next_up) still returns before `None`. It takes constant time.
     pub fn ups(&self) -> usize
         ensures { result ≡ length self.now.ups }
     {
@@ -250,7 +251,7 @@ impl Hold {
         self.front.see_block(at.index, at.block);
     }
 
-    /// Takes the next hand-up. `None` if all were taken; then nothing changes.
+    /// Takes the next hand-up, in transport order. `None` if all were taken; then nothing changes. It takes no memory.
     pub fn next_up(&mut self) -> Option<Up>
         ensures profile { self.new.p ≡ self.old.p }
         ensures none { IfNone result ((self.old.ups ≡ []) × (self.new ≡ self.old)) }

@@ -74,7 +74,7 @@ impl Front {
         self.point == index && cut
     }
 
-    /// Gives up what is missing before the sender's window, which begins at this block. It takes no memory.
+    /// Gives up what is missing before the sender's window, which begins at this block. It takes no memory: [`squelch`](Front::squelch) reserved it.
     pub fn lose_before(&mut self, index: u32, block: u32)
         requires front { IsFront self.old }
         requires room { HasRoom (index - self.old.point + 1) self.old }

@@ -7,8 +7,7 @@ use fec_plan::Position;
 
 /// The next source symbol to hand up. If the last block that 24 bits can name was handed up, a stream goes on at block 16,777,216, which no
 /// message names.
-// No `Position`: after the last block that 24 bits name, 16,777,215, a stream goes on at block 16,777,216. No symbol has that block, so a stream
-// that did not end there waits until a squelch makes the rest of it lost.
+// No symbol has that block, so a stream that did not end before it waits until a squelch makes the rest of it lost.
 #[derive(Clone, Copy, Debug, PartialEq, Eq)]
 pub struct Place {
     pub index: u32,

@@ -27,7 +27,7 @@ pub struct Seat {
     pub waiting: usize,
 }
 
-/// Returns the object with an index at or after the hand-up point `point`.
+/// Returns the object with an index at or after the hand-up point `point`. `None` if its slot is empty, or if it is too far ahead to have one.
 pub fn entry_at(ring: &VecDeque<Option<Seat>>, point: u32, index: u32) -> Option<&Entry>
     requires { point ≤ index }
     ensures { option_copied result ≡ option_map (λ seat. seat.entry) (at_place ring.now.items (index - point)) }
@@ -97,7 +97,6 @@ impl Seat {
         Ok(word)
     }
 
-    /// Notes that a block was seen.
     fn see(&mut self, block: u32)
         requires { IsOfKind self.old.entry }
         ensures { IsSeen block self.old self.new }
@@ -151,7 +150,7 @@ pub fn see_at(ring: &mut VecDeque<Option<Seat>>, place: usize, block: u32)
     }
 }
 
-/// Takes the object out of a slot.
+/// Takes the object out of a slot. The caller lowers the counts of octets and hand-ups.
 pub fn take_at(ring: &mut VecDeque<Option<Seat>>, place: usize) -> Option<Seat>
     requires { place < length ring.old.items }
     ensures found { result ≡ at_place ring.old.items place }

@@ -12,7 +12,7 @@ use crate::entry::Entry;
 use fec_plan::PayloadId;
 
 impl Entry {
-    /// Returns the first block from the hand-up point on that lacks symbols.
+    /// Returns the first block from the hand-up point on that lacks symbols. `None` if all are done. It takes constant time.
     pub fn first_short(&self) -> Option<u32>
         ensures { IsShortFrom (alone_in (entry_of self.now)) (entry_of self.now).plan (entry_of self.now).point.block result }
     {
@@ -22,7 +22,7 @@ impl Entry {
         }
     }
 
-    /// Returns the next incomplete block after this one, which is incomplete.
+    /// Returns the next incomplete block after this one, which is incomplete. `None` if all later ones are done. It takes constant time.
     pub fn next_short(&self, block: u32) -> Option<u32>
         requires { IsShort (entry_of self.now) block }
         ensures { IsShortFrom (alone_in (entry_of self.now)) (entry_of self.now).plan (block + 1) result }
@@ -43,7 +43,7 @@ impl Entry {
         }
     }
 
-    /// Returns a stream's end, if that is known. `None` for data and files.
+    /// Returns a stream's end, if it is held or its block is done. `None` for data and files. It looks at each block that the stream has room for.
     pub fn end(&self) -> Option<PayloadId>
         ensures { (p : Settings) → p.e ≡ (entry_of self.now).plan.fti.e
             → option_map (λ (id : Name). position (entry_of self.now).plan.index id.block id.symbol) result ≡ end_in p self.now }

@@ -9,7 +9,7 @@ use crate::entry::Entry;
 use norm_order::Up;
 use rx_stream::Stream;
 
-/// Whether the next segment of a stream is missing.
+/// Whether the next segment of a stream is missing. One that only waits for the info is not.
 fn lacks_next(stream: &Stream) -> bool
     ensures { result ≡ is_none (next_segment (alone stream.now) stream.now.plan) }
 {
@@ -17,7 +17,6 @@ fn lacks_next(stream: &Stream) -> bool
 }
 
 impl Entry {
-    /// Whether this is a stream.
     pub fn is_stream(&self) -> bool
         ensures { result ≡ is_stream self.now }
     {
@@ -27,7 +26,7 @@ impl Entry {
         }
     }
 
-    /// Whether this is an object of data or a file that is whole.
+    /// Whether this is data or a file, all its blocks are done, and if it has an info, that is held. `false` for a stream.
     pub fn is_whole(&self) -> bool
         ensures { result ≡ is_whole_object self.now }
     {
@@ -37,7 +36,7 @@ impl Entry {
         }
     }
 
-    /// Returns the hand-up of a whole object of data or a file.
+    /// Returns the hand-up of a whole object of data or a file. It takes no memory, and copies no octets.
     pub fn into_up(self) -> Up
         requires { is_whole_object self ≡ true }
         ensures { MatchOption (object_in self) ⊥ (λ o. result ≡ up_of o) }
@@ -49,7 +48,7 @@ impl Entry {
         }
     }
 
-    /// Whether this is a stream whose next segment is missing and in a block before this one.
+    /// Whether this is a stream whose next segment is missing and in a block before this one. Data and files are never cut off: a window has them whole.
     pub fn is_cut_off(&self, block: u32) -> bool
         ensures { result ≡ cut_by_entry block self.now }
     {
@@ -59,7 +58,7 @@ impl Entry {
         }
     }
 
-    /// Hands up the next segment of a stream, or its end, if it is there. `None` as long as the stream's info is missing, and for data and files.
+    /// Hands up the next segment of a stream, or its end. `None` if that is missing, as long as the stream's info is missing, and for data and files.
     pub fn hand_on(&mut self) -> Option<Up>
         ensures { GoesOn self.old result self.new }
     {

@@ -18,7 +18,6 @@ use rx_object::Object;
 use rx_stream::Stream;
 use std::alloc::Global;
 
-/// Whether flags are a stream's.
 pub fn is_stream(flags: u8) -> bool
     ensures { result ≡ says_stream flags }
 {
@@ -36,7 +35,7 @@ pub fn room_of(profile: &Profile, fti: &Fti, flags: u8) -> u64
     fti.l
 }
 
-/// Returns the plan of an object with this transmission information, or what is wrong with it.
+/// Returns the plan of an object with this transmission information, or what is wrong with it. The length of a stream is not looked at.
 pub fn plan_by(fti: &Fti, flags: u8) -> Result<Plan, PlanFault>
     ensures { MatchResult result (λ plan. (first_fault (cut_by fti.now flags) ≡ None) × (plan ≡ cut_by fti.now flags)) (λ fault. first_fault (cut_by fti.now flags) ≡ Some fault) }
 {
