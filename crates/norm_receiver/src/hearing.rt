@@ -16,8 +16,8 @@ use norm_fbmsg::NackMsg;
 use rx_heard::hear_requests;
 
 impl Parts {
-    /// Notes what requests ask for if a back-off is running. Otherwise ignores them, and takes no memory. Ignores all of them too if what is kept might
-    /// exceed its bound.
+    /// Notes what requests ask for if a back-off is running. Otherwise ignores them, and takes no memory. Ignores all of them too if what is kept
+    /// might exceed its bound.
     fn overhear(&mut self, requests: &Requests<'_>) -> Result<(), Memory>
         ensures profile { self.new.profile ≡ self.old.profile }
         ensures state { IfOk result (λ _. (s : ReceiverState) → Stands (kept_of self.old) s

@@ -51,7 +51,7 @@ impl Parts {
         asking.add(&self.profile, Need::Object { index }, heard, out);
     }
 
-    /// Requests the info of an object if `lacks`.
+    /// Requests the info of an object if `lacks`. Call it before any of the object's symbols are requested.
     fn ask_info(&self, index: u32, lacks: bool, asking: &mut Asking, out: &mut Datagram)
         requires room { HasRoom asking.old.writer out.old }
         ensures room { HasRoom asking.new.writer out.new }
@@ -151,7 +151,7 @@ impl Parts {
         self.ask_blocks(index, plan, due, asking, out);
     }
 
-    /// Requests what is needed of an object: its info first, then symbols. One that was not taken up is requested whole.
+    /// Requests what is needed of an object: its info first, then symbols. One that was not taken up is requested whole, if it is covered.
     fn ask_object(&self, index: u32, asking: &mut Asking, out: &mut Datagram)
         requires reached { self.now.hold.point.index ≤ index }
         requires room { HasRoom asking.old.writer out.old }

@@ -92,7 +92,7 @@ impl Parts {
         }
     }
 
-    /// Requests everything of a stream from block `rest` on, if there is one.
+    /// Requests everything of a stream from block `rest` on, up to the last block that a message can name. Does nothing if `rest` is `None`.
     fn ask_rest(
         &self,
         index: u32,

@@ -267,7 +267,7 @@ fn is_there(hold: &Hold, index: u32, plan: &Plan, run: Run) -> bool
     true
 }
 
-/// Whether no source symbol of a run is missing, if there is a run.
+/// Whether no source symbol of a run is missing. True if there is no run.
 fn are_there(hold: &Hold, index: u32, plan: &Plan, run: Option<Run>) -> bool
     requires stream { IsStreamOf hold.now index plan.now }
     requires block { IfSome run (λ some. IsBlock some.block) }

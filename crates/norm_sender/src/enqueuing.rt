@@ -27,7 +27,8 @@ use norm_send_rules::{EnqueueFault, Receipt};
 use tx_window::{info_len, plan_of};
 
 impl Parts {
-    /// Call after the window may have dropped entries or blocks: forgets what was asked of them. A squelch is due if any of it was wanted.
+    /// Call after the window may have dropped entries or blocks: forgets what is wanted of them. A squelch is due if anything was. What the open
+    /// round asked for of them makes one due only as the round closes.
     pub(crate) fn retire(&mut self)
         requires { CanRetire self.old.union (drop_of self.old.window) }
         ensures rest { (self.new.profile ≡ self.old.profile) × (self.new.window ≡ self.old.window) × (self.new.book ≡ self.old.book) }

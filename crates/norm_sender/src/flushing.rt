@@ -43,8 +43,8 @@ impl Parts {
         Sent::Datagram
     }
 
-    /// Ends the oldest open watermark, which has this number, as expired. The count of flushes restarts if another one is the oldest now, and stays if
-    /// none is open.
+    /// Ends the oldest open watermark, which has this number, as expired. The count of flushes restarts if another one is the oldest now, and stays
+    /// if none is open.
     fn expire(&mut self, mark: u32)
         ensures profile { self.new.profile ≡ self.old.profile }
         ensures stands { SenderMoves (kept_of self.old) (kept_of self.new) (λ p s. expired mark s) }
@@ -90,8 +90,8 @@ impl Parts {
         self.flush_for(oldest.at, now, out)
     }
 
-    /// Flushes for the oldest open watermark, if there is one, unless the last flush of this instance is less than two round trips ago. It may expire
-    /// instead.
+    /// Flushes for the oldest open watermark, if there is one, unless the last flush of this instance is less than two round trips ago. The
+    /// watermark may expire instead.
     pub(crate) fn flush(&mut self, now: Moment, out: &mut Datagram) -> Sent
         ensures profile { self.new.profile ≡ self.old.profile }
         ensures stands { SenderSends (kept_of self.old) (kept_of self.new) out.new result (λ p s. flushes p now s) }

@@ -65,8 +65,8 @@ impl Parts {
         self.pace = self.pace.opened(moment_after(now, span));
     }
 
-    /// Adds the requests of a NACK to the open round, and opens a round if none is open, even if the window has nothing of what they ask for. An empty
-    /// list changes nothing.
+    /// Adds the requests of a NACK to the open round, and opens a round if none is open, even if the window has nothing of what they ask for. An
+    /// empty list changes nothing.
     fn join_round(&mut self, requests: &Requests<'_>, now: Moment)
         ensures profile { self.new.profile ≡ self.old.profile }
         ensures stands { SenderMoves (kept_of self.old) (kept_of self.new) (λ p s. joined_round p s now requests.now) }

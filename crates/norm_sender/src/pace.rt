@@ -19,7 +19,7 @@ pub struct Pace {
     pub instance: InstanceId,
     /// Infos and symbols are new from this one on.
     pub next: Want,
-    /// When the open repair round closes. `None` if no round is open; no other field says whether one is.
+    /// When the open repair round closes: K + 1 round trips after the NACK that opened it. `None` if no round is open.
     pub closes: Option<Moment>,
     pub squelch_due: bool,
     /// How many flushes were sent since another watermark became the oldest, a round made a want, or the instance began.
@@ -166,7 +166,7 @@ impl Pace {
         }
     }
 
-    /// Whether the gap after the last datagram is over. True if none was sent, and goes on across instances.
+    /// Whether the gap after the last datagram is over, of whatever instance that was. True if none was sent.
     pub(crate) fn may_send(&self, now: Moment) -> bool
         ensures { nat_lt now self.now.next_send ≡ elim result [ true ↦ false | false ↦ true ] }
     {

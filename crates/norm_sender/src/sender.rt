@@ -129,8 +129,8 @@ impl Sender {
         self.parts.deliver(bytes, now);
     }
 
-    /// Closes the repair round if its time has come, even if no datagram may be sent yet. Then writes the datagram to send now, if there is one. The
-    /// oldest watermark may expire before that. Takes no memory.
+    /// Closes the repair round if its time has come, even if no datagram may be sent yet. Then writes the datagram to send now, if there is one. This
+    /// may expire the oldest watermark. Takes no memory.
     pub fn tick(&mut self, now: Moment, out: &mut Datagram) -> Sent
         requires { self.old.window.filling ≡ None }
         ensures profile { self.new.p ≡ self.old.p }

@@ -64,7 +64,7 @@ fn receivers(alloc: Global, profile: &Profile) -> Result<Vec<Receiver>, Memory>
     Ok(receivers)
 }
 
-/// The index of a receiver among those of its profile.
+/// The index of a receiver among those of its profile, whose ids follow that of the sender without a gap.
 // Proof: the receiver at an index is that of its node, so laws by node need no list of states.
 fn place(profile: &Profile, node: NodeId) -> usize
     requires { is_receiver profile.now node ≡ true }
@@ -75,7 +75,7 @@ fn place(profile: &Profile, node: NodeId) -> usize
 }
 
 impl World {
-    /// The nodes of a profile: the sender in the profile's first instance with nothing enqueued, and the receivers in no instance yet.
+    /// The nodes of a profile: the sender in the instance that the profile names, with nothing enqueued, and the receivers in no instance yet.
     ///
     /// # Errors
     ///

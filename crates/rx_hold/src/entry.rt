@@ -24,7 +24,7 @@ use rs_block::Solver;
 use rx_object::Object;
 use rx_stream::Stream;
 
-/// What is held of one object.
+/// What is held of one object, after it was taken up and until it is handed up or lost.
 #[derive(Debug, Drop)]
 pub enum Entry {
     /// Data or a file, which is handed up whole.

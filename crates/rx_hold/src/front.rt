@@ -31,9 +31,9 @@ use std::collections::VecDeque;
 #[derive(Debug, Drop)]
 pub struct Front {
     pub profile: Profile,
-    /// The index of the object at the hand-up point.
+    /// The index of the object at the hand-up point, even if it was not taken up.
     pub point: u32,
-    /// The 256 slots of the objects from there on.
+    /// The 256 slots of the objects from there on. That of one which was not taken up is empty.
     pub ring: VecDeque<Option<Seat>>,
     /// The octets that the objects in the ring take: of a stream, its whole buffer.
     pub taken: u64,

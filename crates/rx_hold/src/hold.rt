@@ -42,7 +42,8 @@ const SEGMENT_PLACE: usize = 8;
 
 /// What a receiver holds. For each message:
 /// 1. [`fti`](Hold::fti) takes the object up. Without its plan, [`put`](Hold::put) and [`put_info`](Hold::put_info) keep nothing.
-/// 2. [`put`](Hold::put) or [`put_info`](Hold::put_info), and [`see`](Hold::see). If `put` fails, [`untake`](Hold::untake) undoes `fti`.
+/// 2. [`put`](Hold::put) or [`put_info`](Hold::put_info), and [`see`](Hold::see). If memory runs out in the first, [`untake`](Hold::untake) undoes
+///    an `fti` that returned `Taken`.
 /// 3. [`advance`](Hold::advance). For a squelch, call [`lose_before`](Hold::lose_before) instead of all three.
 ///
 /// Then call [`next_up`](Hold::next_up) until it returns `None`.
@@ -54,7 +55,7 @@ pub struct Hold {
     /// Solves blocks of data and files.
     solver: Solver,
     /// Solves blocks of streams.
-    // Two solvers, because a segment is coded with its place and so has eight octets more than a symbol of data or a file.
+    // Two solvers, because a segment is coded with its header and so has eight octets more than a symbol of data or a file.
     stream_solver: Solver,
 }
 
@@ -265,9 +266,9 @@ impl Hold {
     /// Keeps a symbol of an object if it is new. Call [`advance`](Hold::advance) to hand up what it completed.
     ///
     /// Returns the first result that applies:
-    /// - `Had` if the object was handed up or lost, the symbol is held, or its block is done.
+    /// - `Had` if the object was handed up or lost, the symbol is held, or its block is done or was handed up.
     /// - `Away` if the object has no plan, or its stream has no room for the block yet.
-    /// - `Unfit` if the object has no such encoded symbol, or the payload does not have its length.
+    /// - `Unfit` if the object has no such encoded symbol, or the payload is not of its form.
     /// - `Kept`.
     ///
     /// # Errors
@@ -290,7 +291,7 @@ impl Hold {
     }
 
     /// Takes an object up if its transmission information and flags fit and are new. Data and files take all the memory that their symbols
-    /// need. A stream takes that of one block, and more for each symbol as it comes.
+    /// need. A stream takes that of its empty blocks and to hand up one block, and more for each symbol as it comes.
     ///
     /// Returns the first result that applies:
     /// - `Known` if the object has this plan already, or was handed up or lost. The length of a stream is not compared.

@@ -17,7 +17,7 @@ use std::collections::VecDeque;
 // As many as a sender's window may have (key `window`, up to 256). An object further ahead gets `Away`, and is asked for again later.
 pub const PLACES: usize = 256;
 
-/// An object in its slot.
+/// An object in its slot, with a count of the hand-ups that may still come of it.
 // `waiting` counts one hand-up for each symbol of a stream that was kept, and two for its open and its loss, less those that were handed up. Data
 // and files take two with the object. That much room is there before a symbol is kept; if it were not, handing up could fail for lack of memory.
 #[derive(Debug, Drop)]
@@ -46,7 +46,7 @@ pub fn fill(ring: &mut VecDeque<Option<Seat>>)
     ensures capacity { deque_capacity ring.new ≡ deque_capacity ring.old }
 {
     for _ in 0..PLACES {
-        // It does not fail: the ring has room for all places, and is empty.
+        // It does not fail: the ring has room for all slots, and is empty.
         ring.push_back(None).unwrap();
     }
 }

@@ -1,5 +1,5 @@
-//! The symbols of one block, decoded in place. A block has a slot for each of its source symbols: `size` octets of its symbol buffer, and the id of the
-//! symbol that came into it, which stays after decoding.
+//! The symbols of one block, decoded in place. A block has a slot for each of its source symbols: `size` octets of its symbol buffer, and the id of
+//! the symbol that came into it, which stays after decoding.
 
 ghost use Rattle.std.specs.Prelude.{ℕ, ◌≡◌, ◌==◌, ◌<◌, ◌≤◌, ◌+◌, ◌*◌, ◌≢◌, length, false, slice_index, IsTrue, EachIndex, MatchOption};
 ghost use Rattle.std.specs.Bool.{Decides};

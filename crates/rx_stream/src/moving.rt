@@ -9,7 +9,7 @@ ghost use Rattle.rx_stream.specs.SameBlock.{SameBlock};
 use rs_block::{Row, Solver};
 
 /// Moves the symbol in symbol buffer `from` to its own one if it is a source symbol, and the symbol that is there to `from`.
-// Proof: every symbol still lies in some symbol buffer with its id, so the codeword is the same. It is said for all k and sizes, so the loop takes none.
+// Proof: each symbol still lies in some buffer with its id, so the codeword is the same. It is said for all k and sizes, so the loop takes none.
 fn move_home(ids: &mut [u8], rows: &mut [Row], from: usize)
     requires within { from < length ids.old }
     requires count { length rows.old ≡ length ids.old }

@@ -53,7 +53,7 @@ pub struct Stream {
     /// The block of the next segment, and the segment's symbol in it.
     first: u32,
     symbol: u8,
-    /// The blocks from `first` on.
+    /// The blocks from `first` on, as many as there is room for. Those of which nothing came are empty.
     ring: VecDeque<Block>,
     /// Symbol buffers for handing up the first block, one for each segment of it that is left. After a block was handed up, its own ones serve for
     /// the next block.
@@ -382,8 +382,8 @@ impl Stream {
         self.lacking(block) == 0
     }
 
-    /// Returns the first incomplete block from the next segment's on: the one after the ring if all in it are done. `None` if no message can name that
-    /// one. It takes constant time.
+    /// Returns the first incomplete block from the next segment's on: the one after the ring if all in it are done. `None` if no message can name
+    /// that one. It takes constant time.
     pub fn first_short(&self) -> Option<u32>
         ensures { IsShortFrom (alone self.now) self.now.plan self.now.point.block result }
     {

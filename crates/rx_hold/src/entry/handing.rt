@@ -48,7 +48,8 @@ impl Entry {
         }
     }
 
-    /// Whether this is a stream whose next segment is missing and in a block before this one. Data and files are never cut off: a window has them whole.
+    /// Whether this is a stream whose next segment is missing and in a block before this one. Data and files are never cut off: a window has them
+    /// whole.
     pub fn is_cut_off(&self, block: u32) -> bool
         ensures { result ≡ cut_by_entry block self.now }
     {
