@@ -1,4 +1,4 @@
-//! The acknowledgement of a flush (RFC 5740 section 5.5.3).
+//! The acknowledgement of a flush (RFC 5740 section 5.5.3), which a tick sends before anything else.
 
 ghost use Rattle.std.specs.Prelude.{◌≡◌, [], ◌∷◌, None, Some};
 ghost use Rattle.norm_ext.specs.Written.{writes};

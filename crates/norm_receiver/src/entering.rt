@@ -104,7 +104,8 @@ impl Parts {
         self.take_in_at(index, said, now, draw)
     }
 
-    /// Goes on to the instance of a message, and takes the message in. If its object id stands for no index, nothing changes.
+    /// Goes on to the instance of a message, and takes the message in. If its object id stands for no index, or memory runs out, the receiver stays
+    /// in its instance.
     fn go_on(
         &mut self,
         naming: &Naming,

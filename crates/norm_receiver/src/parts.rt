@@ -1,4 +1,4 @@
-//! The fields of a [`Receiver`](crate::Receiver).
+//! The fields of a [`Receiver`](crate::Receiver). What they do is in the other files, as calls of `Parts`.
 
 use crate::numbers::Numbers;
 use norm_base::Profile;

@@ -1,4 +1,4 @@
-//! [`Receiver`], which callers drive.
+//! [`Receiver`], which callers drive. Each call passes its work to `Parts`.
 
 ghost use Rattle.std.specs.Prelude.{◌≡◌, [], true, not, length, IfOk, OnErr, IfNone, IfSome, IsSome};
 ghost use Rattle.norm_receive_rules.specs.ReceiverState.{ReceiverState, receiver_opening};
@@ -57,7 +57,7 @@ impl Receiver {
     ///
     /// # Errors
     ///
-    /// `Memory` if memory runs out. Everything is then as if the datagram had been lost. It can happen for an INFO, DATA, flush or squelch of
+    /// `Memory` if memory runs out. Everything is then as if the datagram had been lost. It can happen only for an INFO, DATA, flush or squelch of
     /// the profile's sender in the current instance or a later one, and for requests of others while a back-off runs. Other octets take no
     /// memory.
     pub fn deliver(&mut self, bytes: &[u8], now: Moment, draw: u32) -> Result<(), Memory>

@@ -1,4 +1,4 @@
-//! What a receiver does with a message of the sender (RFC 5740 section 5.2).
+//! What a receiver does with a message of the sender (RFC 5740 section 5.2), after `entering` checked its instance and its object id.
 
 ghost use Rattle.std.specs.Prelude.{◌≡◌, ◌^◌, ◌<◌, ◌%◌, ◌&&◌, IfOk, OnErr, IfSome, false, length};
 ghost use Rattle.fec_plan.specs.Points.{IsBlock, position, point as point_at, point_of};

@@ -1,4 +1,4 @@
-//! The repair requests of a NACK (RFC 5740 section 4.3.1), one for each need.
+//! What a NACK asks with (RFC 5740 section 4.3.1): for each need an item, or a range, of its repair requests.
 
 ghost use Rattle.std.specs.Prelude.{◌≡◌, ◌+◌, ◌≤◌, ◌<◌, ◌++◌, ℕ, List, [], ◌∷◌, false, length, map};
 ghost use Rattle.std.specs.Bool.{MatchBool};
@@ -14,7 +14,7 @@ use norm_ext::flags::{WANT_BLOCK, WANT_INFO, WANT_OBJECT, WANT_SEGMENT};
 use norm_ext::items::item_of;
 use norm_ext::{Form, RequestWriter};
 
-/// What a receiver needs. A NACK has one repair request for each.
+/// What a receiver needs. A NACK has one item, or one range, for each; those of one form and with the same flags may share a repair request.
 #[derive(Clone, Copy, Debug, PartialEq, Eq)]
 pub enum Need {
     /// An object of which nothing is known, and its info.
@@ -52,8 +52,8 @@ fn first_in(index: u32, block: u32) -> Position
     }
 }
 
-/// Appends the request for a need. The writer must have the datagram that it wrote to before. Returns `false` if the requests would exceed
-/// the limit; then nothing changes.
+/// Appends the item or range that asks for a need. It joins the last request if that has its form and flags, and begins a new one otherwise. The
+/// writer must have the datagram that it wrote to before. Returns `false` if the requests would exceed the limit; then nothing changes.
 pub(crate) fn ask(
     profile: &Profile,
     need: Need,

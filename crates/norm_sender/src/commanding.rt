@@ -181,7 +181,8 @@ impl Parts {
         }
     }
 
-    /// Obeys a command. The window gets a copy of its octets. A refusal gives back the command as it came, without a copy.
+    /// Obeys a command. The window gets a copy of its octets. A refusal gives back the command as it came, without a copy,
+    /// unless memory ran out.
     pub(crate) fn command(&mut self, job: Job) -> Answer
         requires { IsStanding (kept_of self.old) }
         ensures range { InRange self.old.profile }

@@ -249,7 +249,7 @@ impl Sender {
     }
 
     /// Begins another instance with an order of its own: window, wants and round are empty, members are listed past nothing, and open watermarks are
-    /// cut. Takes no memory.
+    /// cut. Listings that were not reported are forgotten. Takes no memory.
     ///
     /// # Errors
     ///

@@ -1,4 +1,4 @@
-//! Sends infos and encoded symbols of the window (RFC 5740 section 5.1).
+//! Sends infos and encoded symbols of the window (RFC 5740 section 5.1), new ones and repairs alike.
 
 ghost use Rattle.std.specs.Prelude.{◌≡◌, ◌≤◌, ◌<◌, ◌+◌, ℕ, List, true, Some, nat_le, nat_lt};
 ghost use Rattle.norm_order.specs.Entries.{Object, Whole};

@@ -1,4 +1,4 @@
-//! The nodes of a session as one world: [`World`].
+//! [`World`]: the nodes of a session, and the calls that are their events.
 
 ghost use Rattle.std.specs.Prelude.{◌≡◌, ◌≢◌, ℕ, ◌+◌, ◌<◌, ◌++◌, true, List, [], Option, Some, IfOk, IfErr, OnErr, IfNone, IfSome, IsErr, IsSome, Err, length, slice_get};
 ghost use Rattle.norm_base.specs.Members.{is_receiver, is_node};
@@ -195,7 +195,8 @@ impl World {
         self.sender.end_file(by, now)
     }
 
-    /// Gives up the file that was begun. What was dropped to make room for it stays dropped.
+    /// Gives up the file that was begun. What was dropped to make room for it stays dropped. That is no event, so afterwards the world may stand for
+    /// no list of events.
     pub fn leave_file(&mut self)
         requires { IsBegun self.old }
         ensures profile { self.new.p ≡ self.old.p }

@@ -1,4 +1,4 @@
-//! The ring of 256 slots for the objects from the hand-up point on.
+//! The ring of 256 slots for the objects from the hand-up point on, and what is asked and done of one slot.
 
 ghost use Rattle.std.specs.Prelude.{◌≡◌, ◌-◌, ◌<◌, ◌≤◌, [], MatchOption, IfOk, OnErr, None, Some, length, option_copied, option_map, replicate, slice_set, ⊤};
 ghost use Rattle.std.specs.VecDeque.{deque_capacity};

@@ -1,4 +1,4 @@
-//! [`Object`]: what is held of one object of data or a file.
+//! [`Object`]: what is held of one object of data or a file, which of its blocks are incomplete, and its hand-up.
 
 ghost use Rattle.std.specs.Prelude.{ℕ, ◌≡◌, ◌==◌, ◌<◌, ◌≤◌, ◌*◌, ◌+◌, ◌-◌, IfOk, IsTrue, None, Some, is_some, true, false, length, take, slice_get, slice_index};
 ghost use Rattle.norm_base.specs.Settings.{Settings};

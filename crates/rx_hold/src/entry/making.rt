@@ -46,8 +46,8 @@ pub fn plan_by(fti: &Fti, flags: u8) -> Result<Plan, PlanFault>
 }
 
 impl Entry {
-    /// Creates an object of which nothing is held. Data and files take all the memory that their symbols need. A stream takes an empty ring
-    /// and the memory to hand up one block's segments.
+    /// Creates an object of which nothing is held. Data and files take all the memory that their symbols need. A stream takes a ring of
+    /// empty blocks and the memory to hand up one block's segments.
     ///
     /// # Errors
     ///
