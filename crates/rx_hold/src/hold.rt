@@ -52,9 +52,9 @@ const SEGMENT_PLACE: usize = 8;
 pub struct Hold {
     alloc: Global,
     front: Front,
-    /// Solves blocks of data and files.
+    /// Solves blocks of data and files, one after another.
     solver: Solver,
-    /// Solves blocks of streams.
+    /// Solves blocks of streams, whose symbols are longer.
     // Two solvers, because a segment is coded with its header and so has eight octets more than a symbol of data or a file.
     stream_solver: Solver,
 }
@@ -291,7 +291,7 @@ impl Hold {
     }
 
     /// Takes an object up if its transmission information and flags fit and are new. Data and files take all the memory that their symbols
-    /// need. A stream takes that of its empty blocks and to hand up one block, and more for each symbol as it comes.
+    /// need. A stream takes that of its empty blocks and what it needs to hand up one block, and more for each symbol as it comes.
     ///
     /// Returns the first result that applies:
     /// - `Known` if the object has this plan already, or was handed up or lost. The length of a stream is not compared.

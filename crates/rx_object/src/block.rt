@@ -11,7 +11,7 @@ ghost use Rattle.rx_object.specs.Places.{AreApart, free_places, has_id, pieces, 
 use norm_order::put_padded;
 use rs_block::Solver;
 
-/// The id of a free slot.
+/// Stands for the id of a slot into which no symbol came.
 // No symbol has this id: a block has at most 255 encoded symbols (RFC 5510 section 8), with the ids 0 to 254.
 pub const FREE: u8 = 255;
 

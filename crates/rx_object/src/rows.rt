@@ -38,7 +38,7 @@ fn start_of(plan: &Plan, block: u32) -> usize
     plan.symbol_number(block, 0) as usize
 }
 
-/// Returns the slot after the last one of a block.
+/// Returns the slot after the last one of a block: the first of the next block, if there is one.
 fn end_of(plan: &Plan, block: u32) -> usize
     requires object { is_some plan.now.l ≡ true }
     ensures { result ≡ end_of plan.now block }
