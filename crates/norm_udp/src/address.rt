@@ -18,7 +18,7 @@ pub(crate) struct Located {
     ghost known: { member_from profile address ≡ Some node } by { Prim.hlevel props },
 }
 
-/// Returns the address of this machine with this port.
+/// Returns 127.0.0.1 with this port.
 pub(crate) fn address_at(port: u16) -> SocketAddr
     ensures { IsAt result port }
 {
@@ -40,7 +40,6 @@ fn port_of(profile: &Profile, node: NodeId) -> u16
     profile.port + 1 + (node.number() - profile.sender) as u16
 }
 
-/// Returns the address of a member.
 pub(crate) fn address_of(profile: &Profile, node: NodeId) -> SocketAddr
     requires { is_node profile.now node ≡ true }
     ensures { IsAt result (port_of profile.now node) }
@@ -48,7 +47,7 @@ pub(crate) fn address_of(profile: &Profile, node: NodeId) -> SocketAddr
     address_at(port_of(profile, node))
 }
 
-/// Returns a member with its address.
+/// Returns a member with its own address: its socket is bound to it, and copies for the member are sent to it.
 #[tactic(auto, using(crate::proofs::AddressLemmas::known))]
 pub(crate) fn with_address(profile: &Profile, node: NodeId) -> Located
     requires { is_node profile.now node ≡ true }
@@ -63,7 +62,7 @@ pub(crate) fn with_address(profile: &Profile, node: NodeId) -> Located
     }
 }
 
-/// Returns the member with this index: the sender at 0, and then the receivers.
+/// Returns the member with this index: the sender at 0, and then the receivers in the order of their ids.
 pub(crate) fn member_at(profile: &Profile, place: u8) -> NodeId
     requires { place ≤ profile.now.receivers }
     ensures id { result ≡ profile.now.sender + place }
@@ -73,7 +72,7 @@ pub(crate) fn member_at(profile: &Profile, place: u8) -> NodeId
     NodeId::of(profile.sender + u32::from(place)).unwrap()
 }
 
-/// Returns the member that has this port, if one has it.
+/// Returns the member at this port. The members have the ports after the hub's, in the order of their ids. `None` for any other port.
 fn member_with(profile: &Profile, port: u16) -> Option<NodeId>
     ensures { result ≡ member_with profile.now port }
 {
@@ -84,7 +83,7 @@ fn member_with(profile: &Profile, port: u16) -> Option<NodeId>
     NodeId::of(profile.sender + u32::from(port - first))
 }
 
-/// Returns the member at this address, if it is a member's.
+/// Returns the member at this address. `None` unless it is 127.0.0.1 with a member's port.
 fn member_from(profile: &Profile, address: &SocketAddr) -> Option<NodeId>
     ensures { result ≡ member_from profile.now address.now }
 {

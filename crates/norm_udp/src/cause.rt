@@ -1,4 +1,4 @@
-//! What a failed call of a socket was about.
+//! What a failed call was about: [`SocketCause`]. `sockets` and `socket` make all of it, except `Within`, which `norm_host` makes.
 
 use norm_base::FabricKind;
 use std::net::SocketAddr;
@@ -7,7 +7,8 @@ use std::{fmt, io};
 /// What a failed call was about and why it failed, mostly in the system's words. It is for people: no clause speaks of it.
 #[derive(Debug, Drop)]
 pub enum SocketCause {
-    /// A socket could not be made, or could not be bound to this address.
+    /// A socket could not be made, bound to this address, or set to never wait. Also if a node alone is no member of the profile: with the address of
+    /// the hub.
     Bind {
         address: SocketAddr,
         error: io::Error,

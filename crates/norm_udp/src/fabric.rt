@@ -44,7 +44,7 @@ fn gap_of(profile: &Profile, local: &Local) -> u64 {
     }
 }
 
-/// Receives the next datagram that the sieve lets through. `None` if nothing is there, or after `MOST_PASSED` that it passed over.
+/// Receives the next datagram that the sieve lets through. `None` if [`Open::look`] returns it, or after [`MOST_PASSED`] that the sieve passed over.
 fn look_through(
     open: &mut Open,
     sieve: &mut Sieve,
@@ -123,7 +123,8 @@ impl<R: Net + Wait + Clock + Drop> UdpFabric<R> {
         self.senders = senders;
     }
 
-    /// Closes all sockets. Threads still send what was offered before.
+    /// Closes the node's sockets. Each thread still sends what was offered before, and then closes its own; only after that is a sender's port free. If
+    /// its lane stays full for some ten milliseconds, it keeps them until the next `close` or `start`.
     pub fn close(&mut self)
         ensures faults { self.new.faults ≡ self.old.faults }
         ensures passed { passed_by self.new ≡ 0 }
@@ -135,20 +136,20 @@ impl<R: Net + Wait + Clock + Drop> UdpFabric<R> {
         self.sieve = Sieve::open();
     }
 
-    /// Waits until threads have sent all that was offered, for some seconds at most. Call it before the process ends, because its threads end with
-    /// it. Returns why a thread could not send, if no call reported it; that does not count as a failed call.
+    /// Waits until threads have sent all that was offered, for some seconds at most for each thread. Call it before the process ends, because its
+    /// threads end with it. Returns why a thread could not send, if no call reported it; that does not count as a failed call.
     pub fn drain(&self) -> Option<SocketCause>
         ensures { tells_sending result ≡ true }
     {
         self.senders.drain(&self.rt)
     }
 
-    /// Returns what the last failed call was about. `None` if none failed yet.
+    /// Returns what the last failed call was about. `None` if none failed yet, except for want of memory.
     pub fn cause(&self) -> Option<&SocketCause> {
         self.cause.as_ref()
     }
 
-    /// Counts a failed call, and keeps what it was about.
+    /// Counts a failed call. Its cause takes the place of the last one's.
     fn keep(&mut self, cause: SocketCause)
         ensures counted { Counts self.old.faults self.new.faults true }
         ensures sieve { self.new.sieve ≡ self.old.sieve }
@@ -178,7 +179,7 @@ impl<R: Net + Wait + Clock + Drop> UdpFabric<R> {
         }
     }
 
-    /// Receives a datagram if one is there.
+    /// Looks once and never waits. [`find`](UdpFabric::find) notes what was found.
     fn look(&mut self, into: &mut Datagram) -> Result<Option<Located>, SocketCause>
         requires { into.old ≡ [] }
         ensures none { IfOk result (λ node. IfNone node (into.new ≡ [])) }
@@ -189,7 +190,8 @@ impl<R: Net + Wait + Clock + Drop> UdpFabric<R> {
         look_through(&mut self.open, &mut self.sieve, &mut self.buffer, into)
     }
 
-    /// Looks until this moment, in microseconds of the clock. If it is over already, reads the clock once and does not look.
+    /// Looks until a datagram is there, and at most until this moment in microseconds of the clock. If none came, it notes that. If the moment is over
+    /// already, it reads the clock once and does not look.
     fn look_until(
         &mut self,
         until: u64,
@@ -215,7 +217,7 @@ impl<R: Net + Wait + Clock + Drop> UdpFabric<R> {
         Ok(None)
     }
 
-    /// Sleeps, and looks once more. The sleep is short if the node was busy lately; `last` is when that was.
+    /// Sleeps, and looks once more. `last` is when the node last answered that nothing is there after it was busy. Soon after that, the sleep is short.
     fn look_after_sleep(
         &mut self,
         last: Option<u64>,

@@ -17,13 +17,12 @@ pub struct Heard {
     pub instance: InstanceId,
     /// The transport id of the object that INFO, DATA, a flush or a squelch names.
     pub object: Option<u16>,
-    /// The transmission information of INFO or DATA, if it has any.
+    /// EXT_FTI of INFO or DATA. `None` if it has none, and for a command.
     pub fti: Option<Fti>,
     /// The flags of INFO or DATA. 0 for a command.
     pub flags: u8,
 }
 
-/// Returns what INFO or DATA says.
 fn object_heard(head: &ObjHead, exts: &Extensions<'_>) -> Heard
     ensures { result ≡ object_heard head.now exts.now }
 {
@@ -36,7 +35,6 @@ fn object_heard(head: &ObjHead, exts: &Extensions<'_>) -> Heard
     }
 }
 
-/// Returns what a command says that names this object, or none.
 fn command_heard(head: &CmdHead, object: Option<u16>) -> Heard
     ensures { result ≡ command_heard head.now object }
 {
@@ -49,7 +47,7 @@ fn command_heard(head: &CmdHead, object: Option<u16>) -> Heard
     }
 }
 
-/// Returns what a command of any kind says.
+/// Only a flush and a squelch name an object.
 fn any_command_heard(msg: &CommandMsg<'_>) -> Heard
     ensures { message_heard (command_of msg.now) ≡ Some result }
 {

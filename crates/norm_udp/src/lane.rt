@@ -70,7 +70,7 @@ fn sleep<R: Clock>(rt: &R) {
 }
 
 impl Lane {
-    /// Returns an empty lane.
+    /// Returns an empty lane with all its slots, under 1 MB.
     ///
     /// # Errors
     ///
@@ -147,7 +147,7 @@ impl Lane {
         self.has_failed.store(true, Ordering::SeqCst);
     }
 
-    /// Takes the failure that is kept, if there is one.
+    /// Takes the failure that is kept, and frees its slot.
     pub(crate) fn kept<R: Wait>(&self, rt: &R) -> Option<SocketCause>
         ensures { tells_sending result ≡ true }
     {
@@ -171,7 +171,7 @@ impl Lane {
         self.kept(rt)
     }
 
-    /// Takes what was posted next.
+    /// Takes the oldest slot that was posted. The thread gives it back with `free` or `fail`.
     pub(crate) fn next<R: Wait>(&self, rt: &R) -> Option<Box<Posted>> {
         self.posted.pop(rt)
     }
@@ -181,7 +181,7 @@ impl Lane {
         self.places.force_push(rt, place);
     }
 
-    /// Waits until all that was posted is done, for some seconds at most.
+    /// Waits until each slot is free or holds a failure that no call reported, for some seconds at most.
     pub(crate) fn drain<R: Wait + Clock>(&self, rt: &R) {
         for _ in 0..MOST_DRAINING {
             if self.places.len(rt).saturating_add(self.failures.len(rt)) >= PLACES {
@@ -209,7 +209,7 @@ impl Lane {
         self.rest.unpark();
     }
 
-    /// Whether nothing more will be offered.
+    /// Whether [`end`](Lane::end) was called. What was posted before may still lie here.
     pub(crate) fn is_over(&self) -> bool {
         self.over.load(Ordering::SeqCst)
     }

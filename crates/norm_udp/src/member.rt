@@ -18,7 +18,7 @@ pub(crate) struct Member {
     pub(crate) socket: UdpSocket,
 }
 
-/// Opens a member's own socket, at its address.
+/// Opens a member's own socket, bound to its address, with a large receive buffer.
 pub(crate) fn open_own<R: Net>(
     rt: &R,
     profile: &Profile,
@@ -32,7 +32,7 @@ pub(crate) fn open_own<R: Net>(
     Ok(Member { located, socket })
 }
 
-/// Opens a socket that sends to a member.
+/// Opens a socket for copies to a member, at any free port. Nothing is received from it.
 pub(crate) fn open_way<R: Net>(
     rt: &R,
     profile: &Profile,

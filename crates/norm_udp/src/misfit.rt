@@ -1,4 +1,4 @@
-//! A sender whose profile is not this receiver's. `sieve` finds it, and `norm_watch` reports it.
+//! A sender's instance that does not fit this receiver's profile. `sieve` finds it, and `norm_watch` reports it.
 
 ghost use Rattle.std.specs.Prelude.{◌≡◌};
 ghost use Rattle.norm_udp.specs.Misfits.{says_stream, has_sizes, fits, difference_of, misfit_of};
@@ -27,7 +27,7 @@ pub enum Difference {
     Length { octets: u64, most: u32 },
 }
 
-/// A sender's instance of which a receiver takes nothing, and why.
+/// The first message that did not fit, by its instance, and how it differs. Nothing of the instance is taken until INFO or DATA of it fits.
 #[derive(Clone, Copy, Debug)]
 pub struct Misfit {
     pub sender: NodeId,
@@ -64,14 +64,13 @@ impl fmt::Display for Misfit {
     }
 }
 
-/// Whether these flags of INFO or DATA are those of a stream.
+/// Whether INFO or DATA with these flags is of a stream (NORM_FLAG_STREAM, RFC 5740 section 4.2.1).
 fn is_stream(flags: u8) -> bool
     ensures { result ≡ says_stream flags }
 {
     has_flag(flags, STREAM)
 }
 
-/// Whether symbols and blocks have the profile's sizes.
 fn has_sizes(profile: &Profile, fti: &Fti) -> bool
     ensures { result ≡ has_sizes profile.now fti.now }
 {
@@ -109,7 +108,7 @@ fn difference_of(profile: &Profile, fti: &Fti) -> Difference
     }
 }
 
-/// Returns the misfit of a message whose transmission information does not fit.
+/// `fti` is that of `heard`, and does not fit: otherwise the result names a length that is allowed.
 pub(crate) fn misfit_of(profile: &Profile, heard: &Heard, fti: &Fti) -> Misfit
     ensures { result ≡ misfit_of profile.now heard.now fti.now }
 {

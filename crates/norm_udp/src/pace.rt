@@ -7,15 +7,15 @@ ghost use Rattle.norm_udp.specs.Pausing.{look_until, sleep_since, pause_of, new_
 // Our own choice: a longer gap leaves time to sleep, and a sender that looks takes a whole processor.
 const LONGEST_LOOK: u64 = 1_000;
 
-/// A sleep is short for this many microseconds after a datagram.
-// Our own choice: within ten milliseconds of the last datagram the next one is mostly near.
+/// A sleep is short for this many microseconds after [`Pace::last`].
+// Our own choice: within ten milliseconds of a datagram the next one is mostly near.
 const RECENT: u64 = 10_000;
 
-/// Microseconds of a sleep if a datagram was offered or taken lately.
+/// Microseconds of a sleep at most [`RECENT`] after the node was busy.
 // Our own choice: how late an answer may be while datagrams come. A shorter sleep takes time of the processor from other nodes of this machine.
 const SHORT_SLEEP: u64 = 250;
 
-/// Microseconds of a sleep if none was.
+/// Microseconds of any other sleep.
 // Our own choice: a node at rest then wakes a thousand times a second at most.
 const LONG_SLEEP: u64 = 1_000;
 
@@ -24,9 +24,9 @@ const LONG_SLEEP: u64 = 1_000;
 pub(crate) enum Pause {
     /// Look until this moment, in microseconds of the clock.
     Look(u64),
-    /// Answer that nothing is there.
+    /// Answer at once that nothing is there.
     Answer,
-    /// Sleep, and look once more. [`sleep_since`] says how long, by the moment at which the node was busy last.
+    /// Sleep, and look once more. [`sleep_since`] says how long, by [`Pace::last`].
     Sleep(Option<u64>),
 }
 
@@ -46,14 +46,14 @@ pub(crate) struct Pace {
     pub last: Option<u64>,
 }
 
-/// Returns until when a sender looks if it offered at this moment.
+/// Returns until when a sender looks if it offered at this moment: until its gap is over, or for [`LONGEST_LOOK`] if that is less.
 fn look_until(gap: u64, offered: u64) -> u64
     ensures { result ≡ look_until gap offered }
 {
     offered.saturating_add(gap.min(LONGEST_LOOK))
 }
 
-/// Returns how many microseconds a sleep lasts that begins now, if the node was busy last at `last`.
+/// Returns how many microseconds a sleep lasts that begins now. `last` is [`Pace::last`]; without it, the sleep is long.
 pub(crate) fn sleep_since(last: Option<u64>, now: u64) -> u64
     ensures { result ≡ sleep_since last now }
 {
@@ -84,14 +84,14 @@ impl Pace {
         self.busy = true;
     }
 
-    /// Notes that a datagram was offered or taken.
+    /// Notes that a datagram was offered or taken. It asks for no moment, so a node without a gap needs no clock for it.
     pub(crate) fn note_busy(&mut self)
         ensures { self.new ≡ made_busy self.old }
     {
         self.busy = true;
     }
 
-    /// Notes the answer, at this moment, that nothing is there.
+    /// Notes the answer, at this moment, that nothing is there. The next [`pause`](Pace::pause) is a sleep if nothing comes between.
     pub(crate) fn note_empty(&mut self, now: u64)
         ensures { self.new ≡ found_empty self.old now }
     {
@@ -102,7 +102,8 @@ impl Pace {
         self.busy = false;
     }
 
-    /// Returns what to do if nothing is there.
+    /// Returns what to do after a look that found nothing. A sender that offered looks until its gap is over, a node that took or offered something
+    /// answers, and any other sleeps.
     pub(crate) fn pause(&self) -> Pause
         ensures { result ≡ pause_of self.now }
     {

@@ -27,8 +27,8 @@ const LEAST_PROCESSORS: usize = 4;
 // Our own choice: a hub has at most 16 receivers to share out among them.
 const MOST_THREADS: usize = 4;
 
-/// Does what was posted: takes the new way, or sends the datagram. Gives the slot back, with the error if
-/// sending failed. Returns the way from then on.
+/// Does what was posted: takes the new way, or sends the datagram. Frees the slot, or keeps it with the error for a call to report. Returns the way
+/// from then on.
 fn follow<R: Wait>(rt: &R, lane: &Lane, way: Way, posted: Box<Posted>) -> Way {
     let mut posted = posted;
     if let Some(other) = posted.way.take() {
@@ -96,7 +96,7 @@ impl Senders {
         Senders(Vec::new(alloc))
     }
 
-    /// Starts as many as this machine has processors for, and none if it has fewer than four.
+    /// Starts one for each two processors of this machine, four at most, and none if it has fewer than four processors.
     ///
     /// # Errors
     ///
@@ -112,7 +112,7 @@ impl Senders {
         Ok(senders)
     }
 
-    /// Starts one more.
+    /// Starts one more. If it cannot be made, its lane stays here: drop all of them.
     fn add<R: Threads + Wait + Clock + Copy + Send + Drop + 'static>(
         &mut self,
         alloc: Global,
@@ -128,7 +128,6 @@ impl Senders {
         Ok(())
     }
 
-    /// Returns how many there are.
     pub(crate) fn count(&self) -> usize
         ensures { result ≡ lanes_of self.now }
     {
@@ -152,7 +151,7 @@ impl Senders {
         }
     }
 
-    /// Takes the failure of a thread to send, if no call reported it yet.
+    /// Takes a failure of a thread to send that no call reported yet, and leaves those of other threads for the next calls.
     ///
     /// # Errors
     ///
@@ -168,7 +167,7 @@ impl Senders {
         Ok(())
     }
 
-    /// Waits until all that was offered is sent, for some seconds at most. Returns why a thread could not send, if no call reported it.
+    /// Waits until all that was offered is sent, for some seconds at most for each thread. Returns why a thread could not send, if no call reported it.
     pub(crate) fn drain<R: Wait + Clock>(&self, rt: &R) -> Option<SocketCause>
         ensures { tells_sending result ≡ true }
     {
@@ -182,7 +181,7 @@ impl Senders {
         left
     }
 
-    /// Tells each thread to send nowhere, after what was posted before.
+    /// Tells each thread to send nowhere, after what was posted before. A thread whose lane has no free slot for too long keeps its way.
     pub(crate) fn leave<R: Wait + Clock>(&self, rt: &R) {
         for lane in &self.0 {
             lane.tell(rt, Way::Nowhere);

@@ -11,26 +11,28 @@ use norm_base::{InstanceId, Local, Profile};
 
 /// A network that may pass over datagrams, and reports it for people.
 pub trait PassesOver {
-    /// Returns how many datagrams were passed over since the last start.
+    /// Returns how many datagrams were passed over since the last start for the profile of their sender. Those that are too long or of no member are
+    /// not counted.
     fn passed_over(&self) -> u64;
 
-    /// Returns the first of them whose sender has another profile. `None` if all fitted.
+    /// Returns what did not fit at the first of them. It stays after a later datagram fits. `None` if none was passed over.
     fn misfit(&self) -> Option<Misfit>;
 }
 
-/// What a receiver alone passes over. If transmission information of its sender does not fit its profile, all INFO, DATA and commands of that
-/// instance are passed over. Otherwise the receiver would take no object of it, and ask for each again and again. It ends if INFO or DATA of the
-/// instance fits, so that one forged datagram cuts nobody off.
+/// What a receiver alone passes over. If transmission information of its sender does not fit its profile, all INFO, DATA and commands of that instance
+/// are passed over. Otherwise the receiver would take no object of it, and ask for each again and again. This ends as soon as INFO or DATA of the
+/// instance fits. So a forged datagram cuts the sender off only until then. A sender that only flushes sends none: its receiver is then cut off until
+/// there is something new.
 // In the network and not in the rules: a network may lose anything, so no clause above it changes.
 #[derive(Drop)]
 pub(crate) struct Sieve {
     /// The receiver's profile. `None` at any other node, which passes nothing over.
     pub profile: Option<Profile>,
-    /// The instance that is cut off.
+    /// The instance that is cut off. One at a time: a misfit of another takes its place.
     pub cut: Option<InstanceId>,
-    /// How many datagrams were passed over.
+    /// Commands that were passed over count too.
     pub count: u64,
-    /// The first that did not fit.
+    /// The first that did not fit. It stays after a later one fits.
     pub misfit: Option<Misfit>,
 }
 
@@ -51,7 +53,6 @@ fn compared(profile: &Profile, local: &Local) -> Option<Profile>
     }
 }
 
-/// Whether this instance is the one that is cut off.
 fn is_in(cut: &Option<InstanceId>, instance: InstanceId) -> bool
     ensures { result ≡ is_in cut.now instance }
 {
@@ -65,14 +66,16 @@ fn is_in(cut: &Option<InstanceId>, instance: InstanceId) -> bool
 fn cut_by(is_fit: bool, cut: Option<InstanceId>, instance: InstanceId) -> Option<InstanceId>
     ensures { result ≡ cut_by is_fit cut instance }
 {
-    // From the first misfit on all of the instance is passed over. Without that a receiver would ask for each object anew in each round.
+    // From the first misfit on all of the instance is passed over, until INFO or DATA of it fits. Without that a receiver would ask for each object
+    // anew in each round.
     if !is_fit {
         return Some(instance);
     }
     if is_in(&cut, instance) { None } else { cut }
 }
 
-/// Returns which instance is cut off after INFO, DATA or a command of the profile's sender.
+/// Returns which instance is cut off after INFO, DATA or a command of the profile's sender. Without transmission information, as in each command,
+/// nothing changes.
 fn cut_after(profile: &Profile, cut: Option<InstanceId>, heard: &Heard) -> Option<InstanceId>
     ensures { result ≡ cut_after profile.now cut heard.now }
 {
@@ -83,7 +86,7 @@ fn cut_after(profile: &Profile, cut: Option<InstanceId>, heard: &Heard) -> Optio
 }
 
 impl Sieve {
-    /// Returns the sieve of these members, with nothing cut off.
+    /// Returns a sieve with nothing cut off. It lets everything through unless `local` is a receiver alone.
     pub(crate) fn of(profile: &Profile, local: &Local) -> Sieve
         ensures profile { result.profile ≡ compared profile.now local.now }
         ensures cut { result.cut ≡ None }
@@ -98,7 +101,7 @@ impl Sieve {
         }
     }
 
-    /// Returns a sieve that lets everything through.
+    /// Returns a sieve that lets everything through, for a network without a session.
     pub(crate) fn open() -> Sieve
         ensures profile { result.profile ≡ None }
         ensures count { result.count ≡ 0 }
@@ -127,7 +130,7 @@ impl Sieve {
         }
     }
 
-    /// Whether INFO, DATA or a command is passed over. If so, counts it.
+    /// Whether INFO, DATA or a command is passed over. If so, counts it. It may itself begin what it is passed over for, or end it.
     fn cuts_off(&mut self, profile: &Profile, heard: &Heard) -> bool
         ensures profile { self.new.profile ≡ self.old.profile }
         ensures cut { self.new.cut ≡ cut_then (Some profile.now) self.old.cut (Some heard.now) }
@@ -147,7 +150,7 @@ impl Sieve {
         true
     }
 
-    /// Whether a datagram is passed over. If so, counts it.
+    /// Whether a datagram is passed over. If so, counts it. Reads the whole message, except at a node that passes nothing over.
     pub(crate) fn passes_over(&mut self, bytes: &[u8]) -> bool
         ensures profile { self.new.profile ≡ self.old.profile }
         ensures cut { self.new.cut ≡ cut_then self.old.profile self.old.cut (heard_in bytes.now) }

@@ -15,7 +15,7 @@ use std::os::fd::AsRawFd;
 // A read cuts what is longer than the buffer, and does not say so.
 pub(crate) const BUFFER: usize = DATAGRAM_ROOM + 1;
 
-/// Octets of the receive buffer that a socket asks for.
+/// Octets of the receive buffer that [`bind`] asks for.
 // Our own choice, 4 MiB: some 2,800 datagrams of full size, so that little is lost while a turn hands up or prints. The system may give less.
 const RECEIVE_BUFFER: i32 = 4 << 20;
 
@@ -38,7 +38,7 @@ fn bound_to<R: Net>(rt: &R, address: SocketAddr) -> io::Result<UdpSocket> {
     Ok(socket)
 }
 
-/// Opens a socket that is bound to this address and never waits. If that fails, the error names the address.
+/// As [`bound_to`]. The error names the address.
 fn at<R: Net>(rt: &R, address: SocketAddr) -> Result<UdpSocket, SocketCause> {
     match bound_to(rt, address) {
         Ok(socket) => Ok(socket),
@@ -119,7 +119,8 @@ fn nothing_there(error: io::Error, own: SocketAddr) -> Result<(), SocketCause> {
     })
 }
 
-/// Receives the next datagram, from wherever it came, and passes over any that is too long. `false` if nothing is there.
+/// Receives the next datagram, from wherever it came, and passes over any that is too long. `false` if nothing is there, or after [`MOST_PASSED`] that
+/// are too long.
 pub(crate) fn receive(
     socket: &UdpSocket,
     own: SocketAddr,
@@ -146,8 +147,8 @@ pub(crate) fn receive(
     Ok(false)
 }
 
-/// Receives the next datagram, and passes over any that is too long. Returns the address that it came from, which costs more than
-/// [`receive`]. `None` if nothing is there.
+/// Receives the next datagram, and passes over any that is too long. Returns the address that it came from, which costs more than [`receive`]. `None`
+/// if nothing is there, or after [`MOST_PASSED`] that are too long.
 pub(crate) fn receive_from(
     socket: &UdpSocket,
     own: SocketAddr,

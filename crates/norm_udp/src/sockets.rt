@@ -21,7 +21,7 @@ use std::net::{Net, SocketAddr, UdpSocket};
 use std::sync::Wait;
 use std::time::Clock;
 
-/// Why sockets were not opened.
+/// Why [`open_for`] failed. `fabric` counts `Socket` as a failed call, and not `Memory`.
 #[derive(Debug, Drop)]
 pub(crate) enum OpenFault {
     Memory,
@@ -46,18 +46,19 @@ impl From<SocketCause> for OpenFault {
     }
 }
 
-/// The sockets that are open: [`send`](Open::send) sends by them, and [`look`](Open::look) receives.
+/// The open sockets of the members in this process. [`look`](Open::look) never waits. [`send`](Open::send) waits some ten milliseconds at most for each
+/// lane that is full.
 #[derive(Debug, Drop)]
 pub(crate) enum Open {
-    /// None: no session was started, or it was closed.
+    /// None: no session was started, the last start failed, or the session was closed.
     Nothing,
-    /// Each member's own. `place` is the index of the one to look at, until it is empty.
+    /// Each member's own, the sender's first. `place` is the index of the one to look at, until it is empty.
     All {
         profile: Profile,
         members: Vec<Member>,
         place: usize,
     },
-    /// One member's, which sends to the hub. If `threads` is 1, a thread sends for it, as it does for a sender.
+    /// One member's own, which sends to the hub. `threads` is 1 if a thread sends for it, as one may for a sender, and else 0.
     One {
         member: Member,
         hub: SocketAddr,
@@ -73,7 +74,7 @@ pub(crate) enum Open {
     },
 }
 
-/// Opens each member's own socket, in the order of their ids.
+/// Opens each member's own socket. If one fails, those before it are closed again.
 #[tactic(auto, using(crate::proofs::WayLemmas::members_more))]
 fn open_members<R: Net>(rt: &R, alloc: Global, profile: &Profile) -> Result<Vec<Member>, OpenFault>
     ensures { IfOk result (λ members. nodes_of members.items ≡ members_of profile.now) }
@@ -87,7 +88,6 @@ fn open_members<R: Net>(rt: &R, alloc: Global, profile: &Profile) -> Result<Vec<
     Ok(members)
 }
 
-/// Opens the sockets of a process that has all members.
 fn open_all<R: Net>(rt: &R, alloc: Global, profile: &Profile) -> Result<Open, OpenFault> {
     let members = open_members(rt, alloc, profile)?;
     Ok(Open::All {
@@ -141,7 +141,7 @@ fn open_one<R: Net + Wait + Clock>(
     })
 }
 
-/// Opens a socket to the receiver at this index, if the index is `from`, `from + apart`, and so on.
+/// Opens a socket to a receiver for [`open_ways`], and does nothing if the receiver belongs to another thread.
 #[tactic(auto, using(crate::proofs::WayLemmas::nodes_more))]
 fn add_way<R: Net>(
     rt: &R,
@@ -164,7 +164,7 @@ fn add_way<R: Net>(
     Ok(())
 }
 
-/// Opens a socket to each receiver whose index is `from`, `from + apart`, and so on.
+/// Opens the sockets of one of `apart` threads that share the receivers: to each whose index is `from`, `from + apart`, and so on.
 #[tactic(auto, using(crate::proofs::WayLemmas::way_more))]
 fn open_ways<R: Net>(
     rt: &R,
@@ -223,7 +223,8 @@ fn tell_way<R: Wait + Clock>(
     Ok(())
 }
 
-/// Opens a socket to each receiver of the thread at this index, and has it send there. `threads` is how many share the receivers.
+/// Opens a socket to each receiver of the thread at this index, and has it send there. `threads` is how many share the receivers. `Memory` also if the
+/// lane of the thread stays full.
 fn share_way<R: Net + Wait + Clock>(
     rt: &R,
     alloc: Global,
@@ -257,7 +258,7 @@ fn share_copying<R: Net + Wait + Clock>(
     Ok(told)
 }
 
-/// Opens the hub's socket, and one to each receiver.
+/// Opens the hub's socket, and one to each receiver, which the threads get if there are any.
 fn open_hub<R: Net + Wait + Clock>(
     rt: &R,
     alloc: Global,
@@ -279,7 +280,7 @@ fn open_hub<R: Net + Wait + Clock>(
     })
 }
 
-/// Opens the sockets of a process that has these members.
+/// Opens the sockets, and tells the threads of a hub or a sender to whom they send. If this fails, a thread may have been told already.
 pub(crate) fn open_for<R: Net + Wait + Clock>(
     rt: &R,
     alloc: Global,
@@ -308,7 +309,7 @@ fn send_copy(
     send_to(socket, bytes, address_of(profile, to))
 }
 
-/// Sends a member's datagram from its own socket to each other member. Returns how many copies it sent.
+/// Sends a member's datagram from its own socket to each other member, and stops at the first failure. Returns how many copies it sent, lost ones too.
 #[tactic(auto, using(crate::proofs::WayLemmas::copies_yes, crate::proofs::WayLemmas::copies_no))]
 fn send_from(
     profile: &Profile,
@@ -347,7 +348,7 @@ fn send_among(
     Ok(())
 }
 
-/// Sends a receiver's datagram from the hub to the sender, and nothing if it is the sender's own. Returns how many copies it sent.
+/// Sends a receiver's datagram from the hub to the sender, and nothing if it is the sender's own or no member's. Returns how many copies it sent.
 fn send_back(
     profile: &Profile,
     hub: &UdpSocket,
@@ -389,7 +390,7 @@ fn look_among(
     Ok(None)
 }
 
-/// Receives the next datagram of a member at the hub, and passes over any from another address. `None` if nothing is there.
+/// Receives the next datagram of a member at the hub. `None` if [`receive_from`] returns it, or after [`MOST_PASSED`] from addresses of no member.
 fn receive_from_member(
     profile: &Profile,
     socket: &UdpSocket,
@@ -415,7 +416,8 @@ fn receive_from_member(
 }
 
 impl Open {
-    /// Sends a member's datagram to the other members, or to the hub if this is a member alone. Threads may do it.
+    /// Sends a member's datagram to the other members; from a member alone, to the hub. It goes nowhere if nothing is open. If a thread sends it, a
+    /// failure shows only at a later [`check`](Senders::check), and a lane that stays full loses it.
     pub(crate) fn send<R: Wait + Clock>(
         &self,
         rt: &R,
@@ -459,7 +461,8 @@ impl Open {
         }
     }
 
-    /// Takes the next datagram if one is there, and returns the member that it is for; at the hub, the one that sent it.
+    /// Takes the next datagram, and returns the member that it is for; at the hub, the one that sent it. `None` if none is there, or after
+    /// [`MOST_PASSED`] that are too long or, at the hub, of no member.
     pub(crate) fn look(
         &mut self,
         buffer: &mut [u8],

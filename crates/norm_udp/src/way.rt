@@ -14,21 +14,22 @@ use std::net::{SocketAddr, UdpSocket};
 /// To whom a thread sends what lies in its lane.
 #[derive(Drop)]
 pub(crate) enum Way {
-    /// Nowhere: no session was started, or it was closed.
+    /// Nowhere: the thread was told no way yet, or the session was closed.
     Nowhere,
     /// To each of these receivers that gets a copy.
     Copies {
         profile: Profile,
         receivers: Vec<Member>,
     },
-    /// From a member's socket to the hub.
+    /// From a sender's socket to the hub.
     Hub {
         socket: UdpSocket,
         hub: SocketAddr,
     },
 }
 
-/// Sends a member's datagram to each of these receivers that gets a copy. Returns how many copies it sent.
+/// Sends a member's datagram to each of these receivers that gets a copy, and stops at the first failure. Returns how many copies it sent, lost ones
+/// too.
 #[tactic(auto, using(crate::proofs::WayLemmas::copies_yes, crate::proofs::WayLemmas::copies_no))]
 pub(crate) fn send_copies(
     profile: &Profile,
@@ -50,7 +51,7 @@ pub(crate) fn send_copies(
 }
 
 impl Way {
-    /// Sends a member's datagram this way.
+    /// Sends a member's datagram to all that the way names, and stops at the first failure. The hub gets whatever `from` offers.
     pub(crate) fn send(&self, from: NodeId, bytes: &[u8]) -> Result<(), SocketCause>
         ensures { IfErr result (λ cause. is_sending cause ≡ true) }
     {
