@@ -35,7 +35,7 @@ impl CallCount {
         }
     }
 
-    /// Whether the next call is one of those that fail.
+    /// Whether the next call fails. It searches the list, and does not count the call.
     pub(crate) fn next_fails(&self) -> bool
         ensures { result ≡ next_fails self.now }
     {
@@ -43,21 +43,20 @@ impl CallCount {
         self.failing.contains(&self.made.saturating_add(1))
     }
 
-    /// Returns how many calls were made since the count began.
+    /// Returns how many calls were counted since the last [`restart`](CallCount::restart), failed ones too.
     pub(crate) fn made(&self) -> u64
         ensures { result ≡ self.now.made }
     {
         self.made
     }
 
-    /// Counts a call that did not fail.
     pub(crate) fn pass(&mut self)
         ensures { self.new ≡ after_call self.old false }
     {
         self.made = self.made.saturating_add(1);
     }
 
-    /// Counts a call that failed.
+    /// Counts a call that failed, among all calls too.
     #[tactic(auto, using(norm_base::proofs::CountLemmas::counts_one_more))]
     pub(crate) fn fail(&mut self)
         ensures counted { self.new ≡ after_call self.old true }
@@ -74,7 +73,7 @@ impl CallCount {
         self.made = 0;
     }
 
-    /// Returns how many calls failed.
+    /// Returns how many calls failed. A restart leaves this as it is.
     pub(crate) fn faults(&self) -> u64
         ensures { result ≡ self.now.faults }
     {

@@ -16,7 +16,7 @@ use rand_pcg::Lcg64Xsh32;
 use std::alloc::{AllocError, Global};
 use std::marker::Model;
 
-/// Returns the generator of a seed.
+/// The draws depend on the seed alone, so that a run can be repeated.
 #[tactic(auto, unfolding(crate::specs::Chances::seeded))]
 fn seeded(chance: u32) -> Lcg64Xsh32
     ensures { result ≡ seeded chance }
@@ -24,7 +24,6 @@ fn seeded(chance: u32) -> Lcg64Xsh32
     Lcg64Xsh32::seed_from_u64(u64::from(chance))
 }
 
-/// Draws the next word, of 32 bits.
 #[tactic(auto, unfolding(crate::specs::Chances::draw))]
 fn draw(draws: &mut Lcg64Xsh32) -> u32
     ensures { (result, draws.new) ≡ draw draws.old }
@@ -32,7 +31,7 @@ fn draw(draws: &mut Lcg64Xsh32) -> u32
     draws.next_word()
 }
 
-/// Returns what becomes of a copy, by the word that was drawn for it.
+/// Returns what becomes of a copy, by the word that was drawn for it. [`ChanceFabric`] says how.
 fn fate_by_word(profile: &Profile, word: u32) -> Fate
     ensures { result ≡ fate_by_word profile.now word }
 {
@@ -90,7 +89,7 @@ impl Model for ChanceFabric {
 }
 
 impl ChanceFabric {
-    /// Returns a network that was not started, and has no member.
+    /// Returns a network that was not started, and has no member. It takes no memory, so it is always `Ok`.
     pub fn new(alloc: Global) -> Result<ChanceFabric, Memory>
         ensures { IfOk result (λ f. f ≡ chance_unstarted) }
     {
@@ -101,7 +100,7 @@ impl ChanceFabric {
         })
     }
 
-    /// Returns the datagram at this index, from 0, of those offered since the last start, and who offered it.
+    /// Returns the datagram at this index, from 0, of those offered since the last start, and who offered it. `None` if there are not so many.
     pub fn offered(&self, place: usize) -> Option<(NodeId, &[u8])>
         ensures { option_map (λ x. (x.0, x.1.now)) result ≡ first_of (drop place self.now.network.offered) }
     {

@@ -16,7 +16,6 @@ pub struct WaitingCopy {
     pub ready: u64,
     /// The index of its offer, from 0, among those since the start.
     pub offer: usize,
-    /// The member that it is for.
     pub to: NodeId,
 }
 

@@ -31,7 +31,7 @@ impl Model for DirectFabric {
 }
 
 impl DirectFabric {
-    /// Returns a network that was not started, and has no member.
+    /// Returns a network that was not started, and has no member. It takes no memory, so it is always `Ok`.
     pub fn new(alloc: Global) -> Result<DirectFabric, Memory>
         ensures { IfOk result (λ f. f ≡ unstarted) }
     {
@@ -40,7 +40,7 @@ impl DirectFabric {
         })
     }
 
-    /// Returns the datagram at this index, from 0, of those offered since the last start, and who offered it.
+    /// Returns the datagram at this index, from 0, of those offered since the last start, and who offered it. `None` if there are not so many.
     pub fn offered(&self, place: usize) -> Option<(NodeId, &[u8])>
         ensures { option_map (λ x. (x.0, x.1.now)) result ≡ first_of (drop place self.now.offered) }
     {

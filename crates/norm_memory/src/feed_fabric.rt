@@ -39,7 +39,7 @@ impl Model for FeedFabric {
 }
 
 impl FeedFabric {
-    /// Returns a network that was not started, and will give these datagrams to these members.
+    /// Returns a network that was not started, and will give these datagrams to these members. It takes no memory, so it is always `Ok`.
     pub fn of(alloc: Global, feed: Vec<(NodeId, Vec<u8>)>) -> Result<FeedFabric, Memory>
         requires { AreDatagrams feed.items }
         ensures { IfOk result (λ f. f ≡ record { starts = []; offered = []; answers = []; left = fed feed.items }) }
@@ -53,7 +53,7 @@ impl FeedFabric {
         })
     }
 
-    /// Returns the datagram at this index, from 0, of those offered since the last start, and who offered it.
+    /// Returns the datagram at this index, from 0, of those offered since the last start, and who offered it. `None` if there are not so many.
     pub fn offered(&self, place: usize) -> Option<(NodeId, &[u8])>
         ensures { option_map (λ x. (x.0, x.1.now)) result ≡ first_of (drop place self.now.offered) }
     {

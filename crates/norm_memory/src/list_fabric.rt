@@ -15,9 +15,9 @@ use norm_base::{Datagram, Fabric, FabricFault, Local, Memory, NodeId, Profile};
 use std::alloc::Global;
 use std::marker::Model;
 
-/// A network in memory like `DirectFabric`, except that rules say which copies are lost, repeated or late, and that listed offers and takes fail and
-/// leave all as it was. Offers and takes have numbers from 1 since the last start that was `Ok`, failed ones too. Ready copies are taken in the order
-/// in which they became ready, then of their offers, then of the nodes that they are for.
+/// A network in memory like [`DirectFabric`](crate::DirectFabric), except that rules say which copies are lost, repeated or late, and that listed
+/// offers and takes fail. A failed one is counted and does nothing else. Offers and takes have numbers from 1 since the last start that was `Ok`,
+/// failed ones too. Ready copies are taken in the order in which they became ready, then of their offers, then of the nodes that they are for.
 #[derive(Debug, Drop)]
 pub struct ListFabric {
     network: MemNetwork,
@@ -35,7 +35,8 @@ impl Model for ListFabric {
 }
 
 impl ListFabric {
-    /// Returns a network that was not started, and has no member. The offers and takes with these numbers fail.
+    /// Returns a network that was not started, and has no member. The offers and takes with these numbers fail. It takes no memory, so it is always
+    /// `Ok`.
     pub fn of(
         alloc: Global,
         rules: Vec<Rule>,
@@ -55,7 +56,7 @@ impl ListFabric {
         })
     }
 
-    /// Returns the datagram at this index, from 0, of those offered since the last start, and who offered it.
+    /// Returns the datagram at this index, from 0, of those offered since the last start, and who offered it. `None` if there are not so many.
     pub fn offered(&self, place: usize) -> Option<(NodeId, &[u8])>
         ensures { option_map (λ x. (x.0, x.1.now)) result ≡ first_of (drop place self.now.network.offered) }
     {

@@ -9,7 +9,7 @@ use norm_base::{Clock, Moment};
 use std::marker::Model;
 
 /// Gives the moments of a list, and after them the last one again. Gives 0 if the list is empty.
-// It counts the questions and keeps no list of what it answered: a list needs memory, and `now` has no answer for want of it.
+// It counts the questions and keeps no list of what it answered: a list needs memory, and `now` cannot report that memory ran out.
 #[derive(Debug, Drop)]
 pub struct MemClock {
     moments: Vec<Moment>,
@@ -25,7 +25,7 @@ impl Model for MemClock {
 }
 
 impl MemClock {
-    /// Returns a clock that gives these moments.
+    /// Returns a clock that gives these moments, one for each call of `now`. They may go back.
     pub fn of(moments: Vec<Moment>) -> MemClock
         ensures { result ≡ record { moments = moments.items; asked = 0 } }
     {

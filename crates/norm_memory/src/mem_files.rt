@@ -25,7 +25,7 @@ fn place_of(files: &[(String, Vec<u8>)], name: &str) -> usize
     files.len()
 }
 
-/// Returns the octets of the file with this name.
+/// The first file with this name counts.
 fn content_of<'a>(files: &'a [(String, Vec<u8>)], name: &str) -> Option<&'a [u8]>
     ensures { option_copied result ≡ content_of (named files.now) name.now }
 {
@@ -37,7 +37,7 @@ fn content_of<'a>(files: &'a [(String, Vec<u8>)], name: &str) -> Option<&'a [u8]
     None
 }
 
-/// Gives the file with this name these octets. If there is none, adds one.
+/// Gives the first file with this name these octets. If there is none, adds one after all others.
 fn put_in(
     alloc: Global,
     files: &mut Vec<(String, Vec<u8>)>,
@@ -59,8 +59,8 @@ fn put_in(
     Ok(())
 }
 
-/// Files in memory. A call fails, and leaves all as it was, if its number is listed, or if it is a `put` and memory runs out. A `length` or `read_at`
-/// of a name that is not there answers `Absent`, also if its number is listed.
+/// Files in memory. A call fails, and changes nothing but its counts, if its number is listed, or if it is a `put` and memory runs out. A `length` or
+/// `read_at` of a name that is not there answers `Absent`, also if its number is listed.
 #[derive(Debug, Drop)]
 pub struct MemFiles {
     files: Vec<(String, Vec<u8>)>,
@@ -87,7 +87,7 @@ impl MemFiles {
         }
     }
 
-    /// Returns the octets of the file with this name. It does not count as a call.
+    /// Returns the octets of the file with this name. `None` if there is none. It does not count as a call.
     pub fn content(&self, name: &str) -> Option<&[u8]>
         ensures { option_copied result ≡ content_of self.now.files name.now }
     {

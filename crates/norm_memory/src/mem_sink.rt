@@ -11,14 +11,14 @@ use norm_base::{Failed, Sink};
 use std::alloc::{AllocError, Global};
 use std::marker::Model;
 
-/// Octets in memory. A call fails, and leaves all as it was, if its number is listed or if memory runs out.
+/// Octets in memory. A call fails, and changes nothing but its counts, if its number is listed or if memory runs out.
 // The ends never fall, and the last one is the end of the octets, so that the pieces in their order are all octets.
 #[derive(Debug, Drop)]
 pub struct MemSink {
     octets: Vec<u8>,
-    /// How many octets there were at the start.
+    /// How many octets the sink had before the first write.
     before: usize,
-    /// The offset at which each piece ends.
+    /// The offset at which each piece that was written ends.
     stops: Vec<usize>,
     calls: CallCount,
 }
@@ -35,7 +35,7 @@ impl Model for MemSink {
 }
 
 impl MemSink {
-    /// Returns a sink that has these octets already, as one piece. Its calls with these numbers, from 1, fail.
+    /// Returns a sink that has these octets already, as one piece if there are any. Its calls with these numbers, from 1, fail.
     pub fn of(bytes: Vec<u8>, failing: Vec<u64>) -> MemSink
         ensures pieces { result.pieces ≡ front_piece (length bytes.items) bytes.items }
         ensures calls { result.calls ≡ record { failing = failing.items; made = 0; faults = 0 } }
@@ -49,7 +49,7 @@ impl MemSink {
         }
     }
 
-    /// Returns the octets of all pieces.
+    /// Returns what the sink had at first, and then all that was written. It does not count as a call.
     pub fn bytes(&self) -> &[u8]
         ensures { result.now ≡ concat self.now.pieces }
     {

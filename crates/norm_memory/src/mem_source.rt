@@ -10,7 +10,7 @@ use crate::calls::CallCount;
 use norm_base::{Failed, Source};
 use std::marker::Model;
 
-/// Octets in memory. A call fails, and leaves all as it was, if its number is listed.
+/// Octets in memory. A call fails, and changes nothing but its counts, if its number is listed.
 #[derive(Debug, Drop)]
 pub struct MemSource {
     octets: Vec<u8>,

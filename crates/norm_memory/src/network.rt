@@ -28,7 +28,6 @@ fn session_members(alloc: Global, profile: &Profile) -> Result<Vec<NodeId>, Allo
     Ok(members)
 }
 
-/// Adds a copy this many times.
 fn push_copies(
     copies: &mut Vec<WaitingCopy>,
     copy: &WaitingCopy,
@@ -42,7 +41,7 @@ fn push_copies(
     Ok(())
 }
 
-/// Returns the copies of the offer at this index. `plan` says what becomes of it.
+/// Returns the copies of the offer at this index, in the order of `plan`. A lost one has none.
 fn planned_copies(
     alloc: Global,
     place: usize,
@@ -65,7 +64,7 @@ fn planned_copies(
 
 /// The members of a session, their datagrams, the answers that were given, each as its member and the index of its offer, and the copies that wait. A
 /// network that has one decides what becomes of an offer, and then calls [`offer`](MemNetwork::offer).
-// An answer is a member and the place of its offer, so the octets of all offers stand once.
+// An answer is a member and the index of its offer, so the octets of all offers stand once.
 #[derive(Debug, Drop)]
 pub(crate) struct MemNetwork {
     alloc: Global,
@@ -94,7 +93,7 @@ impl Model for MemNetwork {
 }
 
 impl MemNetwork {
-    /// Returns a network without a start, and without a member.
+    /// Returns a network without a start, and without a member. It takes no memory.
     pub(crate) fn new(alloc: Global) -> MemNetwork
         ensures { result ≡ unstarted }
     {
@@ -108,7 +107,7 @@ impl MemNetwork {
         }
     }
 
-    /// Returns the members of the session in their order.
+    /// Returns the members of the session, the sender first. None before the first start.
     pub(crate) fn members(&self) -> &[NodeId]
         ensures { result.now ≡ self.now.members }
     {
@@ -119,7 +118,7 @@ impl MemNetwork {
         self.alloc
     }
 
-    /// Starts a session of these members.
+    /// Starts a session, and drops the offers, answers and copies of the one before. `local` is only recorded: all members are here.
     pub(crate) fn start(&mut self, profile: &Profile, local: Local) -> Result<(), AllocError>
         ensures ok { OnOk result (self.new ≡ started self.old profile.now local) }
         ensures err { OnErr result (self.new ≡ self.old) }
@@ -154,7 +153,7 @@ impl MemNetwork {
         Ok(())
     }
 
-    /// Returns the copy that is taken next, if it is ready.
+    /// Returns the copy that is taken next. `None` if none waits, or if further offers have to come first.
     fn ready_copy(&self) -> Option<WaitingCopy>
         ensures { result ≡ ready_copy (length self.now.offered) self.now.waiting }
     {
@@ -165,7 +164,7 @@ impl MemNetwork {
         None
     }
 
-    /// Takes the next copy, if it is ready, and returns the member that it is for.
+    /// Takes the next copy, and returns the member that it is for. `None` if none is ready. Each answer is recorded, so `None` takes memory too.
     pub(crate) fn take(&mut self, into: &mut Datagram) -> Result<Option<NodeId>, AllocError>
         ensures answer { IfOk result (λ node. answer_of node into.new ≡ next_answer self.old) }
         ensures none { IfOk result (λ node. IfNone node (into.new ≡ [])) }
@@ -185,7 +184,7 @@ impl MemNetwork {
         Ok(Some(copy.to))
     }
 
-    /// Returns the datagram at this index, from 0, of those offered since the last start, and who offered it.
+    /// Returns the datagram at this index, from 0, of those offered since the last start, and who offered it. `None` if there are not so many.
     pub(crate) fn offered(&self, place: usize) -> Option<(NodeId, &[u8])>
         ensures { option_map (λ x. (x.0, x.1.now)) result ≡ first_of (drop place self.now.offered) }
     {

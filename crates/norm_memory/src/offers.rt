@@ -7,7 +7,7 @@ use norm_base::NodeId;
 use std::alloc::{AllocError, Global};
 use std::marker::Model;
 
-/// Who offered a datagram, and the offsets of its octets.
+/// Who offered a datagram, and where it begins and ends in the octets of all.
 #[derive(Clone, Copy, Debug)]
 struct Offer {
     from: NodeId,
@@ -36,7 +36,7 @@ impl Model for Offers {
 }
 
 impl Offers {
-    /// Returns no datagrams.
+    /// Returns no datagrams. It takes no memory.
     pub(crate) fn new(alloc: Global) -> Offers
         ensures { result ≡ [] }
     {
@@ -46,7 +46,6 @@ impl Offers {
         }
     }
 
-    /// Returns how many there are.
     pub(crate) fn len(&self) -> usize
         ensures len { result ≡ length self.now }
         ensures limit { result < 2 ^ 63 }
@@ -54,7 +53,6 @@ impl Offers {
         self.offers.len()
     }
 
-    /// Returns who offered the datagram at this index.
     pub(crate) fn from(&self, place: usize) -> NodeId
         requires { place < length self.now }
         ensures { result ≡ (offer_at self.now place).0 }
@@ -62,7 +60,7 @@ impl Offers {
         self.offers[place].from
     }
 
-    /// Returns the datagram at this index.
+    /// It takes constant time, and no memory.
     pub(crate) fn bytes(&self, place: usize) -> &[u8]
         requires { place < length self.now }
         ensures octets { result.now ≡ (offer_at self.now place).1 }
@@ -72,7 +70,7 @@ impl Offers {
         &self.octets[offer.start..offer.stop]
     }
 
-    /// Adds a datagram, after all others.
+    /// Adds a datagram after all others, and copies its octets.
     pub(crate) fn push(&mut self, from: NodeId, bytes: &[u8]) -> Result<(), AllocError>
         requires { length bytes.now ≤ 1500 }
         ensures ok { OnOk result (self.new ≡ self.old ++ (from, bytes.now) ∷ []) }
@@ -87,7 +85,7 @@ impl Offers {
         Ok(())
     }
 
-    /// Removes all.
+    /// Removes all, and keeps their memory for the next.
     pub(crate) fn clear(&mut self)
         ensures { self.new ≡ [] }
     {

@@ -30,7 +30,7 @@ impl Model for Waiting {
 }
 
 impl Waiting {
-    /// Returns no copies.
+    /// Returns no copies, and room for none. It takes no memory.
     pub(crate) fn new(alloc: Global) -> Waiting
         ensures { result.copies ≡ [] }
     {
@@ -39,7 +39,7 @@ impl Waiting {
         }
     }
 
-    /// Returns the copy that is taken next.
+    /// Returns the copy that is taken next, which may not be ready yet. `None` if none waits.
     pub(crate) fn first(&self) -> Option<WaitingCopy>
         ensures { result ≡ first_of self.now.copies }
     {
@@ -54,7 +54,7 @@ impl Waiting {
         self.heap.pop()
     }
 
-    /// Makes room for this many more copies.
+    /// Makes room for this many more copies, so that [`put`](Waiting::put) cannot fail.
     pub(crate) fn reserve(&mut self, additional: usize) -> Result<(), AllocError>
         ensures same { self.new.copies ≡ self.old.copies }
         ensures room { OnOk result (additional ≤ self.new.room) }
@@ -72,7 +72,6 @@ impl Waiting {
         self.heap.append(&mut fresh).unwrap();
     }
 
-    /// Removes all copies.
     pub(crate) fn clear(&mut self)
         ensures { self.new.copies ≡ [] }
     {

@@ -6,7 +6,8 @@ ghost use Rattle.norm_record.specs.Events.{rare_event};
 
 use crate::entry::Rare;
 
-/// How many commands were refused for good, and how many watermarks expired.
+/// How many commands were refused for good, and how many watermarks expired. `Journal` counts them as they come, so that nobody has to go through its
+/// events.
 #[derive(Clone, Copy)]
 pub(crate) struct Counts {
     pub(crate) refused: u64,

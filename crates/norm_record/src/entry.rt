@@ -14,23 +14,20 @@ use norm_send_rules::{Job, News, Outcome, Receipt, SendFault};
 // An entry is small, because a session has many times more events than different datagrams.
 #[derive(Clone, Copy)]
 pub(crate) enum Entry {
-    /// The turn with this index.
     Turn { at: u32 },
     Tick { node: NodeId, sent: Sent },
-    /// The offer with this index.
     Offer { from: NodeId, at: u32 },
     /// A take of the offer with this index.
     Took { to: NodeId, at: u32 },
     /// A take of octets that were no latest offer, by its index among such takes.
     Apart { to: NodeId, at: u32 },
     Empty,
-    /// The hand-up with this index.
+    /// `at` may be that of other nodes' hand-ups too, since equal ones are kept once.
     Up { node: NodeId, at: u32 },
-    /// The rare event with this index.
     Rare { at: u32 },
 }
 
-/// A turn and its moment.
+/// A turn. [`Entry::Turn`] has only its index, to stay small.
 #[derive(Clone, Copy)]
 pub(crate) struct Turn {
     pub(crate) t: u32,
@@ -44,7 +41,7 @@ pub(crate) struct Hand {
     pub(crate) at: u32,
 }
 
-/// An event that is kept whole.
+/// An event that is kept whole. [`Entry::Rare`] has its index.
 #[derive(Drop)]
 pub(crate) enum Rare {
     Start,
@@ -67,7 +64,7 @@ pub(crate) enum Rare {
 }
 
 impl Rare {
-    /// Returns the event, borrowed.
+    /// Returns the event. It takes no memory: the result borrows from this.
     pub(crate) fn seen(&self) -> Seen<'_>
         ensures { told_of result ≡ rare_event self.now }
     {
@@ -91,7 +88,7 @@ impl Rare {
         }
     }
 
-    /// Whether this is the refusal of a command that does not have to wait.
+    /// Whether a command was refused for good. Not if it has to wait: it is then offered again.
     pub(crate) fn is_refused(&self) -> bool
         ensures { result ≡ is_refused (rare_event self.now) }
     {
@@ -105,7 +102,6 @@ impl Rare {
         }
     }
 
-    /// Whether a watermark expired.
     pub(crate) fn is_expired(&self) -> bool
         ensures { result ≡ is_expired (rare_event self.now) }
     {

@@ -86,7 +86,6 @@ impl Journal {
         }
     }
 
-    /// How many events there are.
     pub fn len(&self) -> usize
         ensures { result ≡ length self.now }
     {
@@ -113,7 +112,7 @@ impl Journal {
     }
 
     /// Returns hand-up `i` of all nodes, counted from 0 in the order of the events, with its node. `None` if there are no more.
-    // Only tests call this, `refused` and `expired` so far. They stay for programs that ask what became of a session.
+    // Only tests call this, `refused` and `expired`. They stay for programs that ask what became of a session.
     pub fn up(&self, i: u64) -> Option<(NodeId, &Up)>
         ensures { option_map (λ hand. (hand.0, hand.1.now)) result ≡ slice_get (handed_up self.now) i }
     {
@@ -127,7 +126,7 @@ impl Journal {
         self.counts.refused
     }
 
-    /// How many watermarks expired.
+    /// How many watermarks the sender reported as expired.
     pub fn expired(&self) -> u64
         ensures { result ≡ count_by is_expired self.now }
     {
@@ -150,14 +149,14 @@ impl Journal {
         )
     }
 
-    /// Adds that the network was started.
+    /// Adds that the network was started. The judge of `norm_journal` accepts it only as the first event.
     pub fn push_start(&mut self) -> Result<(), Memory>
         ensures { Adds self.old self.new result event.Start }
     {
         self.push_rare(Rare::Start)
     }
 
-    /// Adds that a turn began, at its moment.
+    /// Adds that turn `t` began. `now` is the moment that the clock gave for it.
     pub fn push_turn(&mut self, t: u32, now: Moment) -> Result<(), Memory>
         ensures { Adds self.old self.new result (event.Turn t now) }
     {
@@ -171,7 +170,8 @@ impl Journal {
         Ok(())
     }
 
-    /// Adds that a command was pulled from its producer.
+    /// Adds that a command was pulled from its producer. Its offers to the sender come as [`push_job`](Journal::push_job) or
+    /// [`push_length`](Journal::push_length).
     pub fn push_pull(&mut self, by: Origin) -> Result<(), Memory>
         ensures { Adds self.old self.new result (event.Pull by) }
     {
@@ -190,7 +190,7 @@ impl Journal {
         self.push_rare(Rare::Job { by, job, gave })
     }
 
-    /// Adds that the sender refused a file of `len` octets.
+    /// Adds that the sender refused a file of `len` octets, for good or for now. Its octets were not read.
     pub fn push_length(
         &mut self,
         by: Origin,
@@ -208,7 +208,7 @@ impl Journal {
         })
     }
 
-    /// Adds a node's tick, and whether it gave a datagram.
+    /// Adds a node's tick. Its datagram, if it made one, is added by [`push_offer`](Journal::push_offer).
     pub fn push_tick(&mut self, node: NodeId, sent: Sent) -> Result<(), Memory>
         ensures { Adds self.old self.new result (event.Tick node sent) }
     {
@@ -271,14 +271,14 @@ impl Journal {
         Ok(())
     }
 
-    /// Adds a change that the sender reported.
+    /// Adds a change that the sender reported. [`expired`](Journal::expired) counts it if it is an expired watermark.
     pub fn push_news(&mut self, news: News) -> Result<(), Memory>
         ensures { Adds self.old self.new result (event.News news) }
     {
         self.push_rare(Rare::News(news))
     }
 
-    /// Adds that the run ended with its summary.
+    /// Adds that the run ended with its summary, which is the last event.
     pub fn push_end(&mut self) -> Result<(), Memory>
         ensures { Adds self.old self.new result event.End }
     {
@@ -287,7 +287,7 @@ impl Journal {
 }
 
 impl Journal {
-    /// Adds an event that is kept whole.
+    /// Adds an event that is kept whole, and counts it if it is a refusal for good or an expired watermark.
     fn push_rare(&mut self, rare: Rare) -> Result<(), Memory>
         ensures { Adds self.old self.new result (rare_event rare) }
     {

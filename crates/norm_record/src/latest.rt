@@ -1,4 +1,4 @@
-//! Names of what is kept. Of each name, the index of the latest item is known. The index is a hint: the item itself is compared.
+//! The name by which an offered datagram is found again. Two datagrams may share one, so whoever finds one compares its octets.
 
 ghost use Rattle.std.specs.Prelude.{◌≡◌};
 ghost use Rattle.norm_record.specs.Names.{name_of};

@@ -14,7 +14,7 @@ use crate::ups::Ups;
 use norm_base::NodeId;
 use norm_order::Up;
 
-/// Returns the event of an entry, borrowed.
+/// Returns the event of an entry. It takes no memory: the result borrows from the stores.
 // It takes the stores one by one: a proof about each kind of entry then opens none of the journal's own invariant.
 pub(crate) fn lent<'a>(
     offers: &'a Offers,
@@ -58,7 +58,7 @@ pub(crate) fn lent<'a>(
     }
 }
 
-/// Returns hand-up `i` in the order of the events, borrowed, with its node.
+/// Returns hand-up `i`, from 0, in the order of the events, with its node. `None` if there are no more. It takes no memory.
 pub(crate) fn hand_at<'a>(ups: &'a Ups, hands: &[Hand], i: u64) -> Option<(NodeId, &'a Up)>
     requires { All (IsAmong ups.now) hands.now }
     ensures { option_map (λ hand. (hand.0, hand.1.now)) result ≡ option_map (hand_of ups.now) (slice_get hands.now i) }

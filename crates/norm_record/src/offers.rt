@@ -1,4 +1,4 @@
-//! The datagrams that were offered. Each is kept once, and found again by its name.
+//! The datagrams that were offered, once for each offer. A take finds the latest offer with its name again.
 
 ghost use Rattle.std.specs.Prelude.{◌≡◌, ◌<◌, ◌++◌, ◌∷◌, [], ℕ, length, slice_get, Some, sum_by, OnOk, OnErr, IfOk, IfSome, IfNone};
 ghost use Rattle.norm_record.specs.Latest.{IsLatest};
@@ -41,14 +41,13 @@ impl Offers {
         }
     }
 
-    /// How many octets there are in all.
+    /// How many octets all offers have. It takes constant time.
     pub(crate) fn octets(&self) -> usize
         ensures { result ≡ sum_by length self.now }
     {
         self.row.octets()
     }
 
-    /// Returns the offer with this index, borrowed.
     pub(crate) fn offer(&self, at: u32) -> &[u8]
         requires { at < length self.now }
         ensures { slice_get self.now at ≡ Some result.now }
@@ -56,7 +55,7 @@ impl Offers {
         self.row.piece(at as usize)
     }
 
-    /// Returns the index of these octets if they are the latest offer with their name.
+    /// Returns the index of these octets if they are the latest offer with their name. It compares them with this one alone.
     pub(crate) fn find(&self, octets: &[u8]) -> Option<u32>
         ensures found { IfSome result (λ at. slice_get self.now at ≡ Some octets.now) }
         ensures latest { IfNone result ((at : ℕ) → ¬ IsLatest self.now octets.now at) }

@@ -44,21 +44,19 @@ impl Row {
         }
     }
 
-    /// How many pieces there are.
     pub(crate) fn len(&self) -> usize
         ensures { result ≡ length self.now }
     {
         self.pieces.len()
     }
 
-    /// How many octets there are in all.
     pub(crate) fn octets(&self) -> usize
         ensures { result ≡ sum_by length self.now }
     {
         self.octets.len()
     }
 
-    /// Returns the piece with this index, borrowed.
+    /// It takes constant time.
     pub(crate) fn piece(&self, at: usize) -> &[u8]
         requires { at < length self.now }
         ensures { slice_get self.now at ≡ Some result.now }
@@ -67,7 +65,7 @@ impl Row {
         self.octets.as_slice().split_at(from).1.split_at(len).0
     }
 
-    /// Keeps one more piece. If memory runs out, nothing changes.
+    /// Copies one more piece to the end. If memory runs out, nothing changes.
     pub(crate) fn keep(&mut self, octets: &[u8]) -> Result<(), Memory>
         ensures kept { OnOk result (self.new ≡ self.old ++ octets.now ∷ []) }
         ensures refused { OnErr result (self.new ≡ self.old) }

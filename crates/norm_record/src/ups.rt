@@ -1,4 +1,4 @@
-//! Hand-ups. Each is kept once, and found again by its instance, part, index and offset.
+//! Hand-ups. One that equals the latest with its instance, part, index and offset is not kept again.
 
 ghost use Rattle.std.specs.Prelude.{◌≡◌, ◌<◌, ◌++◌, ◌∷◌, [], ℕ, length, slice_get, Some, OnOk, OnErr, IfOk, IfSome, IfNone};
 ghost use Rattle.std.specs.Bool.{Decides};
@@ -10,7 +10,7 @@ use std::alloc::Global;
 use std::collections::HashMap;
 use std::marker::Model;
 
-/// What is handed up in an instance.
+/// What is handed up in an instance, without the node: several may hand up the same.
 #[derive(Drop)]
 pub(crate) struct HandUp {
     pub(crate) instance: InstanceId,
@@ -51,7 +51,6 @@ fn part_of(up: &Up) -> (u8, u32)
     }
 }
 
-/// A hand-up's index.
 fn index_of(up: &Up) -> u32
     ensures { result ≡ index_of up.now }
 {
@@ -74,7 +73,6 @@ fn up_name(hand_up: &HandUp) -> u128
     (front * 0x1_0000_0000 + u128::from(index_of(&hand_up.up))) * 0x1_0000_0000 + u128::from(offset)
 }
 
-/// Whether two infos are the same, or neither is there.
 fn is_same_info(a: &Option<Octets>, b: &Option<Octets>) -> bool
     ensures { Decides result (a.now ≡ b.now) }
 {
@@ -85,7 +83,7 @@ fn is_same_info(a: &Option<Octets>, b: &Option<Octets>) -> bool
     }
 }
 
-/// Whether two hand-ups are the same.
+/// It compares all octets, so it costs their length if the rest is the same.
 fn is_same_up(a: &Up, b: &Up) -> bool
     ensures { Decides result (a.now ≡ b.now) }
 {
@@ -141,14 +139,13 @@ impl Ups {
         }
     }
 
-    /// How many hand-ups there are.
+    /// How many are kept. One that several receivers share counts once.
     pub(crate) fn len(&self) -> usize
         ensures { result ≡ length self.now }
     {
         self.kept.len()
     }
 
-    /// Returns the hand-up with this index, borrowed.
     pub(crate) fn hand_up(&self, at: u32) -> &HandUp
         requires { at < length self.now }
         ensures { slice_get self.now at ≡ Some result.now }
@@ -156,7 +153,7 @@ impl Ups {
         &self.kept[at as usize]
     }
 
-    /// Returns the index of this hand-up if it is the latest with its name.
+    /// Returns the index of this hand-up if it is the latest with its name. It compares it with this one alone.
     pub(crate) fn find(&self, hand_up: &HandUp) -> Option<u32>
         ensures found { IfSome result (λ at. slice_get self.now at ≡ Some hand_up.now) }
         ensures latest { IfNone result ((at : ℕ) → ¬ IsLatestUp self.now hand_up.now at) }
