@@ -7,14 +7,14 @@ use norm_send_rules::{Job, News, Receipt, SendFault};
 /// What happened in a session, with what it gave.
 #[derive(Debug, Drop)]
 pub enum Event {
-    /// The network was started.
+    /// The network was started. Always the first event.
     Start,
-    /// A turn began, at its moment.
+    /// A turn began. `now` is `t` times the profile's `step`, or what the clock gave if `step` is 0. It never falls.
     Turn {
         t: u32,
         now: Moment,
     },
-    /// A command was pulled from its producer.
+    /// A command was pulled from its producer. It comes only if no earlier one waits.
     Pull {
         by: Origin,
     },
@@ -34,12 +34,12 @@ pub enum Event {
         len: u64,
         fault: SendFault,
     },
-    /// A node ticked.
+    /// A node ticked. If it made a datagram, [`Offer`](Event::Offer) follows.
     Tick {
         node: NodeId,
         sent: Sent,
     },
-    /// A node's datagram was offered to the network.
+    /// The datagram of the last tick was offered to the network.
     Offer {
         from: NodeId,
         bytes: Octets,
@@ -53,13 +53,13 @@ pub enum Event {
     },
     /// The network had no datagram ready.
     Empty,
-    /// A receiver handed something up.
+    /// A receiver handed something up. `instance` is the one in which the sender sent it.
     Up {
         node: NodeId,
         instance: InstanceId,
         up: Up,
     },
-    /// The sender reported a change.
+    /// The sender reported a change: a receiver is past a position, or a watermark ended.
     News(News),
     /// The run ended with its summary.
     // The summary is an event, so that every printed line of a journal is that of one. A file that is not there is no event: the journal stops

@@ -45,15 +45,15 @@ pub fn moves_the_world()
     ensures { MovesTheWorld }
 {}
 
-/// If the takes of a journal are honest, its events are an honest run of the nodes' world. It accepts at most as many commands as the script
-/// has.
+/// If the takes of a journal are honest, its events are an honest run of the nodes' world. It accepts at most as many commands as the script has. Each
+/// command of the script must have a name of its own.
 // Proof: a predicate on whatever the judge answers, with lemmas for None, a value, a test and a step.
 #[tactic(auto, using(crate::proofs::LawfulLemmas::begins_honestly))]
 pub fn begins_honestly()
     ensures { BeginsHonestly }
 {}
 
-/// If the takes of a session are honest, the nodes have a lawful run: nothing comes too late.
+/// If the takes of a session are honest, the nodes have a lawful run: nothing comes too late. The script must be one that can be run.
 #[tactic(auto, using(crate::proofs::TimeLemmas::begins_lawfully))]
 pub fn begins_lawfully()
     ensures { BeginsLawfully }
@@ -72,7 +72,7 @@ pub fn offers_are_the_worlds()
     ensures { OffersAreTheWorlds }
 {}
 
-/// What the journal says was handed up is what the nodes handed up in their world.
+/// What the journal says was handed up is what the nodes handed up in their world: for each node and instance, in the same order.
 #[tactic(auto, using(crate::proofs::HandedLemmas::says_the_hands))]
 pub fn says_the_hands()
     ensures { SaysTheHands }
@@ -90,12 +90,13 @@ pub fn takes_stay_direct()
     ensures { TakesStayDirect }
 {}
 
-/// Each event comes by the call of the outside that is due.
+/// Each event comes by the call of the outside that is due, and by none if none is.
 pub fn calls_are_due()
     ensures { CallsAreDue }
 {}
 
-/// Each command reaches the sender as one that a program can make: its octets are octets, and an instance id has 16 bits.
+/// Each command reaches the sender as one that a program can make: its octets are octets, and an instance id has 16 bits. Those of files must be octets
+/// as they are read.
 #[tactic(auto, using(crate::proofs::OctetLemmas::commands_are_events))]
 pub fn commands_are_events()
     ensures { CommandsAreEvents }
@@ -107,7 +108,7 @@ pub fn commands_are_of_objects()
     ensures { CommandsAreOfObjects }
 {}
 
-/// If a run has no ending yet, some event may come.
+/// If a run whose nodes are receivers of the profile has no ending yet, some event may come.
 #[tactic(auto, using(crate::proofs::GoingLemmas::goes_on))]
 pub fn goes_on()
     ensures { GoesOn }
@@ -143,7 +144,7 @@ pub fn journal_is_counted()
     ensures { JournalIsCounted }
 {}
 
-/// If two events may come after the same state, they are the same event or both are free.
+/// If two events may come after the same state, they are the same event or both are free: `specs/Free` lists what the outside decides.
 pub fn only_these_are_free()
     ensures { OnlyTheseAreFree }
 {}

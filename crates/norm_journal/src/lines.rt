@@ -19,7 +19,7 @@ use norm_send_rules::{
 use norm_text::{Line, kind_word};
 use std::alloc::AllocError;
 
-/// Begins the line of an accepted command: its name, the sender's instance, and the object's index.
+/// Begins the line of an accepted command, in place of the line before. The caller adds what was accepted, and the line feed.
 fn begin_enq(
     text: &mut Line,
     by: Origin,
@@ -35,7 +35,6 @@ fn begin_enq(
     Ok(())
 }
 
-/// The line of a data object or a file.
 fn object_line(
     text: &mut Line,
     by: Origin,
@@ -52,7 +51,7 @@ fn object_line(
     text.finish()
 }
 
-/// The line of an opened or closed stream.
+/// `word` is `open` or `close`.
 fn stream_line(
     text: &mut Line,
     by: Origin,
@@ -67,7 +66,7 @@ fn stream_line(
     text.finish()
 }
 
-/// The line of a write.
+/// `offset` is where the write begins in the stream, and `len` how long it is, both in octets.
 fn write_line(
     text: &mut Line,
     by: Origin,
@@ -123,7 +122,7 @@ fn mark_line(
     text.finish()
 }
 
-/// The line of a restart.
+/// `next` is the instance that the sender begins.
 fn restart_line(text: &mut Line, by: Origin, next: InstanceId) -> Result<(), AllocError>
     ensures { OnOk result (text.new ≡ line (codes "restart") (origin_words by ++ decimal next ∷ [])) }
 {
@@ -133,7 +132,6 @@ fn restart_line(text: &mut Line, by: Origin, next: InstanceId) -> Result<(), All
     text.finish()
 }
 
-/// The line of a strike.
 fn strike_line(text: &mut Line, by: Origin, node: NodeId) -> Result<(), AllocError>
     ensures { OnOk result (text.new ≡ line (codes "strike") (origin_words by ++ decimal node ∷ [])) }
 {
@@ -153,7 +151,7 @@ fn kind_of(verb: &Verb) -> Kind
     }
 }
 
-/// The quorum of a command, if it gives one.
+/// The quorum of a command. `None` if it gives none, and for any command but `mark`.
 fn quorum_of(verb: &Verb) -> Option<u32>
     ensures { result ≡ quorum_of verb.now }
 {
@@ -163,7 +161,7 @@ fn quorum_of(verb: &Verb) -> Option<u32>
     }
 }
 
-/// The line of an accepted command.
+/// The line of an accepted command. `instance` is the sender's before the command.
 // It goes by the script's line and not by the job: what an object is, and a quorum, stand there, so a command that waits keeps its line alone.
 fn receipt_line(
     text: &mut Line,
@@ -192,7 +190,7 @@ fn receipt_line(
 /// The word for a refusal's reason, and its number if it has one.
 type Reason = (&'static str, Option<u64>);
 
-/// The reason for which nothing was enqueued. `None` if the refusal has no line, as when the command has to wait.
+/// The reason for which nothing was enqueued. `None` if the refusal has no line: the command has to wait, or memory ran out.
 fn enqueue_reason(fault: &EnqueueFault) -> Option<Reason>
     ensures { option_map (λ reason. (reason.0.now, reason.1)) result ≡ enqueue_reason fault.now }
 {
@@ -211,7 +209,7 @@ fn enqueue_reason(fault: &EnqueueFault) -> Option<Reason>
     }
 }
 
-/// The reason for which a receiver was not struck.
+/// Every refusal of a strike has a reason.
 fn strike_reason(fault: &StrikeFault) -> Reason
     ensures { Some (result.0.now, result.1) ≡ reason_of (SendFault.Strike fault.now) }
 {
@@ -221,7 +219,7 @@ fn strike_reason(fault: &StrikeFault) -> Reason
     }
 }
 
-/// The reason for which a command was refused. `None` if the refusal has no line, as when the command has to wait.
+/// The reason for which a command was refused. `None` if the refusal has no line: the command has to wait, or memory ran out.
 fn reason_of(fault: &SendFault) -> Option<Reason>
     ensures { option_map (λ reason. (reason.0.now, reason.1)) result ≡ reason_of fault.now }
 {
@@ -235,7 +233,6 @@ fn reason_of(fault: &SendFault) -> Option<Reason>
     }
 }
 
-/// The line of a command that was refused for this reason.
 fn no_line(text: &mut Line, by: Origin, word: &str, number: Option<u64>) -> Result<(), AllocError>
     ensures { OnOk result (text.new ≡ no_line by (word.now, number)) }
 {
@@ -248,8 +245,8 @@ fn no_line(text: &mut Line, by: Origin, word: &str, number: Option<u64>) -> Resu
     text.finish()
 }
 
-/// Makes the line of what the sender answered to a command. `instance` is the sender's before the command. Returns false if there is no line,
-/// as when the command has to wait.
+/// Makes the line of what the sender answered to a command. `instance` is the sender's before the command. Returns false if there is no line, as when
+/// the command has to wait. Then `text` still has the line before.
 pub fn gave_line(
     text: &mut Line,
     by: Origin,
@@ -268,7 +265,7 @@ pub fn gave_line(
     }
 }
 
-/// Makes the line of a refused command. Returns false if there is no line, as when the command has to wait.
+/// Makes the line of a refused command. Returns false if there is no line, as when the command has to wait. Then `text` still has the line before.
 pub fn refusal_line(text: &mut Line, by: Origin, fault: &SendFault) -> Result<bool, AllocError>
     ensures { IfOk result (λ has. line_if has text.new ≡ option_map (no_line by) (reason_of fault.now)) }
 {
@@ -281,7 +278,7 @@ pub fn refusal_line(text: &mut Line, by: Origin, fault: &SendFault) -> Result<bo
     }
 }
 
-/// Puts a node, the instance that it is in, and an object's index.
+/// Puts what each hand-up's line begins with: a node, the instance that it is in, and an object's index.
 fn put_part(
     text: &mut Line,
     node: NodeId,
@@ -295,7 +292,7 @@ fn put_part(
     text.number(u64::from(index))
 }
 
-/// Puts the words of a data object or a file that was handed up.
+/// Puts the words of a data object or a file. The info and all octets are written as hexadecimal digits.
 fn put_object(
     text: &mut Line,
     node: NodeId,
@@ -315,7 +312,7 @@ fn put_object(
     text.contents(octets)
 }
 
-/// Puts the words of stream octets that were handed up.
+/// Puts the words of stream octets, with all of them as hexadecimal digits. `offset` is that of the first in the stream.
 fn put_bytes(
     text: &mut Line,
     node: NodeId,
@@ -348,7 +345,6 @@ fn put_word(
     text.word(word)
 }
 
-/// Puts the words of a hand-up.
 fn put_up(text: &mut Line, node: NodeId, instance: InstanceId, up: &Up) -> Result<(), AllocError>
     ensures { OnOk result (text.new ≡ with_words text.old (up_words node instance up.now)) }
 {
@@ -387,7 +383,7 @@ fn contents_of(up: &Up) -> usize {
     }
 }
 
-/// Makes the line of a hand-up of a node that is in this instance.
+/// Makes the line of a hand-up of a node that is in this instance. It has all octets, at two digits each.
 pub fn up_line(
     text: &mut Line,
     node: NodeId,
@@ -403,7 +399,7 @@ pub fn up_line(
 
 /// Makes the line of a hand-up for a node that hears several senders: `of`, the sender, and the words of [`up_line`]. `sender` sent what is
 /// handed up.
-// Only tests call it so far. It stays for programs that hear several senders.
+// Only tests call it. It stays for programs that hear several senders.
 pub fn of_line(
     text: &mut Line,
     sender: NodeId,
@@ -420,7 +416,7 @@ pub fn of_line(
     text.finish()
 }
 
-/// The line of a receiver that is past a position.
+/// `at` is the position up to which this receiver is listed.
 fn past_line(
     text: &mut Line,
     instance: InstanceId,
@@ -436,7 +432,7 @@ fn past_line(
     text.finish()
 }
 
-/// The line of a watermark that was satisfied or cut.
+/// `word` is `satisfied` or `cut`.
 fn ended_line(text: &mut Line, mark: u32, word: &[u8]) -> Result<(), AllocError>
     ensures { OnOk result (text.new ≡ line (codes "done") (decimal mark ∷ word.now ∷ [])) }
 {
@@ -446,14 +442,12 @@ fn ended_line(text: &mut Line, mark: u32, word: &[u8]) -> Result<(), AllocError>
     text.finish()
 }
 
-/// Puts a node's id.
 fn put_node(text: &mut Line, node: NodeId) -> Result<(), AllocError>
     ensures { OnOk result (text.new ≡ with_word text.old (decimal node)) }
 {
     text.number(u64::from(node.number()))
 }
 
-/// Puts the ids of nodes.
 fn put_nodes(text: &mut Line, nodes: &[NodeId]) -> Result<(), AllocError>
     ensures { OnOk result (text.new ≡ with_words text.old (node_words nodes.now)) }
 {
@@ -474,8 +468,8 @@ fn expired_line(text: &mut Line, mark: u32, left: &[NodeId]) -> Result<(), Alloc
     text.finish()
 }
 
-/// Makes the line of a change that the sender reported in this instance. `left` are the members that did not confirm a watermark. Returns
-/// false if the watermark is still open. Then it has no line.
+/// Makes the line of a change that the sender reported in this instance. `left` are the members that did not confirm a watermark, and are written only
+/// if it expired. Returns false if the watermark is still open. Then `text` still has the line before.
 pub fn news_line(
     text: &mut Line,
     instance: InstanceId,
@@ -493,7 +487,7 @@ pub fn news_line(
     }
 }
 
-/// The line of a watermark's outcome. False if it is still open.
+/// Returns false, and leaves `text` as it is, if the watermark is still open.
 fn done_line(
     text: &mut Line,
     mark: u32,

@@ -11,7 +11,6 @@ use norm_send_rules::{News, Outcome, Receipt, SendFault};
 use norm_text::Line;
 use std::alloc::AllocError;
 
-/// Whether `count + more` fits into 64 bits.
 // Asked before each sum, because the counts are exact: one that went round would be a false summary.
 fn fits(count: u64, more: u64) -> bool
     ensures { Decides result (count + more < 2 ^ 64) }
@@ -39,7 +38,6 @@ pub struct Totals {
 }
 
 impl Totals {
-    /// All counts are 0.
     pub fn new() -> Totals
         ensures { result ≡ nothing_counted }
     {
@@ -69,7 +67,8 @@ impl Totals {
         } = *self;
     }
 
-    /// Whether the counts still fit into 64 bits after [`count_gave`](Totals::count_gave).
+    /// Whether the counts still fit into 64 bits after [`count_gave`](Totals::count_gave). If not, the run ends: a summary with a false count would be
+    /// worse.
     pub fn has_room_for_gave(&self, gave: &Result<Receipt, SendFault>) -> bool
         ensures { Decides result (CountsFit (with_gave gave.now self.now)) }
     {
@@ -82,7 +81,8 @@ impl Totals {
         }
     }
 
-    /// Counts what the sender gave to a command: an accepted object or stream, and its octets.
+    /// Counts what the sender gave to a command: an accepted object or stream, and its octets. A refusal, a watermark, a restart and a strike count
+    /// nothing.
     pub fn count_gave(&mut self, gave: &Result<Receipt, SendFault>)
         requires { CountsFit (with_gave gave.now self.old) }
         ensures { self.new ≡ with_gave gave.now self.old }
@@ -154,7 +154,6 @@ impl Totals {
     }
 }
 
-/// Puts a word and its count.
 fn put_count(text: &mut Line, word: &[u8], n: u64) -> Result<(), AllocError>
     ensures { OnOk result (text.new ≡ with_words text.old (word.now ∷ decimal n ∷ [])) }
 {

@@ -156,7 +156,7 @@ impl Journal {
         self.push_rare(Rare::Start)
     }
 
-    /// Adds that turn `t` began. `now` is the moment that the clock gave for it.
+    /// Adds that turn `t` began, at this moment: `t` times the profile's `step`, or what the clock gave if `step` is 0. It never falls.
     pub fn push_turn(&mut self, t: u32, now: Moment) -> Result<(), Memory>
         ensures { Adds self.old self.new result (event.Turn t now) }
     {

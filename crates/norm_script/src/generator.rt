@@ -22,7 +22,6 @@ const ROWS: u32 = 311;
 // The longest line has 500 octets as digits and eight more. On the stack, so that writing a script takes no memory.
 type Row = ArrayVec<u8, 1024>;
 
-/// Appends octets to a line, which must have room for them.
 fn put(row: &mut Row, octets: &[u8])
     requires { length row.old.items + length octets.now ≤ 1024 }
     ensures { row.new.items ≡ row.old.items ++ octets.now }
@@ -31,7 +30,6 @@ fn put(row: &mut Row, octets: &[u8])
     row.try_extend_from_slice(octets).unwrap()
 }
 
-/// The line that sets a key to a number.
 fn number_row(key: &[u8], value: u32) -> Row
     requires { length key.now ≤ 10 }
     ensures { result.items ≡ codes "set " ++ (key.now ++ 32 ∷ decimal value) ++ 10 ∷ [] }
@@ -46,7 +44,7 @@ fn number_row(key: &[u8], value: u32) -> Row
     row
 }
 
-/// Line `k` of those that set keys, from 0.
+/// Line `k` of those that set keys, from 0. Only that of `chance` depends on `n`.
 fn setting_row(n: u32, k: u32) -> Row
     requires { k < 11 }
     ensures { result.items ≡ slice_index_or (map setting_piece (generated_settings n)) k [] }
@@ -72,7 +70,7 @@ fn setting_row(n: u32, k: u32) -> Row
     }
 }
 
-/// Appends an octet of an object, as two hexadecimal digits.
+/// The two digits are in lower case.
 fn put_octet(row: &mut Row, octet: u8)
     requires { length row.old.items ≤ 1022 }
     ensures { row.new.items ≡ row.old.items ++ encode_lower (octet ∷ []) }
@@ -117,7 +115,7 @@ fn command_row(n: u32, k: u32) -> Row
     row
 }
 
-/// Line `k` of the script, from 0.
+/// Line `k` of the script, from 0: the settings, and then the commands of one producer after the other.
 fn row_at(n: u32, k: u32) -> Row
     requires { k < 311 }
     ensures { result.items ≡ slice_index_or (generated_pieces n) k [] }
@@ -128,8 +126,8 @@ fn row_at(n: u32, k: u32) -> Row
     command_row(n, k - SETTINGS)
 }
 
-/// Writes the script of this number, one line with each write: three producers send 90 objects each to 16 receivers, over a network that loses
-/// one datagram in ten. Allocates no memory.
+/// Writes the script of this number, one line with each write: three producers send 90 objects each to 16 receivers, over a network that loses one copy
+/// of a datagram in ten. Allocates no memory.
 ///
 /// # Errors
 ///

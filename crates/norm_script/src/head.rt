@@ -18,7 +18,7 @@ use std::marker::Model;
 // Our own choice: twice as many as commands, for settings, comments and empty lines. A line more is refused with `ManyLines`.
 pub(crate) const MOST_LINES: u32 = 8192;
 
-/// The settings of a head so far, and the first line that is refused. Each line is taken in with [`take_line`](Head::take_line).
+/// The settings of the lines that were taken in, and the first of them that is refused. Each line is taken in with [`take_line`](Head::take_line).
 #[derive(Drop)]
 pub(crate) struct Head {
     settings: Vec<Setting>,
@@ -33,7 +33,7 @@ impl Model for Head {
     ghost view = { λ h. record { settings = h.settings.items; refused = h.refused } };
 }
 
-/// The setting of this key, if there is one.
+/// It walks the list, which has a key at most once.
 fn setting_of_key(settings: &[Setting], key: Key) -> Option<Setting>
     ensures { result ≡ setting_of_key key settings.now }
 {
@@ -46,7 +46,7 @@ fn setting_of_key(settings: &[Setting], key: Key) -> Option<Setting>
 }
 
 impl Head {
-    /// A head that sets no key.
+    /// It takes no memory.
     fn new(alloc: Global) -> Head
         ensures { result ≡ nothing_set }
     {
@@ -85,7 +85,7 @@ impl Head {
         }
     }
 
-    /// Takes in what line `n` means. Returns `false` if it is a command, which ends the head.
+    /// Takes in what line `n` means. Returns `false` if it is a command, which ends the head and changes nothing.
     fn take(&mut self, n: u32, meaning: Result<Meaning, Why>) -> Result<bool, Memory>
         ensures { IfOk result (λ taken. let next = head_after self.old n meaning in
             (taken ≡ is_some next) × (self.new ≡ unwrap_or next self.old)) }
@@ -121,7 +121,7 @@ impl Head {
         self.take(n, meaning)
     }
 
-    /// Returns the profile that the settings make.
+    /// Returns the profile that the settings make. A key that none sets has its default.
     ///
     /// # Errors
     ///
@@ -150,7 +150,7 @@ impl Head {
     }
 }
 
-/// The values that the settings give to their keys.
+/// Any key without a setting keeps its default.
 fn given_by(settings: &[Setting]) -> Given
     ensures { result ≡ given_by settings.now }
 {
@@ -203,7 +203,7 @@ pub(crate) struct Begun<'a> {
     pub(crate) rest: &'a [u8],
 }
 
-/// Reads a script up to its first command, or up to its end. A line beyond the most lines ends the head too.
+/// Reads a script up to its first command, or up to its end. A line beyond the most lines ends the head too. A refused line does not.
 ///
 /// # Errors
 ///

@@ -14,7 +14,7 @@ pub fn reads_scripts()
     ensures { (text : List ℕ) → IfOk (script_of text) IsScript }
 {}
 
-/// Every script can be run.
+/// Every script that can be read can be run. More can be run: scripts with longer contents and other names and quorums.
 #[tactic(auto, using(crate::proofs::RunLemmas::run_laws))]
 pub fn scripts_can_run()
     ensures { (script : Commands) → IsScript script → CanRun script }

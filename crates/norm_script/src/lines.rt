@@ -5,7 +5,7 @@ ghost use Rattle.norm_script.specs.Text.{text_lines};
 
 use crate::words::split_at_first;
 
-/// Returns the first line of a text without its line feed, and what follows it. The text must not be empty.
+/// Returns the first line of a text without its line feed, and what follows it. The last line may lack the line feed.
 // Proof: the definition goes octet by octet, and the code cuts at the first line feed. text_lines-some and text_whole join them.
 pub(crate) fn first_line(text: &[u8]) -> (&[u8], &[u8])
     requires { 1 ≤ length text.now }

@@ -54,7 +54,7 @@ fn number_for(key: Key, word: &[u8]) -> Result<u32, Why>
     }
 }
 
-/// The value of a key that a word spells, or why it spells none.
+/// The value of a key that a word spells, or why it spells none. If the key takes words, it is the index of the word.
 fn value_for(key: Key, word: &[u8]) -> Result<u32, Why>
     ensures { result ≡ value_for key word.now }
 {
@@ -64,7 +64,7 @@ fn value_for(key: Key, word: &[u8]) -> Result<u32, Why>
     key.value_of(word).ok_or(Why::NoWord { key })
 }
 
-/// What `set` and these words mean.
+/// The key is looked at before its value. `NoForm` if there is only one word after `set`.
 fn setting_of(words: &[u8]) -> Result<Meaning, Why>
     ensures { result ≡ setting_of words.now }
 {
@@ -93,7 +93,7 @@ fn bare_data(alloc: Global, word: &[u8]) -> Result<Result<Verb, Why>, Memory>
     }
 }
 
-/// The `data` command of an object with an info.
+/// The `data` command of an object with an info. A wrong info is refused with `NoContents` too.
 fn data_with_info(alloc: Global, word: &[u8], info: &[u8]) -> Result<Result<Verb, Why>, Memory>
     ensures { IfOk result (λ verb. verb ≡ data_of (Some (word.now, info.now)) word.now) }
 {
@@ -110,7 +110,7 @@ fn data_with_info(alloc: Global, word: &[u8], info: &[u8]) -> Result<Result<Verb
     }
 }
 
-/// What `data` and these words mean.
+/// `words` are the contents, or the contents, a space and the info.
 fn data_of(alloc: Global, words: &[u8]) -> Result<Result<Verb, Why>, Memory>
     ensures { IfOk result (λ verb. verb ≡ data_of (split_at_first 32 words.now) words.now) }
 {
@@ -120,7 +120,6 @@ fn data_of(alloc: Global, words: &[u8]) -> Result<Result<Verb, Why>, Memory>
     }
 }
 
-/// What `file` and this word mean.
 fn file_of(alloc: Global, word: &[u8]) -> Result<Result<Verb, Why>, Memory>
     ensures { IfOk result (λ verb. verb ≡ file_of word.now) }
 {
@@ -130,7 +129,6 @@ fn file_of(alloc: Global, word: &[u8]) -> Result<Result<Verb, Why>, Memory>
     }
 }
 
-/// What `write` and this word mean.
 fn write_of(alloc: Global, word: &[u8]) -> Result<Result<Verb, Why>, Memory>
     ensures { IfOk result (λ verb. verb ≡ write_of word.now) }
 {
@@ -140,7 +138,7 @@ fn write_of(alloc: Global, word: &[u8]) -> Result<Result<Verb, Why>, Memory>
     }
 }
 
-/// What `restart` and this word mean.
+/// `NoInstance` if the word is no number of 16 bits. An instance that the sender had before is for the sender to refuse.
 fn restart_of(word: &[u8]) -> Result<Verb, Why>
     ensures { result ≡ restart_of word.now }
 {
@@ -152,7 +150,7 @@ fn restart_of(word: &[u8]) -> Result<Verb, Why>
     }
 }
 
-/// What `mark` and this word mean.
+/// A `mark` with a quorum. It may be more than the profile has receivers: the sender refuses it then.
 fn mark_of(word: &[u8]) -> Result<Verb, Why>
     ensures { result ≡ mark_of word.now }
 {
@@ -164,7 +162,7 @@ fn mark_of(word: &[u8]) -> Result<Verb, Why>
     }
 }
 
-/// What `strike` and this word mean.
+/// Whether the node is a receiver is for the sender to say.
 fn strike_of(word: &[u8]) -> Result<Verb, Why>
     ensures { result ≡ strike_of word.now }
 {
@@ -177,7 +175,7 @@ fn strike_of(word: &[u8]) -> Result<Verb, Why>
     }
 }
 
-/// What a verb with words after it means.
+/// What a verb with words after it means. `NoVerb` if it takes none, or does not exist.
 fn verb_with(alloc: Global, name: &[u8], words: &[u8]) -> Result<Result<Verb, Why>, Memory>
     ensures { IfOk result (λ verb. verb ≡ verb_with name.now words.now) }
 {
@@ -218,7 +216,7 @@ fn verb_alone(word: &[u8]) -> Option<Verb>
     None
 }
 
-/// What a verb and its words mean.
+/// `mark` may stand alone or have a word, so verbs without words are tried first.
 fn verb_of(alloc: Global, words: &[u8]) -> Result<Result<Verb, Why>, Memory>
     ensures { IfOk result (λ verb. verb ≡ verb_of words.now) }
 {
@@ -231,7 +229,7 @@ fn verb_of(alloc: Global, words: &[u8]) -> Result<Result<Verb, Why>, Memory>
     }
 }
 
-/// What a producer's number and the words after it mean.
+/// `NoForm` if `first` is no number of a producer. Any from 1 may be: the reader knows how many producers there are.
 fn command_of(alloc: Global, first: &[u8], words: &[u8]) -> Result<Result<Meaning, Why>, Memory>
     ensures { IfOk result (λ meaning. meaning ≡ command_of first.now words.now) }
 {
@@ -244,7 +242,7 @@ fn command_of(alloc: Global, first: &[u8], words: &[u8]) -> Result<Result<Meanin
     }
 }
 
-/// What a line's words mean.
+/// `NoForm` if there is only one word.
 fn meaning_of_words(alloc: Global, line: &[u8]) -> Result<Result<Meaning, Why>, Memory>
     ensures { IfOk result (λ meaning. meaning ≡ meaning_of_words line.now) }
 {
@@ -257,14 +255,14 @@ fn meaning_of_words(alloc: Global, line: &[u8]) -> Result<Result<Meaning, Why>, 
     command_of(alloc, first, words)
 }
 
-/// Whether a line is empty or a comment.
+/// A comment begins with `#`.
 fn is_passed_over(line: &[u8]) -> bool
     ensures { result ≡ is_passed_over line.now }
 {
     line.is_empty() || line[0] == b'#'
 }
 
-/// Returns what a line means, or why it has no meaning.
+/// Returns what a line means by itself, or why it has no meaning. If an editor may be the cause, what it did is the reason.
 ///
 /// # Errors
 ///

@@ -20,14 +20,14 @@ use std::alloc::Global;
 // means another object.
 const MOST_COMMANDS: usize = 4096;
 
-/// How many of these commands are this producer's.
+/// It walks the whole list.
 fn count_of(lines: &[Line], producer: u32) -> usize
     ensures { result ≡ count_by (λ l. l.producer == producer) lines.now }
 {
     lines.iter().filter(|l| l.producer == producer).count()
 }
 
-/// A producer's next command, with its number.
+/// A producer's next command. It counts the commands of this producer in `before`, so it walks them all.
 fn next_line(before: &[Line], producer: u32, verb: Verb) -> Line
     requires { length before.now ≤ most_commands }
     ensures { result ≡ next_line before.now producer verb }
@@ -39,7 +39,7 @@ fn next_line(before: &[Line], producer: u32, verb: Verb) -> Line
     }
 }
 
-/// Why a command after `before` others is refused, if it is.
+/// Why a command after `before` others is refused although it has a meaning by itself. `None` if it is not.
 fn command_refused(profile: &Profile, before: usize, producer: u32) -> Option<Why>
     ensures { result ≡ command_refused profile.now before producer }
 {
@@ -75,7 +75,7 @@ fn add(
     }
 }
 
-/// Takes in what a line means. Returns why the line is refused, if it is.
+/// Takes in what a line means. Returns why the line is refused, if it is: a setting always is, since the head is over.
 fn take_in(
     profile: &Profile,
     lines: &mut Vec<Line>,
@@ -90,7 +90,7 @@ fn take_in(
     }
 }
 
-/// Takes in line `n`. Returns why it is refused, if it is.
+/// Takes in line `n`. Returns why it is refused, if it is. Beyond [`MOST_LINES`] it is, unread.
 fn take_line(
     alloc: Global,
     profile: &Profile,
@@ -109,7 +109,7 @@ fn take_line(
     }
 }
 
-/// Reads commands. The text begins with line `n` of the script.
+/// Reads commands, up to the first line that is refused. The text begins with line `n` of the script.
 fn read_from(
     alloc: Global,
     profile: Profile,
@@ -154,7 +154,7 @@ pub fn read(alloc: Global, text: &[u8]) -> Result<Result<Script, Refusal>, Memor
 /// # Errors
 ///
 /// `Line` with the number of the first line without meaning, or `Memory` if memory runs out.
-// Only tests call this and `read_commands` so far. They stay for programs that answer with the line alone.
+// Only tests call this and `read_commands`. They stay for programs that answer with the line alone.
 pub fn read_script(alloc: Global, text: &[u8]) -> Result<Script, ScriptFault>
     ensures { MatchResult result (λ script. script_of text.now ≡ Ok script) (IsRefused (script_of text.now)) }
 {

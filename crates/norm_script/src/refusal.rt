@@ -10,49 +10,47 @@ pub enum Why {
     ByteOrderMark,
     /// It has an octet 0, 254 or 255, as a text in UTF-16 has.
     Utf16,
-    /// It ends with a carriage return.
     CarriageReturn,
-    /// It ends with a space.
     SpaceAtEnd,
-    /// It has two spaces in a row.
+    /// Words have one space between them.
     TwoSpaces,
-    /// It has this many octets, and is longer than a line may be.
+    /// It has this many octets, which is more than 16,500. It was not read, even if it is a comment.
     LongLine { octets: u64 },
-    /// The script has more lines than it may have. This is the first beyond them.
+    /// The script has more than 8,192 lines. This is the first beyond them.
     ManyLines,
     /// It is neither a setting nor a command.
     NoForm,
     /// It sets a key that does not exist.
     NoKey,
-    /// The key takes a number, and the value is not one.
+    /// The key takes a number, and the value is not one: decimal digits without a sign or a leading zero.
     NoNumber { key: Key },
     /// The key takes certain words, and the value is not one of them.
     NoWord { key: Key },
     /// The value is less than the key's least.
     Below { key: Key, value: u32 },
-    /// The value is more than the key's greatest.
+    /// The value is more than the key's greatest. It may have any number of digits, so it is not kept.
     Above { key: Key },
     /// The key was set before, on line `line`.
     Twice { key: Key, line: u32 },
     /// It sets a key after a command, or in a script whose profile is given.
     AfterCommand,
-    /// The settings make `max_n` less than `b`.
+    /// The settings make `max_n` less than `b`. The refused line is the last that set a key.
     MaxBelowB { max_n: u32, b: u32 },
-    /// The settings make a stream's buffer, of `blocks` * `b` * `e` octets, too long.
+    /// The settings make a stream's buffer longer than 16,777,216 octets: `blocks` * `b` * `e`. The refused line is the last that set a key.
     Buffer { blocks: u32, b: u32, e: u32 },
     /// The verb does not exist, or takes other words.
     NoVerb,
-    /// The contents are not an even number of hexadecimal digits, or too many.
+    /// The contents or the info are not an even number of hexadecimal digits, 2 to 16,384.
     NoContents,
-    /// The word is not a name of a file.
+    /// The word is not 1 to 64 ASCII letters, digits, `.`, `_` or `-`, or it begins with `.`.
     NoName,
-    /// The word is not an instance id.
+    /// The word is not a number from 0 to 65,535.
     NoInstance,
-    /// The word is not a quorum.
+    /// The word is not a number from 1 to 16.
     NoQuorum,
-    /// The word is not a node id.
+    /// The word is not a number from 1 to 4,294,967,294.
     NoNode,
-    /// The script has more commands than it may have. This is the first beyond them.
+    /// The script has more than 4,096 commands. This is the first beyond them.
     ManyCommands,
     /// The profile has `producers` producers, and this one is not among them.
     Producer { producer: u32, producers: u32 },
@@ -71,7 +69,6 @@ pub enum ScriptFault {
     /// Line `n`, from 1, is the first that has no meaning.
     #[error("line {n} has no meaning")]
     Line { n: u32 },
-    /// Memory ran out.
     #[error("out of memory")]
     Memory,
 }

@@ -10,7 +10,7 @@ pub enum Verb {
     Data { info: Option<Octets>, bytes: Octets },
     /// Sends the file of this name. The name is the object's info.
     File { name: Text },
-    /// Begins a stream.
+    /// Begins a stream. Until it is closed, the sender refuses objects.
     Open,
     /// Appends octets to the open stream.
     Write { bytes: Octets },
@@ -18,7 +18,7 @@ pub enum Verb {
     Close,
     /// Asks which receivers have everything up to here. `quorum` of them are enough, or all of them are needed if it is not given.
     Mark { quorum: Option<u32> },
-    /// Begins a new instance of the sender.
+    /// Begins a new instance of the sender. Open watermarks end as cut.
     Restart { instance: u16 },
     /// Removes a receiver from the sender's list, for good.
     Strike { node: NodeId },
@@ -32,7 +32,7 @@ pub struct Line {
     pub verb: Verb,
 }
 
-/// A session's profile, and its commands in order.
+/// A session's profile, and the commands of all producers, in the order of the text.
 #[derive(Debug, Drop)]
 pub struct Script {
     pub profile: Profile,

@@ -2,7 +2,7 @@
 
 use norm_base::Key;
 
-/// A key, its value, and the number of the line that sets it.
+/// A key that a line sets. `value` is a number in its range, or the index of its word. `line` counts from 1.
 #[derive(Clone, Copy, Debug, PartialEq, Eq)]
 pub struct Setting {
     pub key: Key,

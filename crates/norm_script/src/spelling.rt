@@ -22,7 +22,6 @@ fn is_wide(line: &[u8]) -> bool
     line.iter().any(|octet| *octet == 0 || 254 <= *octet)
 }
 
-/// Whether a line has two spaces in a row.
 fn has_two_spaces(line: &[u8]) -> bool
     ensures { result ≡ has_two_spaces false line.now }
 {
@@ -37,7 +36,6 @@ fn has_two_spaces(line: &[u8]) -> bool
     false
 }
 
-/// Whether the last octet of a line is this one.
 fn ends_with(line: &[u8], octet: u8) -> bool
     requires { 1 ≤ length line.now }
     ensures { result ≡ (last_octet line.now == octet) }
@@ -45,8 +43,8 @@ fn ends_with(line: &[u8], octet: u8) -> bool
     line[line.len() - 1] == octet
 }
 
-/// Returns what an editor did to a line: a byte order mark, UTF-16, a carriage return, a space at the end, or two spaces in a row. `None` if the
-/// line has none of these. It must not be empty.
+/// Returns what an editor did to a line: a byte order mark, UTF-16, a carriage return, a space at the end, or two spaces in a row. If it has several,
+/// the first of these. `None` if it has none.
 pub fn spelling_of(line: &[u8]) -> Option<Why>
     requires { 1 ≤ length line.now }
     ensures { result ≡ spelling_of line.now }

@@ -31,7 +31,7 @@ pub fn split_at_first(bytes: &[u8], octet: u8) -> Option<(&[u8], &[u8])>
     None
 }
 
-/// Whether all octets are decimal digits.
+/// `true` for an empty word.
 fn all_digits(word: &[u8]) -> bool
     ensures { result ≡ list_all is_digit word.now }
 {
@@ -53,7 +53,7 @@ pub(crate) fn is_number(word: &[u8]) -> bool
     1 <= word.len() && all_digits(word) && begins_well(word)
 }
 
-/// The value of decimal digits. `None` if it is above `high`.
+/// The value of decimal digits. `None` if it is above `high`. There may be any number of digits.
 pub(crate) fn value_up_to(word: &[u8], high: u32) -> Option<u64>
     ensures { result ≡ (if nat_le (value_of word.now) high then Some (value_of word.now) else None) }
 {
@@ -82,7 +82,7 @@ pub fn number_within(word: &[u8], low: u32, high: u32) -> Option<u32>
     }
 }
 
-/// The contents that a word spells: an even number of hexadecimal digits, 2 to 16,384. `None` if it is anything else.
+/// The contents that a word spells: an even number of hexadecimal digits of either case, 2 to 16,384. `None` if it is anything else.
 ///
 /// # Errors
 ///
@@ -100,21 +100,20 @@ pub(crate) fn contents_of(alloc: Global, word: &[u8]) -> Result<Option<Octets>, 
     }
 }
 
-/// Whether an octet may be part of a name.
+/// An ASCII letter or digit, `.`, `_` or `-`.
 fn is_name_octet(c: u8) -> bool
     ensures { result ≡ is_name_octet c }
 {
     c.is_ascii_alphanumeric() || c == b'.' || c == b'_' || c == b'-'
 }
 
-/// Whether every octet may be part of a name.
 fn all_name_octets(word: &[u8]) -> bool
     ensures { result ≡ list_all is_name_octet word.now }
 {
     word.iter().all(|c| is_name_octet(*c))
 }
 
-/// Whether a word is a file's name.
+/// [`name_of`] says which words are names.
 fn is_name(word: &[u8]) -> bool
     ensures { result ≡ is_name word.now }
 {
