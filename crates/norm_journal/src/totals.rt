@@ -67,8 +67,7 @@ impl Totals {
         } = *self;
     }
 
-    /// Whether the counts still fit into 64 bits after [`count_gave`](Totals::count_gave). If not, the run ends: a summary with a false count would be
-    /// worse.
+    /// Whether the counts still fit into 64 bits after [`count_gave`](Totals::count_gave). If not, the run ends as if memory ran out.
     pub fn has_room_for_gave(&self, gave: &Result<Receipt, SendFault>) -> bool
         ensures { Decides result (CountsFit (with_gave gave.now self.now)) }
     {
@@ -98,7 +97,7 @@ impl Totals {
         }
     }
 
-    /// Whether the counts still fit into 64 bits after [`count_up`](Totals::count_up).
+    /// Whether the counts still fit into 64 bits after [`count_up`](Totals::count_up). If not, the run ends as if memory ran out.
     pub fn has_room_for_up(&self, up: &Up) -> bool
         ensures { Decides result (CountsFit (with_up up.now self.now)) }
     {
@@ -122,7 +121,7 @@ impl Totals {
         }
     }
 
-    /// Whether the counts still fit into 64 bits after [`count_news`](Totals::count_news).
+    /// Whether the counts still fit into 64 bits after [`count_news`](Totals::count_news). If not, the run ends as if memory ran out.
     pub fn has_room_for_news(&self, news: &News) -> bool
         ensures { Decides result (CountsFit (with_news news.now self.now)) }
     {

@@ -13,7 +13,7 @@ pub(crate) struct Piece {
     len: usize,
 }
 
-/// Pieces of octets. Contracts see the list of them.
+/// Pieces of octets. Contracts see the list of them. A piece may be empty.
 // Each piece lies within the octets, and together they have as many: so the count of octets is that of what is kept.
 #[derive(Drop)]
 pub(crate) struct Row {

@@ -30,9 +30,8 @@ const LAST_NODE: u32 = 4_294_967_294;
 pub enum Meaning {
     /// The line is empty or a comment.
     Nothing,
-    /// The line sets a key to this value.
     Set { key: Key, value: u32 },
-    /// The line is a producer's command.
+    /// `producer` is from 1 on, and may be more than the profile has.
     Command { producer: u32, verb: Verb },
 }
 

@@ -3,10 +3,10 @@
 use norm_base::Key;
 use thiserror::Error;
 
-/// Why a line of a script has no meaning.
+/// Why a line of a script is refused: it has no meaning by itself, or not after the lines before it.
 #[derive(Clone, Copy, Debug, PartialEq, Eq)]
 pub enum Why {
-    /// It begins with the byte order mark of UTF-8.
+    /// It begins with the octets 239, 187, 191: the byte order mark of UTF-8.
     ByteOrderMark,
     /// It has an octet 0, 254 or 255, as a text in UTF-16 has.
     Utf16,
@@ -18,7 +18,7 @@ pub enum Why {
     LongLine { octets: u64 },
     /// The script has more than 8,192 lines. This is the first beyond them.
     ManyLines,
-    /// It is neither a setting nor a command.
+    /// It begins with neither `set` nor the number of a producer, or has too few words after that to say what it is.
     NoForm,
     /// It sets a key that does not exist.
     NoKey,
@@ -26,7 +26,7 @@ pub enum Why {
     NoNumber { key: Key },
     /// The key takes certain words, and the value is not one of them.
     NoWord { key: Key },
-    /// The value is less than the key's least.
+    /// The value is a number, but less than the key's least.
     Below { key: Key, value: u32 },
     /// The value is more than the key's greatest. It may have any number of digits, so it is not kept.
     Above { key: Key },
@@ -63,7 +63,7 @@ pub struct Refusal {
     pub why: Why,
 }
 
-/// Why a script was not read.
+/// Why a script was not read: without the reason that [`Refusal`] has.
 #[derive(Clone, Copy, Debug, PartialEq, Eq, Error)]
 pub enum ScriptFault {
     /// Line `n`, from 1, is the first that has no meaning.

@@ -12,9 +12,9 @@ pub enum Verb {
     File { name: Text },
     /// Begins a stream. Until it is closed, the sender refuses objects.
     Open,
-    /// Appends octets to the open stream.
+    /// Appends octets to the open stream. If none is open, the sender refuses it.
     Write { bytes: Octets },
-    /// Ends the open stream.
+    /// Ends the open stream. If none is open, the sender refuses it.
     Close,
     /// Asks which receivers have everything up to here. `quorum` of them are enough, or all of them are needed if it is not given.
     Mark { quorum: Option<u32> },

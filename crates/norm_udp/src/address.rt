@@ -93,7 +93,7 @@ fn member_from(profile: &Profile, address: &SocketAddr) -> Option<NodeId>
     }
 }
 
-/// Returns the member that sends from this address. `None` if it is no member's.
+/// Returns the member that sends from this address, with the address. `None` if it is no member's.
 pub(crate) fn heard_from(profile: &Profile, address: SocketAddr) -> Option<Located>
     ensures some { IfSome result (λ from. (from.profile ≡ profile.now) × (from.address ≡ address)) }
     ensures none { IfNone result (member_from profile.now address ≡ None) }

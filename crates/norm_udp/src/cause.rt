@@ -18,12 +18,12 @@ pub enum SocketCause {
         address: SocketAddr,
         error: io::Error,
     },
-    /// A datagram could not be sent to this address.
+    /// A datagram could not be sent to this address, for another reason than that it was lost.
     Send {
         address: SocketAddr,
         error: io::Error,
     },
-    /// A datagram could not be received at this address.
+    /// The receive failed at this address, for another reason than that nothing is there.
     Receive {
         address: SocketAddr,
         error: io::Error,

@@ -74,8 +74,9 @@ fn look_through(
 /// ends. To whom datagrams go depends on the members in this process. If all are here, each has its socket, and what one offers goes to each other. A
 /// member alone offers to the hub. The hub offers a member's datagram to each other member, and its `take` returns the member that sent one.
 ///
-/// A datagram is lost if nobody is there to receive it or a buffer is full. Any other error fails the call. A receiver alone passes over a sender
-/// whose profile is not its own. Contracts cannot rely on what was sent or received.
+/// A datagram is lost if nobody is there to receive it, or if a buffer or the lane of a thread is full. Any other error fails the call. Nobody receives
+/// a datagram of more than 1,500 octets, and the hub none of an address of no member. A receiver alone passes over an instance of its sender that does
+/// not fit its profile ([`PassesOver`]). Contracts cannot rely on what was sent or received.
 #[derive(Drop)]
 pub struct UdpFabric<R> {
     rt: R,

@@ -61,7 +61,7 @@ pub(crate) struct Lane {
     /// Whether `failures` may hold something. Each call asks, so it costs one read.
     has_failed: AtomicBool,
     rest: Parker,
-    /// Whether nothing more will be offered.
+    /// Set by [`end`](Lane::end). The thread then ends after it has done what lies here.
     over: AtomicBool,
 }
 
@@ -166,7 +166,7 @@ impl Lane {
         if !self.has_failed.load(Ordering::SeqCst) {
             return None;
         }
-        // Before the look: what the thread keeps after it is asked for again.
+        // Cleared before the look: if the thread keeps a failure after it, the next call looks again.
         self.has_failed.store(false, Ordering::SeqCst);
         self.kept(rt)
     }

@@ -18,12 +18,12 @@ pub struct Sizes {
     pub max_n: u8,
 }
 
-/// How a sender's transmission information differs from a receiver's profile.
+/// How a sender's transmission information differs from a receiver's profile. If sizes and length do, it is `Sizes`.
 #[derive(Clone, Copy, Debug)]
 pub enum Difference {
     /// Symbols or blocks have other sizes.
     Sizes { theirs: Sizes, own: Sizes },
-    /// An object has more octets than the profile allows.
+    /// An object that is no stream has more octets than the profile allows.
     Length { octets: u64, most: u32 },
 }
 

@@ -21,8 +21,8 @@ pub trait PassesOver {
 
 /// What a receiver alone passes over. If transmission information of its sender does not fit its profile, all INFO, DATA and commands of that instance
 /// are passed over. Otherwise the receiver would take no object of it, and ask for each again and again. This ends as soon as INFO or DATA of the
-/// instance fits. So a forged datagram cuts the sender off only until then. A sender that only flushes sends none: its receiver is then cut off until
-/// there is something new.
+/// instance fits. So a forged datagram cuts the sender off only until then. A sender that only flushes sends neither: its receiver stays cut off until
+/// there is something new, or a repair for another receiver.
 // In the network and not in the rules: a network may lose anything, so no clause above it changes.
 #[derive(Drop)]
 pub(crate) struct Sieve {

@@ -183,7 +183,7 @@ fn open_ways<R: Net>(
     Ok(receivers)
 }
 
-/// Opens the sockets by which a hub sends itself: one to each receiver if no thread sends for it, and none otherwise.
+/// Opens the sockets through which the node of a hub sends itself: one to each receiver if no thread sends for it, and none otherwise.
 #[tactic(auto, using(crate::proofs::WayLemmas::single))]
 fn open_own_ways<R: Net>(
     rt: &R,
