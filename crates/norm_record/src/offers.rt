@@ -61,7 +61,7 @@ impl Offers {
         ensures latest { IfNone result ((at : ℕ) → ¬ IsLatest self.now octets.now at) }
     {
         let at = *self.latest.get(&name_of(octets))?;
-        // Not taken: each kept place is one of the row. A hint may be wrong all the same, and then the octets are kept twice.
+        // Never taken: each index that is kept is one of the row. No clause says so. If it were wrong, the octets would only be kept twice.
         if at as usize >= self.row.len() {
             return None;
         }

@@ -159,6 +159,7 @@ impl Ups {
         ensures latest { IfNone result ((at : ℕ) → ¬ IsLatestUp self.now hand_up.now at) }
     {
         let at = *self.latest.get(&up_name(hand_up))?;
+        // Never taken: as in `Offers::find`, each index that is kept is one of the list.
         if at as usize >= self.kept.len() {
             return None;
         }

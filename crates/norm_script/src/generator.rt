@@ -11,7 +11,7 @@ use arrayvec::ArrayVec;
 use itoa::Buffer;
 use norm_base::{Failed, Sink};
 
-/// The lines that set keys. They come first.
+/// How many lines set keys. They come first.
 // As many as `setting_row` has arms.
 const SETTINGS: u32 = 11;
 

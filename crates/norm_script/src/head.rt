@@ -14,7 +14,7 @@ use norm_base::{Given, Key, Memory, Profile};
 use std::alloc::Global;
 use std::marker::Model;
 
-/// The most lines of a script.
+/// The most lines of a script, with empty ones and comments.
 // Our own choice: twice as many as commands, for settings, comments and empty lines. A line more is refused with `ManyLines`.
 pub(crate) const MOST_LINES: u32 = 8192;
 

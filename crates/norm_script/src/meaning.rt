@@ -12,7 +12,7 @@ use crate::words::{contents_of, is_number, name_of, number_within, split_at_firs
 use norm_base::{Key, Memory, NodeId, Octets};
 use std::alloc::Global;
 
-/// The most octets of a line.
+/// The most octets of a line without its line feed, also of a comment.
 // Our own choice: contents of 16,384 digits and the words before them. An info has to fit the same line. A longer line is refused with `LongLine`,
 // unread.
 const MOST_OCTETS: usize = 16_500;

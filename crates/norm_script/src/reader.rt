@@ -15,7 +15,7 @@ use crate::script::{Line, Script, Verb};
 use norm_base::{Memory, Profile};
 use std::alloc::Global;
 
-/// The most commands of a script. One more is refused with `ManyCommands`.
+/// The most commands of a script, of all producers together. One more is refused with `ManyCommands`.
 // Our own choice. Far below the 32,768 objects within which every id is unambiguous, so that no datagram of a session comes so late that its id
 // means another object.
 const MOST_COMMANDS: usize = 4096;

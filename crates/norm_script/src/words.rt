@@ -10,11 +10,11 @@ use hex::FromHexError;
 use norm_base::{Memory, Octets, Text};
 use std::alloc::Global;
 
-/// The most digits of contents.
+/// The most hexadecimal digits of contents, two for each octet.
 // Our own choice: 8,192 octets. Longer contents come as files.
 const MOST_DIGITS: usize = 16_384;
 
-/// The most octets of a name.
+/// The most octets of a file's name in a script.
 // Our own choice, for names that every file system takes, and that fit an info: the least `e` is 64 too.
 const MOST_NAME: usize = 64;
 

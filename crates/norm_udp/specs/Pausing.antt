@@ -8,13 +8,13 @@ use Rattle.norm_udp.specs.declared.pace.Pause.TheVariants as pause
 abbrev pub look_until : ℕ → ℕ → ℕ
 look_until gap offered = min (offered + min gap 1000) 18446744073709551615
 
--- a sleep is short where something was offered or taken in the last ten milliseconds
+-- a sleep is short where, in the last ten milliseconds, it was answered that nothing is there after something was offered or taken
 abbrev pub sleep_since : Option ℕ → ℕ → ℕ
 sleep_since None now = 1000
 sleep_since (Some busy) now = if nat_le (now - busy) 10000 then 250 else 1000
 
 -- What is done where nothing is there: a sender that offered since that was last answered looks again; whoever was busy since then answers it at once;
--- and any other sleeps, for as long as `sleep_since` says of when it was busy last. Only a sleep asks which moment it is.
+-- and any other sleeps, for as long as `sleep_since` says of `last`. Only a sleep asks which moment it is.
 abbrev pub pause_of : Pace → Pause
 pause_of p = elim p.offered [
   | Some offered ↦ pause.Look (look_until p.gap offered)

@@ -28,7 +28,7 @@ const MOST_FAILURES: usize = 1;
 // Our own choice: long enough that a waiting thread costs little, and short beside the default gap of one millisecond.
 const SLEEP: u64 = 50;
 
-/// The most sleeps of a thread before it rests until it is woken, and of a node before it gives a datagram up.
+/// The most sleeps of a thread before it rests until it is woken, and of a node before it gives up what it would post.
 // Our own choice, ten milliseconds. A thread rests after it because nothing was sent for long. A node gives up after it because it must not stand
 // still for a thread that hangs.
 const MOST_SLEEPS: u32 = 200;

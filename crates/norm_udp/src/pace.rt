@@ -3,7 +3,7 @@
 ghost use Rattle.std.specs.Prelude.{◌≡◌};
 ghost use Rattle.norm_udp.specs.Pausing.{look_until, sleep_since, pause_of, new_pace, with_offer_at, made_busy, found_empty};
 
-/// The most microseconds for which a sender looks.
+/// The most microseconds for which a sender looks after an offer, if its gap is longer.
 // Our own choice: a longer gap leaves time to sleep, and a sender that looks takes a whole processor.
 const LONGEST_LOOK: u64 = 1_000;
 

@@ -23,7 +23,7 @@ const PROCESSORS_EACH: usize = 2;
 // Our own choice: with fewer, a thread that sends may take the processor that the node would use itself.
 const LEAST_PROCESSORS: usize = 4;
 
-/// The most threads that send.
+/// The most threads that send, however many processors there are.
 // Our own choice: a hub has at most 16 receivers to share out among them.
 const MOST_THREADS: usize = 4;
 

@@ -366,7 +366,7 @@ fn send_back(
     Ok(1)
 }
 
-/// Looks at each member's socket once, from index `place` on, until one has a datagram. It stays there for the next look.
+/// Looks at each member's socket once, from index `place` on, until one has a datagram. `place` stays there for the next look.
 fn look_among(
     members: &[Member],
     place: &mut usize,
