@@ -4,7 +4,7 @@ use norm_base::{InstanceId, Moment, NodeId, Octets, Origin, Sent};
 use norm_order::Up;
 use norm_send_rules::{Job, News, Receipt, SendFault};
 
-/// What happened in a session, with what it gave.
+/// What happened in a session, with what it gave. `specs/Accepting` says which may come after which.
 #[derive(Debug, Drop)]
 pub enum Event {
     /// The network was started. Always the first event.
@@ -51,7 +51,7 @@ pub enum Event {
         to: NodeId,
         bytes: Octets,
     },
-    /// The network had no datagram ready.
+    /// A take gave no datagram. A network may answer so at any time.
     Empty,
     /// A receiver handed something up. `instance` is the one in which the sender sent it.
     Up {

@@ -32,7 +32,7 @@ impl MemClock {
         MemClock { moments, asked: 0 }
     }
 
-    /// Returns the moment that the next call of `now` gives.
+    /// Returns the moment that the next call of `now` gives. It counts no question.
     fn next_moment(&self) -> Moment
         ensures { result ≡ moment_at self.now.moments self.now.asked }
     {

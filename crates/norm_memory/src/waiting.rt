@@ -62,7 +62,7 @@ impl Waiting {
         self.heap.reserve(additional)
     }
 
-    /// Puts copies among the others, in the order in which they are taken.
+    /// Puts copies among the others, in the order in which they are taken. Call [`reserve`](Waiting::reserve) for as many first.
     pub(crate) fn put(&mut self, copies: Vec<WaitingCopy>)
         requires { length copies.items ≤ self.old.room }
         ensures { self.new.copies ≡ put_copies copies.items self.old.copies }

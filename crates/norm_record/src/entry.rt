@@ -1,4 +1,4 @@
-//! What is kept of an event.
+//! What is kept of an event: a small [`Entry`], and the rest in a list of its kind.
 
 ghost use Rattle.std.specs.Prelude.{◌≡◌};
 ghost use Rattle.norm_journal.specs.Counts.{is_expired};

@@ -244,7 +244,7 @@ impl Journal {
         Ok(())
     }
 
-    /// Adds a take that found no datagram ready.
+    /// Adds a take that gave no datagram.
     pub fn push_empty(&mut self) -> Result<(), Memory>
         ensures { Adds self.old self.new result event.Empty }
     {

@@ -64,7 +64,7 @@ pub(crate) fn sleep_since(last: Option<u64>, now: u64) -> u64
 }
 
 impl Pace {
-    /// Returns the pace of a node before anything was offered or taken.
+    /// Returns the pace of a node before anything was offered or taken. `gap` is 0 unless the node is a sender alone.
     pub(crate) fn new(gap: u64) -> Pace
         ensures { result ≡ new_pace gap }
     {
@@ -76,7 +76,7 @@ impl Pace {
         }
     }
 
-    /// Notes that a sender offered a datagram at this moment.
+    /// Notes that a sender offered a datagram at this moment. Only a node with a gap calls it: it then looks until the gap is over.
     pub(crate) fn note_offer_at(&mut self, now: u64)
         ensures { self.new ≡ with_offer_at self.old now }
     {

@@ -11,7 +11,7 @@ use crate::socket::send_to;
 use norm_base::{NodeId, Profile};
 use std::net::{SocketAddr, UdpSocket};
 
-/// To whom a thread sends what lies in its lane.
+/// To whom a thread sends what lies in its lane, until it is told another way.
 #[derive(Drop)]
 pub(crate) enum Way {
     /// Nowhere: the thread was told no way yet, or the session was closed.
