@@ -15,9 +15,9 @@ pub enum NoDatagram {
     Long,
     /// An editor spelt it so: with a byte order mark, in UTF-16, or with a carriage return or spaces that do not belong.
     Spelt { why: Why },
-    /// It has an odd number of octets.
+    /// It has an odd number of octets, digits or not.
     Odd,
-    /// It has an octet that is no hexadecimal digit.
+    /// It has an even number of octets, and one that is no hexadecimal digit.
     NoDigit,
 }
 
@@ -42,11 +42,11 @@ impl fmt::Display for NoDatagram {
 pub enum ShowFault {
     /// The line with this number, counted from 1, is no datagram.
     Line { number: u64, why: NoDatagram },
-    /// A read failed.
+    /// A read failed. The lines that had ended before were written.
     Read,
-    /// A write failed.
+    /// A write failed. The lines before were written, and perhaps a prefix of the next.
     Write,
-    /// Memory ran out.
+    /// Memory ran out. The lines before were written.
     Memory,
 }
 

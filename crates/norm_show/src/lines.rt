@@ -21,7 +21,7 @@ use norm_objmsg::{DataMsg, InfoMsg};
 use norm_text::Line;
 use std::alloc::{AllocError, Global};
 
-/// Returns the line of INFO.
+/// Returns the line of INFO (RFC 5740 section 4.2.2): its head, and its transmission information and its octets, each a dash if there is none.
 fn info_text(alloc: Global, msg: &InfoMsg<'_>) -> Result<Vec<u8>, AllocError>
     ensures { IfOk result (λ text. text.items ≡ message_line (info_of msg.now)) }
 {
@@ -32,7 +32,7 @@ fn info_text(alloc: Global, msg: &InfoMsg<'_>) -> Result<Vec<u8>, AllocError>
     line.end()
 }
 
-/// Returns the line of DATA.
+/// Returns the line of DATA (RFC 5740 section 4.2.1): its head, its symbol, its transmission information and the octets of the symbol.
 fn data_text(alloc: Global, msg: &DataMsg<'_>) -> Result<Vec<u8>, AllocError>
     ensures { IfOk result (λ text. text.items ≡ message_line (data_of msg.now)) }
 {
@@ -59,7 +59,7 @@ fn begin_command(
     Ok(line)
 }
 
-/// Returns the line of FLUSH.
+/// Returns the line of FLUSH (RFC 5740 section 4.2.3.1): its head, its position and the members that are to acknowledge it.
 fn flush_text(
     alloc: Global,
     head: &CmdHead,
@@ -75,7 +75,7 @@ fn flush_text(
     line.end()
 }
 
-/// Returns the line of SQUELCH.
+/// Returns the line of SQUELCH (RFC 5740 section 4.2.3.3): its head, its position and the transport ids of the invalid objects.
 fn squelch_text(
     alloc: Global,
     head: &CmdHead,
@@ -91,7 +91,7 @@ fn squelch_text(
     line.end()
 }
 
-/// Returns the line of REPAIR_ADV.
+/// Returns the line of REPAIR_ADV (RFC 5740 section 4.2.3.5): its head, its flags and the requests that it advertises.
 fn adv_text(
     alloc: Global,
     head: &CmdHead,
@@ -107,7 +107,7 @@ fn adv_text(
     line.end()
 }
 
-/// Returns the line of ACK_REQ.
+/// Returns the line of ACK_REQ (RFC 5740 section 4.2.3.6): its head, the type and the id of what it asks for, and the members that it asks.
 fn ackreq_text(
     alloc: Global,
     head: &CmdHead,
@@ -125,7 +125,7 @@ fn ackreq_text(
     line.end()
 }
 
-/// Returns the line of EOT.
+/// Returns the line of EOT (RFC 5740 section 4.2.3.2), which has no words but those of its head.
 fn eot_text(alloc: Global, head: &CmdHead) -> Result<Vec<u8>, AllocError>
     ensures { IfOk result (λ text. text.items ≡ line (codes "eot") (command_words head.now)) }
 {
@@ -141,7 +141,6 @@ fn opaque_text(alloc: Global, head: &CmdHead, sub_type: u8) -> Result<Vec<u8>, A
     line.end()
 }
 
-/// Returns the line of a command.
 fn command_text(alloc: Global, msg: &CommandMsg<'_>) -> Result<Vec<u8>, AllocError>
     ensures { IfOk result (λ text. text.items ≡ message_line (command_of msg.now)) }
 {
@@ -190,7 +189,7 @@ fn command_text(alloc: Global, msg: &CommandMsg<'_>) -> Result<Vec<u8>, AllocErr
     }
 }
 
-/// Returns the line of NACK.
+/// Returns the line of NACK (RFC 5740 section 4.3.1): its head and its requests.
 fn nack_text(alloc: Global, msg: &NackMsg<'_>) -> Result<Vec<u8>, AllocError>
     ensures { IfOk result (λ text. text.items ≡ message_line (nack_of msg.now)) }
 {
@@ -219,7 +218,7 @@ fn put_body(line: &mut Line, body: &AckBody<'_>) -> Result<(), AllocError>
     }
 }
 
-/// Returns the line of ACK.
+/// Returns the line of ACK (RFC 5740 section 4.3.2): its head, its type and id, and what it confirms.
 fn ack_text(alloc: Global, msg: &AckMsg<'_>) -> Result<Vec<u8>, AllocError>
     ensures { IfOk result (λ text. text.items ≡ message_line (ack_of msg.now)) }
 {
@@ -237,7 +236,7 @@ fn ack_text(alloc: Global, msg: &AckMsg<'_>) -> Result<Vec<u8>, AllocError>
     line.end()
 }
 
-/// Returns the line of REPORT.
+/// Returns the line of REPORT (RFC 5740 section 4.4.1). What else a report holds is not shown.
 fn report_text(alloc: Global, source: u32, sequence: u16) -> Result<Vec<u8>, AllocError>
     ensures { IfOk result (λ text. text.items ≡ line (codes "report") (decimal source ∷ decimal sequence ∷ [])) }
 {
@@ -247,7 +246,7 @@ fn report_text(alloc: Global, source: u32, sequence: u16) -> Result<Vec<u8>, All
     line.end()
 }
 
-/// Returns the line of a message that was decoded.
+/// Returns the line of a message that was decoded. Of its extensions only the transmission information is shown.
 pub(crate) fn message_text(alloc: Global, msg: &Message<'_>) -> Result<Vec<u8>, AllocError>
     ensures { IfOk result (λ text. text.items ≡ message_line (message_of msg.now)) }
 {
@@ -275,7 +274,7 @@ fn reason_text(alloc: Global, reason: &[u8], numbers: &[u64]) -> Result<Vec<u8>,
     line.end()
 }
 
-/// Returns the line of a refused datagram.
+/// Returns the line of a refused datagram. Each refusal has a word of its own.
 pub(crate) fn refused_text(alloc: Global, refusal: Refusal) -> Result<Vec<u8>, AllocError>
     ensures { IfOk result (λ text. text.items ≡ refused_line refusal) }
 {

@@ -13,7 +13,7 @@ use norm_ext::{Item, Request, Requests, read_16, read_32};
 use norm_text::Line;
 use std::alloc::AllocError;
 
-/// Adds node ids, separated by commas, or a dash if there are none.
+/// Adds node ids, separated by commas, or a dash if there are none. Octets after the last whole id are not shown.
 pub(crate) fn put_nodes(line: &mut Line, list: &[u8]) -> Result<(), AllocError>
     ensures { OnOk result (line.new ≡ with_word line.old (numbers_word (nodes_of list.now))) }
 {
@@ -30,7 +30,7 @@ pub(crate) fn put_nodes(line: &mut Line, list: &[u8]) -> Result<(), AllocError>
     Ok(())
 }
 
-/// Adds object transport ids, separated by commas, or a dash if there are none.
+/// Adds object transport ids, separated by commas, or a dash if there are none. Octets after the last whole id are not shown.
 pub(crate) fn put_objects(line: &mut Line, list: &[u8]) -> Result<(), AllocError>
     ensures { OnOk result (line.new ≡ with_word line.old (numbers_word (objects_of list.now))) }
 {

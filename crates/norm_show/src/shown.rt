@@ -9,7 +9,7 @@ use norm_base::{Memory, Octets};
 use norm_codec::decode;
 use std::alloc::Global;
 
-/// The line of a datagram, and whether the datagram is refused.
+/// What [`show_line`] returns. A datagram that is refused has a line too.
 #[derive(Debug, Drop)]
 pub struct Shown {
     /// The line, with its line feed.

@@ -22,10 +22,10 @@ const MOST_DIGITS: usize = 3000;
 /// The most octets of a read.
 // Our own choice: some lines of full size in one read, and still on the stack.
 const PIECE: usize = 16_384;
-/// What ends a line.
+
 const LINE_FEED: u8 = b'\n';
 
-/// Returns the datagram that a line spells, or `None` if it spells none.
+/// Returns the datagram that a line spells in digits of either case. `None` if it spells none, or has more than 3,000 octets.
 fn datagram_in(alloc: Global, line: &[u8]) -> Result<Option<Octets>, Memory>
     ensures { IfOk result (λ datagram. datagram ≡ datagram_in line.now) }
 {
@@ -141,7 +141,7 @@ impl Reader {
         Ok(())
     }
 
-    /// Shows the next line, which has ended, and begins the line after it.
+    /// Shows the next line, which has ended, and begins the line after it in the same memory.
     fn end_line<K: Sink>(&mut self, alloc: Global, output: &mut K) -> Result<(), ShowFault>
         requires { self.old.number + 1 < 2 ^ 64 }
         ensures shown { OnOk result (Shows self.old (10 ∷ []) self.new [] (K.pieces output.old) (K.pieces output.new)) }

@@ -9,7 +9,6 @@ use norm_ext::{CmdHead, Extensions, Fti, Item, ObjHead, read_fti};
 use norm_text::Line;
 use std::alloc::AllocError;
 
-/// Adds the source, the sequence number and the instance.
 fn put_source(
     line: &mut Line,
     source: NodeId,
@@ -35,7 +34,7 @@ fn put_sizes(line: &mut Line, grtt: u8, backoff: u8, gsize: u8) -> Result<(), Al
     )
 }
 
-/// Adds the head of a command of the sender.
+/// Adds the head of a command of the sender, which INFO and DATA begin with too.
 pub(crate) fn put_command(line: &mut Line, head: &CmdHead) -> Result<(), AllocError>
     ensures { OnOk result (line.new ≡ with_words line.old (command_words head.now)) }
 {
@@ -43,7 +42,7 @@ pub(crate) fn put_command(line: &mut Line, head: &CmdHead) -> Result<(), AllocEr
     put_sizes(line, head.grtt, head.backoff, head.gsize)
 }
 
-/// Adds the head of INFO and DATA.
+/// Adds the head of INFO and DATA: that of a command, then the flags and the transport id of the object.
 pub(crate) fn put_object(line: &mut Line, head: &ObjHead) -> Result<(), AllocError>
     ensures { OnOk result (line.new ≡ with_words line.old (object_words head.now)) }
 {
@@ -69,7 +68,7 @@ pub(crate) fn put_receiver(
     line.number(u64::from(instance.0))
 }
 
-/// Adds an object, a block and a symbol.
+/// Adds a position as three words: the transport id of the object, the block and the symbol.
 pub(crate) fn put_symbol(line: &mut Line, item: Item) -> Result<(), AllocError>
     ensures { OnOk result (line.new ≡ with_words line.old (symbol_words item.object item.id.block item.id.symbol)) }
 {

@@ -17,7 +17,7 @@ use norm_udp::PassesOver;
 use std::fmt;
 use std::time::{Clock, Duration};
 
-/// Seconds from one line of progress to the next.
+/// At least this many seconds pass from one line of progress to the next.
 // Our own choice: as often as a person can read it.
 const PAUSE: u64 = 1;
 
@@ -25,7 +25,6 @@ const PAUSE: u64 = 1;
 // Our own choice. While datagrams come a read of the clock at each would show in the rate.
 const TAKES: u32 = 64;
 
-/// What a node is.
 #[derive(Clone, Copy)]
 enum Role {
     Sender,
@@ -33,7 +32,7 @@ enum Role {
     Hub,
 }
 
-/// A node over sockets, in a process of its own.
+/// A member or the hub over sockets, in a process of its own.
 #[derive(Clone, Copy)]
 struct Node {
     role: Role,
@@ -41,7 +40,7 @@ struct Node {
     port: u32,
     /// The hub's port.
     hub: u32,
-    /// The turns of its profile.
+    /// The profile's `turns`: after this many a receiver and the hub end.
     turns: u32,
 }
 
@@ -49,7 +48,7 @@ struct Node {
 #[derive(Clone, Copy)]
 struct Spent {
     turns: u32,
-    /// Whether datagrams still came.
+    /// Whether a datagram came in the last ten seconds.
     is_busy: bool,
 }
 
@@ -75,7 +74,7 @@ fn is_ended_by_turns(role: Role) -> bool
     }
 }
 
-/// Returns what to say of a node that ended well. `None` if its turns did not end it, or this process is no node alone.
+/// Returns what to say of a node that ended well. `None` if its turns did not end it, or this process is no node alone over sockets.
 fn spent_by(node: &Option<Node>, is_busy: bool) -> Option<Spent>
     ensures { result ≡ spent_by node.now is_busy }
 {
@@ -103,7 +102,7 @@ fn role_of(profile: &Profile, local: &Local) -> Option<Role> {
     }
 }
 
-/// Returns how far a node's port is above the hub's.
+/// Returns how far a node's port is above the hub's: 0 for the hub, 1 for the sender, and then the receivers by their ids.
 fn place_of(profile: &Profile, local: &Local) -> u32 {
     match local {
         Local::One(node) => node.number().wrapping_sub(profile.sender).wrapping_add(1),
@@ -111,7 +110,6 @@ fn place_of(profile: &Profile, local: &Local) -> u32 {
     }
 }
 
-/// Whether a network is one of sockets.
 fn is_of_sockets(fabric: FabricKind) -> bool {
     match fabric {
         FabricKind::Direct | FabricKind::Chance => false,
@@ -153,8 +151,8 @@ fn is_repair(datagram: &[u8]) -> bool {
         && has_flag(datagram[FLAGS_AT], REPAIR)
 }
 
-/// Whether a node counts repairs as it takes them. A receiver does, since it offers none. The hub offers each that it takes, and in a process with
-/// all members each is offered before it is taken.
+/// Whether a node counts repairs as it takes them. A member alone does: a receiver offers none, and a sender takes none. The hub offers each that it
+/// takes, and in a process with all members each is offered before it is taken.
 fn counts_takes(local: &Local) -> bool {
     match local {
         Local::One(_) => true,
@@ -183,7 +181,7 @@ pub struct WatchedFabric<'a, R, F> {
     /// How many more takes go by before the clock is read.
     takes_left: u32,
     silence: Silence,
-    /// When a line of progress was drawn last.
+    /// The clock's moment when a line of progress was drawn last. 0 before the first.
     drawn: Duration,
 }
 
@@ -207,12 +205,12 @@ impl<'a, R: Eprint + Clock, F: Fabric + PassesOver> WatchedFabric<'a, R, F> {
         }
     }
 
-    /// Returns the network that is watched.
+    /// Returns the network that is watched, for what the trait does not have: its cause, and a wait before the process ends.
     pub fn watched(&self) -> &F {
         &self.fabric
     }
 
-    /// Says something, on a line of its own.
+    /// Says something, on a line of its own, and wipes the line of progress first. If standard error fails, it goes unsaid.
     fn say<D: fmt::Display>(&self, what: &D) {
         wipe(&self.rt, self.tally);
         let _ = eprintln!(self.rt; "{what}");
@@ -229,7 +227,8 @@ impl<'a, R: Eprint + Clock, F: Fabric + PassesOver> WatchedFabric<'a, R, F> {
         }
     }
 
-    /// Says that all turns were made, if this is a receiver or the hub, alone over sockets. Call it only if the program ended well.
+    /// Says that all turns were made, if this is a receiver or the hub, alone over sockets. Call it only if the program ended well, and after
+    /// [`end_progress`](crate::end_progress): it does not wipe the line of progress.
     pub fn say_spent(&self) {
         let is_busy = self.silence.is_broken(moment(&self.rt));
         if let Some(spent) = spent_by(&self.node, is_busy) {
@@ -237,7 +236,8 @@ impl<'a, R: Eprint + Clock, F: Fabric + PassesOver> WatchedFabric<'a, R, F> {
         }
     }
 
-    /// Begins to watch a node. Warns of a profile's step that is none for sockets.
+    /// Begins to watch a node, after a start that was `Ok`. Forgets what the start before saw. Warns if a member alone over sockets has a `step` that
+    /// is not 0.
     fn begin(&mut self, profile: &Profile, local: &Local)
         ensures { watched_by self.new ≡ watched_by self.old }
     {
@@ -256,7 +256,7 @@ impl<'a, R: Eprint + Clock, F: Fabric + PassesOver> WatchedFabric<'a, R, F> {
         }
     }
 
-    /// Says that a datagram of this node, or for it, was offered or taken, if each is to be said.
+    /// Says on a line what became of a datagram, for which node, and its octets in hexadecimal, if each is to be said.
     fn trace(&self, what: &str, node: NodeId, octets: &[u8]) {
         if self.says.trace {
             let node = node.number();
@@ -266,7 +266,6 @@ impl<'a, R: Eprint + Clock, F: Fabric + PassesOver> WatchedFabric<'a, R, F> {
         }
     }
 
-    /// Counts a datagram, if it repairs.
     fn count(&self, octets: &[u8]) {
         if is_repair(octets) {
             self.tally.repair();
@@ -283,7 +282,7 @@ impl<'a, R: Eprint + Clock, F: Fabric + PassesOver> WatchedFabric<'a, R, F> {
         }
     }
 
-    /// Notes what a receiver took. Says what its rules pass over for good.
+    /// Notes what a receiver took. Says what its rules pass over for good. Decodes only what is not of the sender and instance that it follows.
     fn hear(&mut self, octets: &[u8])
         ensures { watched_by self.new ≡ watched_by self.old }
     {
@@ -299,7 +298,7 @@ impl<'a, R: Eprint + Clock, F: Fabric + PassesOver> WatchedFabric<'a, R, F> {
         }
     }
 
-    /// Looks whether the network itself passed over datagrams, which then came too. Of the first one it says why.
+    /// If the network itself passed over datagrams since the last look, notes that something came. The first time, says why they were passed over.
     fn look_passed(&mut self)
         ensures { watched_by self.new ≡ watched_by self.old }
     {
@@ -316,7 +315,7 @@ impl<'a, R: Eprint + Clock, F: Fabric + PassesOver> WatchedFabric<'a, R, F> {
         self.silence.note();
     }
 
-    /// Says that nothing ever came to a sender, after one of its watermarks expired.
+    /// If a watermark expired and nothing ever came, says so, unless it was said already that nothing comes.
     fn look_expired(&mut self, node: &Node)
         ensures { watched_by self.new ≡ watched_by self.old }
     {
@@ -325,7 +324,7 @@ impl<'a, R: Eprint + Clock, F: Fabric + PassesOver> WatchedFabric<'a, R, F> {
         }
     }
 
-    /// Reads the clock. Says so if nothing came for ten seconds, and draws progress if it is due.
+    /// Reads the clock. Says so, once for each silence, if nothing came for ten seconds, and draws progress if it is due.
     fn watch(&mut self, node: &Node)
         ensures { watched_by self.new ≡ watched_by self.old }
     {
@@ -336,7 +335,8 @@ impl<'a, R: Eprint + Clock, F: Fabric + PassesOver> WatchedFabric<'a, R, F> {
         self.draw(now);
     }
 
-    /// Notes whether a take gave something. Reads the clock at the first take, and then at one in [`TAKES`].
+    /// Notes whether a take gave something. Reads the clock at the first take, and then at one in [`TAKES`]. Does nothing if this process is no node
+    /// alone over sockets, which then draws no progress.
     fn took(&mut self, is_some: bool)
         ensures { watched_by self.new ≡ watched_by self.old }
     {

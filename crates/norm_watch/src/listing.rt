@@ -19,7 +19,7 @@ struct Placed {
     place: u64,
 }
 
-/// A free slot.
+/// A free slot. As the oldest watermark, it counts every listed member.
 const NONE: Placed = Placed {
     number: 0,
     place: 0,
@@ -52,7 +52,7 @@ fn put(all: &mut [Placed], number: u32, place: u64) {
     }
 }
 
-/// Frees the slot of this number.
+/// Frees the slot of this number. Does nothing if it has none.
 fn take_out(all: &mut [Placed], number: u32) {
     for one in all.iter_mut() {
         if one.number == number {
@@ -62,7 +62,6 @@ fn take_out(all: &mut [Placed], number: u32) {
 }
 
 impl Listing {
-    /// Returns a listing with nobody listed, and no watermark open.
     pub fn new() -> Listing {
         Listing {
             members: [NONE; MOST],
@@ -70,12 +69,12 @@ impl Listing {
         }
     }
 
-    /// Opens a watermark at a position.
+    /// Opens a watermark at a position. Ignored if 16 are open.
     pub fn mark(&mut self, mark: u32, index: u32, block: u32, symbol: u8) {
         put(&mut self.marks, mark, place_of(index, block, symbol));
     }
 
-    /// Lists a member past a position.
+    /// Lists a member past a position, in place of its earlier one. Ignored for a 17th member.
     pub fn past(&mut self, node: NodeId, index: u32, block: u32, symbol: u8) {
         put(
             &mut self.members,
@@ -89,7 +88,7 @@ impl Listing {
         take_out(&mut self.members, node.number());
     }
 
-    /// Closes a watermark that is done.
+    /// Closes a watermark, however it ended.
     pub fn done(&mut self, mark: u32) {
         take_out(&mut self.marks, mark);
     }

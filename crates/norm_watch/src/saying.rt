@@ -3,7 +3,7 @@
 use crate::tally::Tally;
 use std::fmt;
 
-/// What to print.
+/// What to print on standard error. [`asked_in`](crate::asked_in) makes it from the environment.
 #[derive(Clone, Copy, Debug)]
 pub struct Says {
     /// Once a second, how far the node is.
@@ -37,7 +37,7 @@ impl fmt::Display for Progress<'_> {
     }
 }
 
-/// Draws the line of progress over the one before.
+/// Draws the line of progress over the one before, and notes for [`wipe`] that it stands there.
 pub(crate) fn draw<R: Eprint>(rt: &R, tally: &Tally) {
     let progress = Progress { tally };
     // What cannot be said to a person is no fault of the node.
@@ -61,13 +61,13 @@ pub fn end_progress<R: Eprint>(rt: &R, tally: &Tally) {
     }
 }
 
-/// A datagram in hexadecimal.
+/// Octets in lower-case hexadecimal. Takes no memory.
 #[derive(Drop)]
 pub(crate) struct Hex<'a> {
     pub octets: &'a [u8],
 }
 
-/// Returns the hexadecimal digit of four bits.
+/// Returns the lower-case hexadecimal digit of four bits, or `?` for more, which no caller has.
 fn digit(bits: u8) -> char {
     match char::from_digit(u32::from(bits), 16) {
         Some(digit) => digit,

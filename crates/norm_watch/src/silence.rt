@@ -12,16 +12,16 @@ const SILENCE: u64 = 10;
 pub(crate) struct Silence {
     /// Whether a datagram came since the clock was read.
     has_heard: bool,
-    /// Whether one ever came.
+    /// Whether one ever came since the network started.
     ever: bool,
     /// The first moment that was read after the last datagram came, or the one at which the network started.
     heard: Duration,
-    /// Whether it was said that nothing came.
+    /// Whether it was said in this silence that nothing came.
     is_said: bool,
 }
 
 impl Silence {
-    /// Returns the state at the moment at which a network starts.
+    /// Counts the first silence from this moment, at which a network starts.
     pub(crate) fn from(now: Duration) -> Silence {
         Silence {
             has_heard: false,
@@ -31,7 +31,7 @@ impl Silence {
         }
     }
 
-    /// Notes that a datagram came.
+    /// Notes that a datagram came. The next [`read`](Silence::read) says when.
     pub(crate) fn note(&mut self) {
         self.has_heard = true;
         self.ever = true;
@@ -52,7 +52,7 @@ impl Silence {
         true
     }
 
-    /// Notes that a watermark expired. Returns whether to say now that nothing ever came.
+    /// Notes that a watermark expired. Returns whether to say now that nothing ever came: once at most, and not if a silence was said before.
     pub(crate) fn expire(&mut self) -> bool {
         if self.ever || self.is_said {
             return false;
@@ -61,7 +61,7 @@ impl Silence {
         true
     }
 
-    /// Whether a datagram came in the last ten seconds.
+    /// Whether a datagram came in the last ten seconds, or since the clock was read.
     pub(crate) fn is_broken(&self, now: Duration) -> bool {
         self.has_heard
             || (self.ever && now.saturating_sub(self.heard) < Duration::from_secs(SILENCE))

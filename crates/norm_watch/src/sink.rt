@@ -36,12 +36,12 @@ impl<'a, R: Eprint, K: Sink, T: Restarts> WatchedSink<'a, R, K, T> {
         }
     }
 
-    /// Returns the sink that is watched.
+    /// Returns the sink that is watched, for what the trait does not have: its cause.
     pub fn watched(&self) -> &K {
         &self.sink
     }
 
-    /// Reports a restart, and notes that a watermark expired. Both matter also if no progress is printed.
+    /// Reports a restart, after it wiped the line of progress, and notes that a watermark expired. Both matter also if no progress is printed.
     fn tell(&mut self, notice: &Notice)
         ensures { watched_in self.new ≡ watched_in self.old }
     {
@@ -60,7 +60,7 @@ impl<'a, R: Eprint, K: Sink, T: Restarts> WatchedSink<'a, R, K, T> {
     }
 }
 
-/// Counts what a line says.
+/// Counts what a line says, and anew how many members are past the oldest open watermark.
 fn count(tally: &Tally, listing: &mut Listing, notice: &Notice) {
     match notice {
         Notice::Object { octets } => {

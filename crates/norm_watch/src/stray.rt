@@ -17,7 +17,7 @@ const LATE: u64 = 1;
 /// The offset after the instance of a sender's datagram, which comes after the sender's id (RFC 5740 section 4.2).
 const INSTANCE_END: usize = INSTANCE_AT + 2;
 
-/// What to say of such datagrams.
+/// What to say, once for each kind, of datagrams that a receiver passes over.
 #[derive(Clone, Copy, Debug)]
 pub(crate) enum Stray {
     /// They are of the receiver's sender, in an instance that the receiver does not go back to.
@@ -25,7 +25,7 @@ pub(crate) enum Stray {
         instance: InstanceId,
         own: InstanceId,
     },
-    /// They are of another sender.
+    /// They are of another sender than the profile's, which is `own`.
     Other {
         sender: NodeId,
         own: u32,
@@ -57,15 +57,14 @@ impl fmt::Display for Stray {
 /// Something to say once, after the same number was seen twice, with a second between: a network may be late.
 #[derive(Clone, Copy)]
 struct Again {
-    /// The number that was seen.
+    /// The instance or the sender id that was seen. `None` before the first.
     number: Option<u32>,
-    /// When it was.
+    /// When it was kept, from which the second counts.
     since: Duration,
     is_said: bool,
 }
 
 impl Again {
-    /// Returns the state before anything was seen.
     fn new() -> Again {
         Again {
             number: None,
@@ -74,7 +73,8 @@ impl Again {
         }
     }
 
-    /// Notes that a number is seen at this moment. Returns whether to say so now. A number is kept for a second before another replaces it.
+    /// Notes that a number is seen at this moment. Returns whether to say so now, which is so once at most. A number is kept for a second before
+    /// another replaces it.
     fn see(&mut self, number: u32, now: Duration) -> bool {
         if self.is_said {
             return false;
@@ -94,7 +94,8 @@ impl Again {
     }
 }
 
-/// Whether a receiver that is in the instance `current` goes on to `instance`.
+/// Whether a receiver that is in the instance `current` goes on to `instance`: to any if it is in none, and else to one that lies above its own (RFC
+/// 5740 section 4.2.1).
 fn goes_to(current: &Option<InstanceId>, instance: InstanceId) -> bool
     ensures { result ≡ goes_to current.now instance }
 {
@@ -114,7 +115,7 @@ fn names_index(profile: &Profile, object: Option<u16>) -> bool
     }
 }
 
-/// Returns the instance that a receiver is in after a message of its sender.
+/// Returns the instance that a receiver is in after a message of its sender. It goes on to that of the message only if that names an object.
 fn followed(profile: &Profile, current: &Option<InstanceId>, heard: &Heard) -> Option<InstanceId>
     ensures { result ≡ followed profile.now current.now heard.now }
 {
@@ -124,7 +125,7 @@ fn followed(profile: &Profile, current: &Option<InstanceId>, heard: &Heard) -> O
     *current
 }
 
-/// Whether an instance is neither the receiver's own nor above it.
+/// Whether an instance is neither the receiver's own nor above it. None is, as long as the receiver is in no instance.
 fn is_older(current: &Option<InstanceId>, instance: InstanceId) -> bool
     ensures { result ≡ is_older current.now instance }
 {
@@ -152,7 +153,7 @@ pub(crate) struct Strays {
 }
 
 impl Strays {
-    /// Returns the state of these members, if they are one receiver alone.
+    /// Returns the state of a receiver alone, before it heard anything. `None` for a sender, the hub and all members.
     pub(crate) fn of(profile: &Profile, local: &Local) -> Option<Strays> {
         match local {
             Local::One(node) if node.number() != profile.sender => Some(Strays {
@@ -181,7 +182,7 @@ impl Strays {
         heard_in(octets)
     }
 
-    /// Notes what the receiver's sender says. Returns what to say of it, if anything.
+    /// Notes what the receiver's sender says. Returns [`Stray::Older`] if an older instance is to be reported now.
     fn hear_own(&mut self, heard: &Heard, now: Duration) -> Option<Stray>
         ensures { self.new.current ≡ followed self.old.profile self.old.current heard.now }
     {
@@ -201,7 +202,7 @@ impl Strays {
         }
     }
 
-    /// Notes what another sender says. Returns what to say of it, if anything.
+    /// Notes what another sender says. Returns [`Stray::Other`] if that sender is to be reported now.
     fn hear_other(&mut self, heard: &Heard, now: Duration) -> Option<Stray>
         ensures { self.new.current ≡ self.old.current }
     {
@@ -214,7 +215,7 @@ impl Strays {
         })
     }
 
-    /// Notes what a datagram says that was taken at this moment. Returns what to say of it, if anything.
+    /// Notes what a datagram says that was taken at this moment. Returns what to say of it, if anything: each kind once at most.
     pub(crate) fn hear(&mut self, heard: &Heard, now: Duration) -> Option<Stray>
         ensures { self.new.current ≡ followed_by self.old.profile self.old.current (Some heard.now) }
     {

@@ -12,14 +12,13 @@ pub struct Tally {
     pub(crate) objects: Cell<u64>,
     pub(crate) repairs: Cell<u64>,
     pub(crate) past: Cell<u64>,
-    /// Whether a watermark expired.
+    /// Whether a watermark expired. The sink sets it, and the network reads it.
     pub(crate) has_expired: Cell<bool>,
     /// Whether a line of progress stands on standard error, with nothing after it.
     pub(crate) is_drawn: Cell<bool>,
 }
 
 impl Tally {
-    /// Returns a tally in which nothing is counted.
     pub fn new() -> Tally {
         Tally {
             octets: Cell::new(0),
@@ -36,12 +35,11 @@ impl Tally {
         self.objects.set(self.objects.get().saturating_add(1));
     }
 
-    /// Counts this many octets of an object.
+    /// Counts this many octets, of an object or of a stream.
     pub(crate) fn octets(&self, octets: u64) {
         self.octets.set(self.octets.get().saturating_add(octets));
     }
 
-    /// Counts a datagram that repairs.
     pub(crate) fn repair(&self) {
         self.repairs.set(self.repairs.get().saturating_add(1));
     }
