@@ -25,7 +25,7 @@ fn is_name_octet(octet: u8) -> bool
     matches!(octet, b'a'..=b'z' | b'A'..=b'Z' | b'0'..=b'9' | b'.' | b'_' | b'-')
 }
 
-/// Whether each octet may stand in the name of a file.
+/// Whether each octet may stand in the name of a file, wherever it stands. True of an empty name.
 fn has_name_octets(name: &[u8]) -> bool
     ensures { result ≡ list_all is_name_octet name.now }
 {
@@ -44,7 +44,7 @@ fn is_file_name(name: &[u8]) -> bool
     has_name_octets(name)
 }
 
-/// Returns the path of a name in a folder.
+/// Returns the folder, a `/` and the name, whatever they are. Fails only if memory runs out.
 fn path_in(alloc: Global, folder: &str, name: &str) -> Result<String, AllocError>
     ensures { IfOk result (λ path. string_bytes path ≡ path_in folder.now name.now) }
 {
@@ -54,7 +54,8 @@ fn path_in(alloc: Global, folder: &str, name: &str) -> Result<String, AllocError
     Ok(path)
 }
 
-/// Returns the path at which a file's octets are written first. It is beside the file. No name of a file leads there, since it begins with a `.`.
+/// Returns the path at which a put writes first, `.NAME.part` beside the file. It is not the path of any file of the folder, since its name begins
+/// with a `.`.
 fn path_beside(alloc: Global, folder: &str, name: &str) -> Result<String, AllocError>
     ensures { IfOk result (λ path. string_bytes path ≡ path_beside folder.now name.now) }
 {
@@ -66,7 +67,7 @@ fn path_beside(alloc: Global, folder: &str, name: &str) -> Result<String, AllocE
     Ok(path)
 }
 
-/// Whether a name is one of these paths, octet for octet.
+/// Whether a name is one of these paths, octet for octet: `./a` is not `a`. Walks the list.
 fn is_one_of(paths: &[String], name: &str) -> bool
     ensures { result ≡ is_told (map string_bytes paths.now) name.now }
 {
@@ -78,7 +79,7 @@ fn is_one_of(paths: &[String], name: &str) -> bool
     false
 }
 
-/// Returns how many octets a plain file has. Any other file fails as a folder does.
+/// Returns how many octets a plain file has. Any other file fails as a folder does, a device and a pipe too. Call it before the file is opened.
 pub(crate) fn length_in(metadata: &Metadata) -> io::Result<u64>
     ensures file { IsOk result ↔ IsFile (file_type metadata.now) }
     ensures length { IfOk result (λ n. n ≡ metadata_len metadata.now) }
@@ -98,7 +99,7 @@ fn seek_to<S: Seek>(file: &mut S, offset: u64) -> io::Result<()>
     Ok(())
 }
 
-/// Returns why a call gave nothing: `Absent` if the error says that no file has that name, and `Failed` for any other error.
+/// Returns `Absent` only if the error says that no file has that name. A lack of memory is `Failed`.
 fn fault_of(error: &io::Error) -> FileFault
     ensures { (result ≡ FileFault.Absent) ↔ (error_kind error.now ≡ NotFound) }
 {
@@ -112,7 +113,7 @@ fn fault_of(error: &io::Error) -> FileFault
 // Our own choice, 256 KiB. Without this a file would be opened, measured and read anew for each symbol.
 const AHEAD: usize = 262_144;
 
-/// Octets of a file that were read ahead, from an offset on.
+/// What the last read ahead found from an offset of a file on. No octets if that was the end of the file.
 #[derive(Drop)]
 struct Ahead {
     name: String,
@@ -121,7 +122,8 @@ struct Ahead {
 }
 
 impl Ahead {
-    /// Copies octets from an offset of a file into `buf`, as many as were read ahead and have room. Returns how many. `None` if there are none.
+    /// Copies octets from an offset of a file into `buf`, as many as were read ahead and have room. Returns how many. `None` if there are none, or
+    /// those read ahead are of another file.
     fn give(&self, name: &str, offset: u64, buf: &mut [u8]) -> Option<usize>
         ensures { IfSome result (λ n. (0 < n) × (n ≤ length buf.old)) }
     {
@@ -147,7 +149,7 @@ impl Ahead {
 // one that grew is cut there, and one that shrank is a fault.
 const AS_SAID: u32 = 64;
 
-/// A file's length as the system said it, and how often it may be answered once more.
+/// A file's length as the system said it. It may be answered `left` times more before the system is asked again.
 #[derive(Drop)]
 struct Said {
     name: String,
@@ -156,7 +158,7 @@ struct Said {
 }
 
 impl Said {
-    /// Returns the length once more, if it is this file's and was not answered too often.
+    /// Returns the length once more. `None` if it is of another file, or was answered [`AS_SAID`] times.
     fn again(&mut self, name: &str) -> Option<u64>
         ensures length { IfSome result (λ n. n ≡ self.old.length) }
         ensures fewer { IfSome result (λ _. self.old.left ≡ self.new.left + 1) }
@@ -170,13 +172,13 @@ impl Said {
     }
 }
 
-/// The files of one folder, and the paths that it was told ([`tell`](FolderFiles::tell)), each of which is read as it stands. Any other
-/// name that is not the name of a file, such as one with a slash or that begins with a `.`, is absent, and a put of it fails. A put writes
-/// a file beside its name and renames it, so that nobody sees a part of it. A read that finds no octet, and a lack of memory, are faults.
-/// Contracts cannot rely on what the files hold.
+/// The files of one folder, and the paths that it was told ([`tell`](FolderFiles::tell)), each of which is measured and read as it stands. Any other
+/// name that is not the name of a file, such as one with a slash or that begins with a `.`, is absent. A put never goes to a path that was told: it
+/// fails if its name is not the name of a file, and else writes a file beside that name in the folder and renames it, so that nobody sees a part of
+/// it. A read that finds no octet, and a lack of memory in a read, a put or a length, are faults. Contracts cannot rely on what the files hold.
 ///
-/// A read keeps up to 262,144 octets of the file for the next reads, until a length is asked for or a file is put. If a length is asked for again and
-/// again, with no other call between, the system is asked once in 65 times.
+/// A read keeps up to 262,144 octets of the file for the next reads, until one of them needs others, a length is asked for, or a file is put. If a
+/// file's length is asked for again and again, with no other call between, the system is asked once in 65 times.
 #[derive(Drop)]
 pub struct FolderFiles<F> {
     files: F,
@@ -191,7 +193,7 @@ pub struct FolderFiles<F> {
 }
 
 impl<F: fs::Files + Drop> FolderFiles<F> {
-    /// Returns the files of this folder.
+    /// Returns the files of this folder, which need not be there yet. Opens nothing.
     ///
     /// # Errors
     ///
@@ -214,12 +216,13 @@ impl<F: fs::Files + Drop> FolderFiles<F> {
         })
     }
 
-    /// Adds a path that is read as it stands.
+    /// Adds a path that is measured and read as it stands, from the folder in which the process runs. A put does not go there.
     ///
     /// # Errors
     ///
     /// `Memory` if memory runs out.
-    // `norm_main` reads files by name, and a path as the shell gives it may be no name of a file here. So `main` calls this before it.
+    // The program reads files by name, and a path as the shell gives it may be no name of a file here. So `main` of `normd` calls this before it runs
+    // the program.
     pub fn tell(&mut self, path: &str) -> Result<(), Memory>
         ensures told { OnOk result (told_to self.new ≡ told_to self.old ++ path.now ∷ []) }
         ensures kept { OnErr result (told_to self.new ≡ told_to self.old) }
@@ -231,8 +234,8 @@ impl<F: fs::Files + Drop> FolderFiles<F> {
         Ok(())
     }
 
-    /// Has the next call fail, whichever it is, because the instance of a send could not be kept. Then nothing is sent, and the
-    /// program ends as after any fault of files.
+    /// Has the next read, put or length fail, and only that one, because the instance of a send could not be kept. A send first loads its profile, so
+    /// nothing is sent, and the program ends as after any fault of files.
     pub fn stop(&mut self, fault: InstanceFault)
         ensures stopped { is_stopped self.new ≡ true }
         ensures told { told_to self.new ≡ told_to self.old }
@@ -265,7 +268,8 @@ impl<F: fs::Files + Drop> FolderFiles<F> {
         }
     }
 
-    /// Returns the path of a file in the folder. Fails with `NotFound` if the name is not one of a file, and only then.
+    /// Returns the path of a file in the folder. Looks only at the name: the file need not be there. Any other error than `NotFound` is a lack of
+    /// memory.
     fn path(&self, name: &str) -> io::Result<String>
         ensures path { IfOk result (λ path. (string_bytes path ≡ path_in (string_bytes self.now.folder) name.now) × IsTrue (is_file_name name.now)) }
         ensures absent { IfErr result (λ error. (error_kind error ≡ NotFound) ↔ (is_file_name name.now ≡ false)) }
@@ -276,14 +280,14 @@ impl<F: fs::Files + Drop> FolderFiles<F> {
         Ok(path_in(self.alloc, &self.folder, name)?)
     }
 
-    /// Whether a name is one of the paths that it was told.
     fn is_told(&self, name: &str) -> bool
         ensures { result ≡ is_told (told_to self.now) name.now }
     {
         is_one_of(&self.told, name)
     }
 
-    /// Returns the path at which a name is read: the name itself if it was told as a path, and else the path of the file in the folder.
+    /// Returns the path at which a name is read: the name itself if it was told as a path, even if the folder has a file of this name, and else the
+    /// path of the file in the folder.
     fn path_read(&self, name: &str) -> io::Result<String>
         ensures path { IfOk result (λ path. path_read (string_bytes self.now.folder) (told_to self.now) name.now ≡ Some (string_bytes path)) }
         ensures absent { IfErr result (λ error. (error_kind error ≡ NotFound) ↔ (path_read (string_bytes self.now.folder) (told_to self.now) name.now ≡ None)) }
@@ -294,7 +298,7 @@ impl<F: fs::Files + Drop> FolderFiles<F> {
         self.path(name)
     }
 
-    /// Returns how many octets the plain file at this path has.
+    /// Returns how many octets the plain file at this path has. Asks the system each time, and follows a symbolic link.
     fn plain_length(&self, path: &str) -> io::Result<u64> {
         length_in(&fs::metadata(&self.files, path)?)
     }
@@ -304,7 +308,6 @@ impl<F: fs::Files + Drop> FolderFiles<F> {
         self.plain_length(path.as_str())
     }
 
-    /// Returns a file's length as the system said it, if that may be answered once more.
     fn said_again(&mut self, name: &str) -> Option<u64>
         ensures faults { self.new.faults ≡ self.old.faults }
         ensures stopped { self.new.stopped ≡ self.old.stopped }
@@ -315,7 +318,7 @@ impl<F: fs::Files + Drop> FolderFiles<F> {
         }
     }
 
-    /// Keeps what the system said of a file's length. Keeps nothing if there is no memory for it.
+    /// Keeps what the system said of a file's length, in place of what it said before. Keeps neither if there is no memory for it.
     fn keep_said(&mut self, name: &str, length: u64)
         ensures faults { self.new.faults ≡ self.old.faults }
         ensures stopped { self.new.stopped ≡ self.old.stopped }
@@ -342,7 +345,8 @@ impl<F: fs::Files + Drop> FolderFiles<F> {
         }
     }
 
-    /// Reads octets of a file ahead, from an offset on, into this memory.
+    /// Reads octets of a file ahead, from an offset on, into this memory. It opens the file and reads once, so fewer than [`AHEAD`] octets may come
+    /// before the end of the file. Fails if it is no plain file.
     fn ahead_of(&self, name: &str, offset: u64, room: Vec<u8>) -> io::Result<Ahead> {
         let path = self.path_read(name)?;
         self.plain_length(path.as_str())?;
@@ -360,7 +364,6 @@ impl<F: fs::Files + Drop> FolderFiles<F> {
         })
     }
 
-    /// Copies octets of a file that were read ahead into `buf`. Returns how many.
     fn give_ahead(&self, name: &str, offset: u64, buf: &mut [u8]) -> Option<usize>
         ensures { IfSome result (λ n. (0 < n) × (n ≤ length buf.old)) }
     {
@@ -370,7 +373,8 @@ impl<F: fs::Files + Drop> FolderFiles<F> {
         }
     }
 
-    /// Reads at least one octet of a file, from an offset on: one that was read ahead, or else after reading ahead. Fails at the end of the file.
+    /// Reads at least one octet of a file, from an offset on, out of what was read ahead. If it is not there, reads ahead from that offset first.
+    /// Fails with `UnexpectedEof` at the end of the file.
     fn read_of(&mut self, name: &str, offset: u64, buf: &mut [u8]) -> io::Result<usize>
         ensures count { IfOk result (λ n. (0 < n) × (n ≤ length buf.old)) }
         ensures faults { self.new.faults ≡ self.old.faults }
@@ -388,7 +392,8 @@ impl<F: fs::Files + Drop> FolderFiles<F> {
         }
     }
 
-    /// Writes the octets beside the file at this path, and renames that to its name.
+    /// Writes the octets beside the file at this path, and renames that to its name. If one of them fails, removes what it wrote. Does not wait until
+    /// the file would survive a power cut.
     fn write_beside(&self, path: &str, name: &str, bytes: &[u8]) -> io::Result<()> {
         let beside = path_beside(self.alloc, &self.folder, name)?;
         let mut done = fs::write(&self.files, beside.as_str(), bytes);
@@ -402,7 +407,7 @@ impl<F: fs::Files + Drop> FolderFiles<F> {
         done
     }
 
-    /// Writes a file anew. Fails if what has its name is no plain file.
+    /// Writes a file anew. Fails, and leaves the old one, if what has its name is no plain file or cannot be measured.
     fn write_of(&self, name: &str, bytes: &[u8]) -> io::Result<()> {
         let path = self.path(name)?;
         if let Err(error) = self.plain_length(path.as_str()) {
@@ -414,7 +419,7 @@ impl<F: fs::Files + Drop> FolderFiles<F> {
         self.write_beside(path.as_str(), name, bytes)
     }
 
-    /// Counts a failed call, and keeps what it was about.
+    /// Counts a failed call, and keeps what it was about in place of the cause before. Keeps neither if there is no memory for the path.
     fn keep(&mut self, name: &str, error: io::Error)
         ensures counted { Counts self.old.faults self.new.faults true }
         ensures stopped { self.new.stopped ≡ self.old.stopped }

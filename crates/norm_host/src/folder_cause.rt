@@ -1,15 +1,15 @@
-//! What a failed call of a folder's files was about.
+//! [`FolderCause`], which [`FolderFiles::cause`](crate::FolderFiles::cause) returns. `normd` prints it after the program ended.
 
 use crate::instance_fault::InstanceFault;
 use norm_base::Cause;
 use std::fmt;
 
-/// What a failed call of a folder's files was about. It is for people: no clause speaks of it.
+/// What a failed call of a folder's files was about, for people: no clause speaks of it.
 #[derive(Debug, Drop)]
 pub enum FolderCause {
     /// A file could not be read, measured or written.
     File(Cause),
-    /// The instance of a send could not be kept, before any call.
+    /// The instance of a send could not be kept, so the first call failed ([`stop`](crate::FolderFiles::stop)).
     Instance(InstanceFault),
 }
 

@@ -1,4 +1,4 @@
-//! The process's clock: [`HostClock`].
+//! The process's clock: [`HostClock`]. `normd` makes one for the program.
 
 ghost use Rattle.std.specs.Prelude.{◌≡◌, ◌≤◌, ◌/◌, ◌^◌, ℕ, Option, None, Some, IfSome, IfNone};
 ghost use Rattle.std.specs.Duration.{as_nanos};
@@ -7,7 +7,8 @@ ghost use Rattle.norm_host.specs.Clocks.{first_reading, last_moment, first_with,
 use norm_base::{Clock, Moment};
 use std::time::{self, Duration};
 
-/// A clock of std, in microseconds since its first reading. If a reading fails, it gives the last moment again. Contracts cannot rely on its moments.
+/// A clock of std, in microseconds since its first reading, which gives 0. If a reading fails, it gives the last moment again. Contracts cannot rely
+/// on its moments.
 #[derive(Drop)]
 pub struct HostClock<C> {
     clock: C,
@@ -16,7 +17,7 @@ pub struct HostClock<C> {
 }
 
 impl<C: time::Clock> HostClock<C> {
-    /// Returns a clock that reads this one.
+    /// Returns a clock that reads this one, at the first `now` and not before.
     pub fn of(clock: C) -> HostClock<C>
         ensures first { first_reading result ≡ None }
         ensures moment { last_moment result ≡ 0 }
@@ -28,12 +29,12 @@ impl<C: time::Clock> HostClock<C> {
         }
     }
 
-    /// Reads the clock, in microseconds. `None` if that fails.
+    /// Reads the clock, in microseconds. `None` if that fails, or they have more than 64 bits.
     fn reading(&self) -> Option<u64> {
         micros_of(self.clock.monotonic().ok()?)
     }
 
-    /// Returns the moment of a reading: how far it lies after the first one, or 0 if it lies before that.
+    /// Returns the moment of a reading: how far it lies after the first one, or 0 if it lies before that. Keeps the reading if it is the first.
     fn since_first(&mut self, reading: u64) -> u64
         ensures start { first_reading self.new ≡ first_with (first_reading self.old) (Some reading) }
         ensures moment { result ≡ since_first (first_reading self.old) reading }
@@ -45,7 +46,7 @@ impl<C: time::Clock> HostClock<C> {
         reading.saturating_sub(start)
     }
 
-    /// Keeps the moment of a reading. If the reading failed, the moment stays.
+    /// Keeps the moment of a reading. `None` is one that failed: the last moment stays.
     fn keep(&mut self, reading: Option<u64>)
         ensures { Keeps self.old reading self.new }
     {
@@ -55,7 +56,7 @@ impl<C: time::Clock> HostClock<C> {
     }
 }
 
-/// Returns whole microseconds. `None` if they have more than 64 bits.
+/// Returns whole microseconds, rounded down. `None` if they have more than 64 bits: after some 584,000 years.
 fn micros_of(time: Duration) -> Option<u64>
     ensures some { IfSome result (λ n. n ≡ as_nanos time / 1000) }
     ensures none { IfNone result (2 ^ 64 ≤ as_nanos time / 1000) }

@@ -19,7 +19,7 @@ use std::sync::Wait;
 use std::thread::Threads;
 use std::time::Clock;
 
-/// Starts the network that the profile names, after it closed all sockets.
+/// Closes all sockets, and starts the network that the profile names. They stay closed also if the start fails.
 fn begin<R: Net + Wait + Clock + Drop>(
     direct: &mut DirectFabric,
     chance: &mut ChanceFabric,
@@ -43,7 +43,7 @@ fn begin<R: Net + Wait + Clock + Drop>(
     }
 }
 
-/// Whether this process has a node of its own or the hub, and not all members.
+/// Whether this process has one member or the hub, and not all members.
 fn is_alone(local: &Local) -> bool
     ensures { result ≡ is_alone local.now }
 {
@@ -54,7 +54,7 @@ fn is_alone(local: &Local) -> bool
     }
 }
 
-/// Whether a node of its own, or the hub, would start over a network within one process.
+/// Whether a member alone, or the hub, would start over a network in memory, which no other process can join.
 fn is_within(profile: &Profile, local: &Local) -> bool
     ensures { result ≡ is_within profile.now.fabric local.now }
 {
@@ -69,7 +69,6 @@ fn is_within(profile: &Profile, local: &Local) -> bool
 /// `start`, `offer` and `take` at will, and [`drain`](HostFabric::drain) before the process ends. Calls go to the network of the last start that
 /// was `Ok`, and before one to a direct network. A node of its own and the hub start only over sockets. Over sockets contracts cannot rely on what
 /// was sent or received, and a call may fail.
-// The kind is that of the last start that was Ok: calls go to the network that began.
 #[derive(Drop)]
 pub struct HostFabric<R> {
     starts: Vec<(Profile, Local)>,
@@ -139,7 +138,7 @@ impl<R: Net + Wait + Clock + Drop> HostFabric<R> {
         Err(FabricFault::Failed)
     }
 
-    /// Returns what a call answered. If it failed, counts it.
+    /// Returns what a call answered. If it failed, counts it; its cause is then that of the sockets. A lack of memory is not counted.
     fn answer<T>(&mut self, done: Result<T, FabricFault>) -> Result<T, FabricFault>
         ensures same { result ≡ done }
         ensures state { self.new ≡ (if network_failed done then host_failed self.old else self.old) }
@@ -154,7 +153,8 @@ impl<R: Net + Wait + Clock + Drop> HostFabric<R> {
 }
 
 impl<R: Net + Threads + Wait + Clock + Copy + Send + Drop + 'static> HostFabric<R> {
-    /// Starts threads that send over sockets, for a hub and for a sender alone, as many as this machine has processors for. Call it before `start`.
+    /// Starts threads that send over sockets, for a hub and for a sender alone: as many as this machine has processors for, and none if it has fewer
+    /// than four. Call it before `start`.
     ///
     /// # Errors
     ///

@@ -1,16 +1,16 @@
-//! Why the instance of a send could not be kept.
+//! [`InstanceFault`], with which `normd` stops the files of a send ([`FolderFiles::stop`](crate::FolderFiles::stop)).
 
 use std::{fmt, io};
 
-/// What the user can do then.
+/// What the user can do then: a given instance is used even if it cannot be kept.
 const ADVICE: &str = "give --instance I, or the key instance";
 
-/// Why the instance of a send could not be kept. It is for people: no clause speaks of it.
+/// Why the instance of a send could not be kept. `Display` gives the sentence for the user, with what can be done.
 #[derive(Debug, Drop)]
 pub enum InstanceFault {
-    /// No variable of the environment names a folder for it.
+    /// Neither `XDG_STATE_HOME` nor `HOME` is a UTF-8 path that begins at the root.
     NoFolder,
-    /// The file at this path could not be used.
+    /// The file at this path could not be read or written, or the folder, lock and temporary file that go with it.
     File { path: String, error: io::Error },
 }
 

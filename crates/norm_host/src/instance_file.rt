@@ -30,14 +30,13 @@ const FILE_MODE: u32 = 0o600;
 /// What to say of a kept file that holds another text.
 const NO_NUMBER: &str = "it holds no number from 0 to 65535";
 
-/// Whether a path begins at the root.
 fn is_absolute(path: &[u8]) -> bool
     ensures { result ≡ is_absolute path.now }
 {
     1 <= path.len() && path[0] == b'/'
 }
 
-/// Returns the path of a name below this one. `None` if there is no path, or it does not begin at the root.
+/// Returns the path with the name appended, which begins with a slash. `None` if there is no path, or it does not begin at the root.
 fn below(path: Option<String>, name: &str) -> Result<Option<String>, AllocError>
     ensures { IfOk result (λ found. option_map string_bytes found ≡ below (option_map string_bytes path) name.now) }
 {
@@ -71,8 +70,8 @@ fn variable<R: Env + AllocGlobal>(rt: &R, name: &str) -> Result<Option<String>, 
     }
 }
 
-/// Returns the user's folder for what the program keeps: `normd` in $XDG_STATE_HOME, or else in $HOME/.local/state. `None` if neither variable is a
-/// path that begins at the root; a relative one would name another folder for each folder that the program runs in.
+/// Returns the user's folder for what the program keeps, which need not be there: `normd` in $XDG_STATE_HOME, or else in $HOME/.local/state. `None`
+/// if neither variable is a UTF-8 path that begins at the root; a relative one would name another folder for each folder that the program runs in.
 ///
 /// # Errors
 ///
@@ -170,7 +169,8 @@ impl<R: fs::Files<File = File> + Drop> InstanceFile<R> {
         Ok(lock)
     }
 
-    /// Reads the file from its beginning. Returns how many octets there were, as far as they have room. `None` if it is not there.
+    /// Reads the file from its beginning. Returns how many octets there were, as far as they have room. `None` if it is not there. Fails if it is no
+    /// plain file.
     fn line(&self, buf: &mut [u8]) -> io::Result<Option<usize>>
         ensures { IfOk result (λ found. IfSome found (λ n. n ≤ length buf.old)) }
     {
@@ -184,7 +184,8 @@ impl<R: fs::Files<File = File> + Drop> InstanceFile<R> {
         Ok(Some(read_up_to(&mut file, buf)?))
     }
 
-    /// Returns the number that the file holds. `None` if it is not there.
+    /// Returns the number that the file holds. `None` if it is not there. Fails with `InvalidData` if it holds any other text. Call it under the
+    /// lock.
     fn last(&self) -> io::Result<Option<InstanceId>>
         ensures { IfOk result (λ last. IfSome last (λ n. n < id_count)) }
     {
@@ -198,7 +199,8 @@ impl<R: fs::Files<File = File> + Drop> InstanceFile<R> {
         }
     }
 
-    /// Writes the number beside the file, and renames that to the file's name after it would survive a power cut.
+    /// Writes the number beside the file, and renames that to the file's name after it would survive a power cut. Waits until the new name would,
+    /// too. Call it under the lock.
     fn write(&self, instance: InstanceId) -> io::Result<()> {
         let line = number_line(self.alloc, instance)?;
         let mut how = to_write();

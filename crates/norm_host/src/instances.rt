@@ -20,7 +20,8 @@ pub fn minute_at(since_1970: Duration) -> InstanceId
     InstanceId((since_1970.as_secs() / 60 % u64::from(ID_COUNT)) as u16)
 }
 
-/// Returns the last instance that was taken, if `instance` does not lie above it.
+/// Returns the last instance that was taken, if `instance` does not lie above it: receivers that know the last one pass `instance` over, or take it
+/// for that one. `None` also if none was taken.
 pub(crate) fn passed_by(last: Option<InstanceId>, instance: InstanceId) -> Option<InstanceId>
     ensures { result ≡ passed_by last instance }
 {
@@ -62,7 +63,7 @@ pub fn next_instance(last: Option<InstanceId>, minute: InstanceId) -> InstanceId
     }
 }
 
-/// Returns the line that keeps a number.
+/// Returns the line that keeps a number: the only one from which [`number_in`] reads it.
 pub(crate) fn number_line(alloc: Global, number: InstanceId) -> Result<String, AllocError>
     ensures { IfOk result (λ line. string_bytes line ≡ number_line number) }
 {

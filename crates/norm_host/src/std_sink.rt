@@ -1,4 +1,4 @@
-//! A writer of std as a sink.
+//! Standard output as a sink: [`StdSink`]. `normd`, `replay` and test programs make one.
 
 ghost use Rattle.std.specs.Prelude.{◌≡◌, None, true, is_err, OnOk};
 ghost use Rattle.std.specs.Io.KnownBytes.{Appends};
@@ -8,8 +8,8 @@ ghost use Rattle.norm_host.specs.Streams.{writer_of};
 use norm_base::{Cause, Failed, Sink};
 use std::io::{self, Write};
 
-/// A writer of std as a sink. Each write flushes. Contracts cannot rely on what was written, except as the writer itself promises
-/// it: a write that was `Ok` wrote all octets.
+/// A writer of std as a sink. Each write flushes. Contracts cannot rely on what was written, except as the writer itself promises it: a write that
+/// was `Ok` wrote all octets. One that failed may have written some or all of them.
 #[derive(Drop)]
 pub struct StdSink<W> {
     writer: W,
@@ -18,7 +18,6 @@ pub struct StdSink<W> {
 }
 
 impl<W: Write> StdSink<W> {
-    /// Returns a sink that writes there.
     pub fn of(writer: W) -> StdSink<W>
         ensures writer { writer_of result ≡ writer }
         ensures faults { ⟦<StdSink<W> as Sink>⟧.fault_count result ≡ 0 }
@@ -35,7 +34,7 @@ impl<W: Write> StdSink<W> {
         self.cause.as_ref()
     }
 
-    /// Counts a failed write, and keeps why it failed.
+    /// Counts a failed write, and keeps why it failed in place of the cause before. Takes no memory.
     fn keep(&mut self, error: io::Error)
         ensures writer { writer_of self.new ≡ writer_of self.old }
         ensures counted { Counts self.old.faults self.new.faults true }

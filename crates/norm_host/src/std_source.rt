@@ -1,4 +1,4 @@
-//! A reader of std as a source.
+//! Standard input as a source: [`StdSource`]. `normd`, `replay` and test programs make one.
 
 ghost use Rattle.std.specs.Prelude.{◌≡◌, ◌↔◌, ◌+◌, ◌^◌, ◌<◌, ◌≤◌, None, Some, true, IsTrue, length, is_err, IfOk, OnOk, OnErr};
 ghost use Rattle.std.specs.Io.KnownBytes.{ReadConsumes};
@@ -8,7 +8,7 @@ ghost use Rattle.norm_host.specs.Streams.{reader_of};
 use norm_base::{Cause, Failed, Source};
 use std::io::{self, ErrorKind, Read};
 
-/// The most octets that a source gives.
+/// The most octets that a source gives in all its reads.
 // Our own choice, so that a count of octets always fits. No input is that long; beyond it a read fails.
 const MOST: u64 = (1 << 63) - 1;
 
@@ -24,7 +24,6 @@ pub struct StdSource<R> {
 }
 
 impl<R: Read> StdSource<R> {
-    /// Returns a source that reads from there.
     pub fn of(reader: R) -> StdSource<R>
         ensures reader { reader_of result ≡ reader }
         ensures given { ⟦<StdSource<R> as Source>⟧.given result ≡ 0 }
@@ -43,7 +42,7 @@ impl<R: Read> StdSource<R> {
         self.cause.as_ref()
     }
 
-    /// Counts a failed read, and keeps why it failed.
+    /// Counts a failed read, and keeps why it failed in place of the cause before. Takes no memory.
     fn keep(&mut self, error: io::Error)
         ensures reader { reader_of self.new ≡ reader_of self.old }
         ensures given { self.new.given ≡ self.old.given }
@@ -53,7 +52,7 @@ impl<R: Read> StdSource<R> {
         self.cause = Some(Cause::Input { error });
     }
 
-    /// Whether the source may give this many octets more.
+    /// Whether the source may give this many octets more: the room of a buffer, since a read may fill it.
     fn has_room(&self, more: u64) -> bool
         ensures { IsTrue result ↔ (self.now.given + more < 2 ^ 63) }
     {
