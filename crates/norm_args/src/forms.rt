@@ -22,14 +22,14 @@ pub(crate) fn session_form<'a>(alloc: Global) -> Result<Command<'a>, AllocError>
     Ok(command)
 }
 
-/// `show`.
+/// `show`, with no word after it.
 pub(crate) fn show_form<'a>(alloc: Global) -> Command<'a>
     ensures { app_of result ≡ show_form }
 {
     Command::new(alloc, "show")
 }
 
-/// `generate N`.
+/// `generate N`. Whether the word is a number is seen later.
 pub(crate) fn generate_form<'a>(alloc: Global) -> Result<Command<'a>, AllocError>
     ensures { IfOk result (λ command. app_of command ≡ generate_form) }
 {
@@ -67,8 +67,7 @@ pub(crate) fn hub_form<'a>(alloc: Global) -> Result<Command<'a>, AllocError>
     Ok(command)
 }
 
-/// Whether memory ran out.
-// `clap` takes memory to refuse, so `Memory` may come in place of a refusal.
+/// Whether `clap` gave up because memory ran out. It takes memory to refuse, so this may come in place of a refusal.
 fn is_memory(error: &Error) -> bool
     ensures { Decides result (kind_of error.now ≡ ErrorKind.OutOfMemory) }
 {

@@ -25,13 +25,13 @@ pub enum NodeTask {
         profile: Text,
         instance: Option<u32>,
     },
-    /// Runs the receiver of this id.
+    /// Runs the receiver of this id. Whether the profile has it is seen later.
     Receive(Text, NodeId),
     /// Hands on what members send.
     Hub(Text),
 }
 
-/// A copy of the profile's path, if the words have it.
+/// Copies the profile's path, as the shell gives it. `None` does not happen: each form that was found has it.
 fn profile_in(alloc: Global, matches: &ArgMatches<'_>) -> Result<Option<Text>, AllocError>
     ensures { IfOk result (λ profile. profile ≡ profile_in (rows_of (found_of matches.now))) }
 {
@@ -41,7 +41,7 @@ fn profile_in(alloc: Global, matches: &ArgMatches<'_>) -> Result<Option<Text>, A
     }
 }
 
-/// The instance of the option, if it is given. `None` if its word is not an instance.
+/// `Some(None)` if the option is not given. `None` if its word is not a number from 0 to 65535.
 fn instance_in(matches: &ArgMatches<'_>) -> Option<Option<u32>>
     ensures value { result ≡ instance_in (rows_of (found_of matches.now)) }
     ensures fits { IfSome result FitsInstance }
@@ -49,7 +49,7 @@ fn instance_in(matches: &ArgMatches<'_>) -> Option<Option<u32>>
     value_given(Key::Instance, word_in(matches, "instance"))
 }
 
-/// The node. `None` if its word is not the number of one.
+/// `None` if the word is not a number from 1 to 4294967294. Whether the profile has the node is seen later.
 fn node_in(matches: &ArgMatches<'_>) -> Option<NodeId>
     ensures { result ≡ node_in (rows_of (found_of matches.now)) }
 {
@@ -58,7 +58,6 @@ fn node_in(matches: &ArgMatches<'_>) -> Option<NodeId>
     NodeId::of(number)
 }
 
-/// The task of a sender. `None` if there is no path, or if the option's word is not an instance.
 fn send_of(profile: Option<Text>, given: Option<Option<u32>>) -> Option<NodeTask>
     requires { IfSome given FitsInstance }
     ensures task { result ≡ send_of profile given }
@@ -73,7 +72,6 @@ fn send_of(profile: Option<Text>, given: Option<Option<u32>>) -> Option<NodeTask
     }
 }
 
-/// The task of a receiver. `None` if there is no path, or if the second word is not a node.
 fn receive_of(profile: Option<Text>, node: Option<NodeId>) -> Option<NodeTask>
     ensures task { result ≡ receive_of profile node }
     ensures fits { IfSome result FitsNode }
@@ -87,7 +85,7 @@ fn receive_of(profile: Option<Text>, node: Option<NodeId>) -> Option<NodeTask>
     }
 }
 
-/// What words that begin with `send` ask for.
+/// `None` if the words do not fit the form, or if the instance that they give is none.
 fn send_in(alloc: Global, words: &[String]) -> Result<Option<NodeTask>, Memory>
     ensures task { IfOk result (λ task. task ≡ send_in (map string_bytes words.now)) }
     ensures fits { IfOk result (λ task. IfSome task FitsNode) }
@@ -102,7 +100,7 @@ fn send_in(alloc: Global, words: &[String]) -> Result<Option<NodeTask>, Memory>
     }
 }
 
-/// What words that begin with `recv` ask for.
+/// `None` if the words do not fit the form, or if the second is no number of a node.
 fn receive_in(alloc: Global, words: &[String]) -> Result<Option<NodeTask>, Memory>
     ensures task { IfOk result (λ task. task ≡ receive_in (map string_bytes words.now)) }
     ensures fits { IfOk result (λ task. IfSome task FitsNode) }
@@ -117,7 +115,7 @@ fn receive_in(alloc: Global, words: &[String]) -> Result<Option<NodeTask>, Memor
     }
 }
 
-/// What words that begin with `hub` ask for.
+/// `None` if the words do not fit the form.
 fn hub_in(alloc: Global, words: &[String]) -> Result<Option<NodeTask>, Memory>
     ensures task { IfOk result (λ task. task ≡ hub_in (map string_bytes words.now)) }
     ensures fits { IfOk result (λ task. IfSome task FitsNode) }

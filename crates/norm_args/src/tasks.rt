@@ -16,9 +16,9 @@ use std::alloc::Global;
 /// The options of a session. Each one that is given overrides a key of the script.
 #[derive(Clone, Copy, Debug)]
 pub struct Options {
-    /// The seed of the network's and the session's draws.
+    /// The seed of the draws of the network and of the receivers.
     pub chance: Option<u32>,
-    /// The last turn.
+    /// The most turns of the run.
     pub turns: Option<u32>,
 }
 
@@ -27,13 +27,13 @@ pub struct Options {
 pub enum Task {
     /// Runs the session of the script that the input is.
     Session(Options),
-    /// Shows the datagrams of the input.
+    /// Shows the datagrams of the input, one a line in hexadecimal.
     Show,
     /// Writes the script that is made of this number.
     Generate(u32),
 }
 
-/// The value that an option gives to a key, if the option is given. `None` if its word is not a number that the key may have.
+/// `Some(None)` if no word is given. `None` if the word is not a number that the key may have, in digits without a sign or a leading zero.
 pub(crate) fn value_given(key: Key, word: Option<&str>) -> Option<Option<u32>>
     ensures value { result ≡ value_given key (option_map (λ w. w.now) word.entry) }
     ensures fits { IfSome result (λ given. IfSome given (IsValue key)) }
@@ -53,7 +53,7 @@ pub(crate) fn word_in<'a>(matches: &ArgMatches<'a>, name: &str) -> Option<&'a st
     matches.get_str(name)
 }
 
-/// Both options. `None` if the word of one is not a number that its key may have.
+/// `None` if either is.
 fn options_with(chance: Option<Option<u32>>, turns: Option<Option<u32>>) -> Option<Options>
     requires chance { IfSome chance (λ given. IfSome given (IsValue Key.Chance)) }
     requires turns { IfSome turns (λ given. IfSome given (IsValue Key.Turns)) }
@@ -69,7 +69,7 @@ fn options_with(chance: Option<Option<u32>>, turns: Option<Option<u32>>) -> Opti
     }
 }
 
-/// The options of a session. `None` if the word of one is not a number that its key may have.
+/// `None` if the word of an option is not a number of its key: 0 to 4294967295 for `chance`, 1 to 4000000 for `turns`.
 fn options_in(matches: &ArgMatches<'_>) -> Option<Options>
     ensures value { result ≡ options_in (rows_of (found_of matches.now)) }
     ensures fits { IfSome result FitsOptions }
@@ -89,7 +89,7 @@ fn number_in(matches: &ArgMatches<'_>) -> Option<u32>
     }
 }
 
-/// What words that begin with `session` ask for.
+/// `None` if the words do not fit the form, or if an option gives a word that is no number of its key.
 fn session_in(alloc: Global, words: &[String]) -> Result<Option<Task>, Memory>
     ensures task { IfOk result (λ task. task ≡ session_in (map string_bytes words.now)) }
     ensures fits { IfOk result (λ task. IfSome task FitsTask) }
@@ -104,7 +104,7 @@ fn session_in(alloc: Global, words: &[String]) -> Result<Option<Task>, Memory>
     }
 }
 
-/// What words that begin with `show` ask for.
+/// `None` if the words do not fit the form.
 fn show_in(alloc: Global, words: &[String]) -> Result<Option<Task>, Memory>
     ensures task { IfOk result (λ task. task ≡ show_in (map string_bytes words.now)) }
     ensures fits { IfOk result (λ task. IfSome task FitsTask) }
@@ -115,7 +115,7 @@ fn show_in(alloc: Global, words: &[String]) -> Result<Option<Task>, Memory>
     }
 }
 
-/// What words that begin with `generate` ask for.
+/// `None` if the words do not fit the form, or if the one after `generate` is no number of 32 bits.
 fn generate_in(alloc: Global, words: &[String]) -> Result<Option<Task>, Memory>
     ensures task { IfOk result (λ task. task ≡ generate_in (map string_bytes words.now)) }
     ensures fits { IfOk result (λ task. IfSome task FitsTask) }

@@ -1,4 +1,4 @@
-//! A profile, as its document gives it.
+//! What a TOML document gives: [`Document`]. The readers of this crate return it.
 
 use norm_base::Profile;
 
@@ -7,6 +7,6 @@ use norm_base::Profile;
 pub struct Document {
     /// The profile. Keys that the document leaves out have their defaults.
     pub profile: Profile,
-    /// The first instance, 0 to 65,535, if the document gives it.
+    /// The first instance, 0 to 65,535. `None` if the document leaves it out; the profile then has the default.
     pub instance: Option<u32>,
 }

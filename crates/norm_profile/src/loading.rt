@@ -17,13 +17,13 @@ const PIECE: usize = 4_096;
 /// Why a file gives no profile.
 #[derive(Debug, Drop)]
 pub enum LoadFault {
-    /// The document is refused.
+    /// The document is refused, or the file is too long to be read.
     Refused { why: ProfileRefusal },
     /// There is no file of this name.
     Absent,
-    /// A call of the files failed.
+    /// A call of the files failed, and they counted it.
     Failed,
-    /// Memory ran out.
+    /// Memory ran out, which says nothing of the file.
     Memory,
 }
 
@@ -54,7 +54,6 @@ impl From<FileFault> for LoadFault {
     }
 }
 
-/// Returns how many octets the file of this name has.
 fn length_of<D: Files>(files: &mut D, name: &str) -> Result<u64, LoadFault>
     ensures same { D.contents files.new ≡ D.contents files.old }
     ensures value { IfOk result (λ len. IsLength (D.contents files.old) name.now len) }
@@ -96,7 +95,7 @@ fn read_piece<D: Files>(
     }
 }
 
-/// Reads all octets of a file of this length.
+/// Reads as many octets of a file, in pieces of at most 4,096. A file that grew meanwhile is cut at this length, and one that shrank is a fault.
 fn read_all<D: Files>(
     alloc: Global,
     files: &mut D,
@@ -148,7 +147,7 @@ pub fn load_document<D: Files>(
     }
 }
 
-/// Loads the profile that a file holds as TOML.
+/// Loads the profile that a file holds as TOML, for whoever need not know whether the file gives an instance.
 ///
 /// # Errors
 ///

@@ -17,7 +17,7 @@ use toml::{Table, Value};
 // Our own choice, far more than 26 keys need. A longer file is refused with `TooLong`, unread.
 pub(crate) const MOST_OCTETS: usize = 65_536;
 
-/// The value of a key that a whole number gives, if it is in the key's range.
+/// Refuses a number that is negative or out of the key's range as `NoValue`.
 fn number_for(key: Key, number: i64) -> Result<u32, ProfileRefusal>
     ensures { result ≡ number_for key number }
 {
@@ -28,7 +28,7 @@ fn number_for(key: Key, number: i64) -> Result<u32, ProfileRefusal>
     }
 }
 
-/// The value of a key that takes numbers, or why it is refused.
+/// Refuses any other value than a TOML integer as `NoNumber`: a float, or digits in quotation marks.
 fn number_given(key: Key, value: &Value) -> Result<u32, ProfileRefusal>
     ensures { result ≡ number_given key (view value.now) }
 {
@@ -38,7 +38,7 @@ fn number_given(key: Key, value: &Value) -> Result<u32, ProfileRefusal>
     }
 }
 
-/// The value of a key that takes words, or why it is refused.
+/// Returns the index of the word among those of the key. Refuses what is no text as `NoText`, and any other word as `NoValue`.
 fn word_given(key: Key, value: &Value) -> Result<u32, ProfileRefusal>
     ensures { result ≡ word_given key (view value.now) }
 {
@@ -51,7 +51,7 @@ fn word_given(key: Key, value: &Value) -> Result<u32, ProfileRefusal>
     }
 }
 
-/// The value of a key, or why it is refused.
+/// A key whose row has words takes these, and any other a whole number.
 fn value_given(key: Key, value: &Value) -> Result<u32, ProfileRefusal>
     ensures { result ≡ value_given key (view value.now) }
 {
@@ -62,7 +62,7 @@ fn value_given(key: Key, value: &Value) -> Result<u32, ProfileRefusal>
     }
 }
 
-/// The refusal of a name that no key has.
+/// Copies the name into the refusal. Fails only if memory runs out.
 fn no_key(alloc: Global, name: &str) -> Result<ProfileRefusal, AllocError>
     ensures { IfOk result (λ why. why ≡ refusal.NoKey name.now) }
 {
@@ -70,7 +70,7 @@ fn no_key(alloc: Global, name: &str) -> Result<ProfileRefusal, AllocError>
     Ok(ProfileRefusal::NoKey { name })
 }
 
-/// The values that a document gives to keys, or why one of its members is refused.
+/// Reads the members in the order of their names. The first that is refused ends it.
 fn given_in(alloc: Global, table: &Table) -> Result<Result<Given, ProfileRefusal>, Memory>
     ensures { IfOk result (λ given. given ≡ given_in (table_view table.now) nothing_given) }
 {
@@ -88,7 +88,7 @@ fn given_in(alloc: Global, table: &Table) -> Result<Result<Given, ProfileRefusal
     Ok(Ok(given))
 }
 
-/// Which of the two rules across keys is broken. Call it only if one is.
+/// Returns which of the two rules across keys is broken, and of two the one of `max_n`. Call it only if one is.
 fn broken_rule(given: &Given) -> ProfileRefusal
     ensures { result ≡ broken_rule (value_in given.now) }
 {
@@ -104,7 +104,7 @@ fn broken_rule(given: &Given) -> ProfileRefusal
     }
 }
 
-/// The first instance, if the document gives it.
+/// `None`, and not the default, if the document gives no instance.
 fn instance_given(given: &Given) -> Option<u32>
     ensures { result ≡ given_at given.now Key.Instance }
 {
@@ -115,7 +115,7 @@ fn instance_given(given: &Given) -> Option<u32>
     }
 }
 
-/// The document with these values, or the rule across keys that they break.
+/// Keys without a value have their defaults before the rules across keys are checked.
 fn document_with(given: &Given) -> Result<Document, ProfileRefusal>
     ensures { result ≡ document_with given.now }
 {
@@ -128,7 +128,6 @@ fn document_with(given: &Given) -> Result<Document, ProfileRefusal>
     }
 }
 
-/// The document in a table, or why it is refused.
 fn document_of(alloc: Global, table: &Table) -> Result<Result<Document, ProfileRefusal>, Memory>
     ensures { IfOk result (λ document. document ≡ document_of (table_view table.now)) }
 {
@@ -138,11 +137,12 @@ fn document_of(alloc: Global, table: &Table) -> Result<Result<Document, ProfileR
     }
 }
 
-/// Reads the profile in a text, and the first instance that it gives.
+/// Reads the profile in a text, and the first instance that it gives. The inner result is a refusal if the text is too long or no TOML document; else
+/// of the first key, in the order of names, that is refused; else if a rule across keys is broken.
 ///
 /// # Errors
 ///
-/// `Memory` if memory runs out. The refusal within names the first key, in the order of names, that is refused.
+/// `Memory` if memory runs out.
 pub fn read_text(alloc: Global, text: &str) -> Result<Result<Document, ProfileRefusal>, Memory>
     ensures { IfOk result (λ document. document ≡ document_in text.now) }
 {
@@ -157,7 +157,8 @@ pub fn read_text(alloc: Global, text: &str) -> Result<Result<Document, ProfileRe
     }
 }
 
-/// Reads the profile in the octets of a file, and the first instance that it gives. Octets that are not UTF-8 are refused as no document.
+/// Reads the profile in the octets of a file, and the first instance that it gives. Octets that are not UTF-8 are refused as no document, unless they
+/// are too many.
 ///
 /// # Errors
 ///

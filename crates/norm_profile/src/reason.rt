@@ -4,7 +4,7 @@ use crate::refusal::ProfileRefusal;
 use norm_base::Key;
 use std::{fmt, str};
 
-/// Prints which values a key takes.
+/// Prints the key with the range of its numbers, or with all its words in quotation marks.
 fn say_values<W: fmt::Write>(key: Key, f: &mut fmt::Formatter<W>) -> fmt::Result {
     let row = key.row();
     match row.words {

@@ -1,24 +1,24 @@
-//! Why a profile is refused.
+//! [`ProfileRefusal`], which all readers of this crate return. `reason` prints it.
 
 use norm_base::{Key, Text};
 
-/// Why a document is not that of a profile.
+/// Why a document is not that of a profile. `Display` gives the sentence for the user.
 #[derive(Debug, Drop)]
 pub enum ProfileRefusal {
-    /// It has more than 65,536 octets.
+    /// It has more than 65,536 octets, and was not read as TOML.
     TooLong,
-    /// It is not a TOML document, or not UTF-8.
+    /// It is not UTF-8, or not a TOML document, for example with a key that stands twice.
     NoDocument,
     /// There is no key of this name.
     NoKey { name: Text },
     /// The key takes a whole number, and the value is something else.
     NoNumber { key: Key },
-    /// The key takes a text, and the value is something else.
+    /// The key takes one of its words as a text, and the value is something else.
     NoText { key: Key },
     /// The number or the word is not among the key's values.
     NoValue { key: Key },
-    /// The values make `max_n` less than `b`.
+    /// `max_n` is less than `b`, so that a block would have fewer symbols than source symbols. Either may be a default.
     MaxBelowB { max_n: u32, b: u32 },
-    /// The values make a stream's buffer, of `blocks` * `b` * `e` octets, too long.
+    /// A stream's buffer, of `blocks` * `b` * `e` octets, would have more than 16,777,216. Each may be a default.
     Buffer { blocks: u32, b: u32, e: u32 },
 }
