@@ -29,7 +29,7 @@ fn keep_what_is_freed(alloc: Global) -> Result<(), Memory> {
     Ok(())
 }
 
-/// Tells the files the paths of the profiles that the words ask for.
+/// Tells the files the path of the profile, if the words ask for a node. Does nothing if the words were not read.
 fn tell(
     alloc: Global,
     words: &Result<Vec<String>, WordsFault>,
@@ -67,7 +67,7 @@ fn sends_much(words: &Result<Vec<String>, WordsFault>) -> bool {
     }
 }
 
-/// Returns the network of the process. If the words ask for a node that sends much, threads send for it, if they can be made.
+/// Returns the network of the process. If the words ask for a node that sends much, threads send for it, if they can be made. Opens no socket.
 fn network<R: Net + Threads + Wait + Clock + Copy + Send + Drop + 'static>(
     rt: R,
     alloc: Global,

@@ -1,5 +1,5 @@
 //! The instance of a send. [`number`], which `main` calls before the program runs, keeps one that the words or the profile give, so that later sends
-//! lie above it. If none is given, it draws one above each that this user's earlier sends took, and puts it into the words.
+//! lie above it. If none is given, it draws one above the last that this user's sends of the sender took at the port, and puts it into the words.
 
 use norm_args::{NodeTask, node_task_of};
 use norm_base::{InstanceId, Memory, Profile};
@@ -10,7 +10,7 @@ use std::alloc::Global;
 use std::io;
 use std::time::Clock;
 
-/// The file that keeps the numbers of one sender.
+/// The file that keeps the last instance of one sender. The watched sink reports each restart to it.
 #[derive(Drop)]
 pub(crate) struct Numbers {
     rt: HostRuntime,
@@ -31,8 +31,8 @@ impl Numbers {
         }))
     }
 
-    /// Keeps an instance that was given. If it does not lie above the last one, standard error warns. The send uses it in any case, also if it cannot
-    /// be kept: whoever gives instances sees to it that they rise.
+    /// Keeps an instance that was given. If it does not lie above the last one, that one stays, and standard error warns. The send uses it in any
+    /// case, also if it cannot be kept: whoever gives instances sees to it that they rise.
     fn keep(&self, instance: InstanceId) {
         // A given instance is used in any case: whoever gives it may have started all receivers anew.
         if let Ok(Some(last)) = self.file.keep(instance) {
@@ -45,13 +45,13 @@ impl Numbers {
         }
     }
 
-    /// Takes the next instance, by the clock.
+    /// Takes and keeps the next instance, by the minute of the clock. Fails if the clock or the file does.
     fn draw(&self) -> io::Result<InstanceId> {
         let now = self.rt.since_1970()?;
         self.file.draw(minute_at(now))
     }
 
-    /// Returns the fault to report if no instance could be taken.
+    /// Returns the fault to report if no instance could be taken. One of the clock is reported with the path of the file too.
     fn into_fault(self, error: io::Error) -> InstanceFault {
         self.file.into_fault(error)
     }
@@ -63,14 +63,14 @@ impl Restarts for Numbers {
     }
 }
 
-/// What words ask for of a send.
+/// A send that words ask for. `path` is that of its profile, as the shell gives it.
 #[derive(Drop)]
 struct Asked {
     path: String,
     instance: Option<u32>,
 }
 
-/// Returns what the words ask for, if it is a send.
+/// `None` if the words ask for anything else, or are no command.
 fn asked_by(alloc: Global, words: &[String]) -> Result<Option<Asked>, Memory> {
     match node_task_of(alloc, words)? {
         Some(NodeTask::Send { profile, instance }) => Ok(Some(Asked {
@@ -81,7 +81,8 @@ fn asked_by(alloc: Global, words: &[String]) -> Result<Option<Asked>, Memory> {
     }
 }
 
-/// Loads the profile at a path. `None` if it cannot be loaded, which the program says when it loads it.
+/// Loads the profile at a path, by files of its own, so that no fault is counted twice. `None` if it cannot be loaded, which the program says when it
+/// loads it.
 fn document_at(rt: HostRuntime, alloc: Global, path: &str) -> Result<Option<Document>, Memory> {
     let mut files = FolderFiles::of(alloc, rt, ".")?;
     files.tell(path)?;
@@ -93,7 +94,7 @@ fn document_at(rt: HostRuntime, alloc: Global, path: &str) -> Result<Option<Docu
     }
 }
 
-/// Puts an instance into the words, after the first.
+/// Puts an instance into the words, as `--instance=I` after the first.
 fn put(alloc: Global, words: &mut Vec<String>, instance: InstanceId) -> Result<(), Memory> {
     let instance = instance.0;
     // Into the words, as if a person had given it: so the program's one function has the instance in its words, and no clause knows of drawn ones.
@@ -114,7 +115,7 @@ fn keep_given(numbers: &Option<Numbers>, given: u32) {
     }
 }
 
-/// Draws an instance and puts it into the words. If none can be drawn, it stops the files, so that nothing is sent.
+/// Draws an instance and puts it into the words. If none can be drawn, it stops the files, so that nothing is sent, and returns `None`.
 fn draw(
     alloc: Global,
     numbers: Option<Numbers>,

@@ -9,19 +9,19 @@ use norm_text::{Line, kind_word};
 use row_words::Fault;
 use std::alloc::Global;
 
-/// Begins a line with one word.
+/// Begins a line with one word, to which others may be added. Fails only if memory runs out.
 pub(crate) fn said(alloc: Global, word: &str) -> Result<Line, Fault> {
     Ok(Line::begin(alloc, word.as_bytes(), 0)?)
 }
 
-/// Begins a line with a word and numbers.
+/// Begins a line with a word and decimal numbers. Fails only if memory runs out.
 pub(crate) fn counted(alloc: Global, word: &str, numbers: &[u64]) -> Result<Line, Fault> {
     let mut line = said(alloc, word)?;
     line.numbers(numbers)?;
     Ok(line)
 }
 
-/// Begins a line for a refused command: the reason and its numbers.
+/// Begins the line of a refused command: `refused`, the reason and its numbers.
 fn refused(alloc: Global, word: &str, numbers: &[u64]) -> Result<Line, Fault> {
     let mut line = said(alloc, "refused")?;
     line.word(word.as_bytes())?;
@@ -58,7 +58,7 @@ pub(crate) fn decided(line: &mut Line, is_so: bool) -> Result<(), Fault> {
     Ok(())
 }
 
-/// Returns the line of a hand-up.
+/// Returns the line of a hand-up, with the octets of an object or a stream in hexadecimal.
 pub(crate) fn taken(alloc: Global, up: &Up) -> Result<Line, Fault> {
     match up {
         Up::Object {
@@ -92,7 +92,7 @@ pub(crate) fn taken(alloc: Global, up: &Up) -> Result<Line, Fault> {
     }
 }
 
-/// Returns the line of a watermark's outcome.
+/// Returns the line of a watermark's outcome. `left` is how many members have not confirmed it.
 fn ended(alloc: Global, mark: u32, outcome: Outcome) -> Result<Line, Fault> {
     let mut line = counted(alloc, "done", &[u64::from(mark)])?;
     match outcome {
@@ -110,7 +110,6 @@ fn ended(alloc: Global, mark: u32, outcome: Outcome) -> Result<Line, Fault> {
     Ok(line)
 }
 
-/// Returns the line of a sender's news.
 pub(crate) fn told(alloc: Global, news: News) -> Result<Line, Fault> {
     match news {
         News::Past { node, at } => counted(
@@ -127,7 +126,6 @@ pub(crate) fn told(alloc: Global, news: News) -> Result<Line, Fault> {
     }
 }
 
-/// Returns the line of an accepted command.
 fn received(alloc: Global, receipt: Receipt) -> Result<Line, Fault> {
     match receipt {
         Receipt::Object { index, len } => counted(alloc, "object", &[u64::from(index), len]),
@@ -151,7 +149,6 @@ fn received(alloc: Global, receipt: Receipt) -> Result<Line, Fault> {
     }
 }
 
-/// Returns the line of a stream's refusal.
 fn stream_refused(alloc: Global, fault: StreamFault) -> Result<Line, Fault> {
     match fault {
         StreamFault::Closed => refused(alloc, "closed", &[]),
@@ -160,7 +157,7 @@ fn stream_refused(alloc: Global, fault: StreamFault) -> Result<Line, Fault> {
     }
 }
 
-/// Returns the line of a command that enqueued nothing.
+/// Returns the line of a command that enqueued nothing. A lack of memory is no refusal, and its line is `memory`.
 fn enqueue_refused(alloc: Global, fault: EnqueueFault) -> Result<Line, Fault> {
     match fault {
         EnqueueFault::Empty => refused(alloc, "empty", &[]),
@@ -175,7 +172,6 @@ fn enqueue_refused(alloc: Global, fault: EnqueueFault) -> Result<Line, Fault> {
     }
 }
 
-/// Returns the line of a refused mark.
 fn mark_refused(alloc: Global, fault: MarkFault) -> Result<Line, Fault> {
     match fault {
         MarkFault::Quorum { q } => refused(alloc, "quorum", &[u64::from(q)]),
@@ -185,7 +181,6 @@ fn mark_refused(alloc: Global, fault: MarkFault) -> Result<Line, Fault> {
     }
 }
 
-/// Returns the line of a refused strike.
 fn strike_refused(alloc: Global, fault: StrikeFault) -> Result<Line, Fault> {
     match fault {
         StrikeFault::NotMember { node } => {
@@ -197,7 +192,7 @@ fn strike_refused(alloc: Global, fault: StrikeFault) -> Result<Line, Fault> {
     }
 }
 
-/// Returns the line of a refused command.
+/// Returns the line of a refused command, with a reason of its own for each fault.
 fn command_refused(alloc: Global, fault: SendFault) -> Result<Line, Fault> {
     match fault {
         SendFault::Enqueue(fault) => enqueue_refused(alloc, fault),
@@ -208,7 +203,7 @@ fn command_refused(alloc: Global, fault: SendFault) -> Result<Line, Fault> {
     }
 }
 
-/// What a command gave.
+/// Returns the line of a command: its receipt, or why it is refused.
 pub(crate) fn commanded(alloc: Global, gave: Result<Receipt, SendFault>) -> Result<Line, Fault> {
     match gave {
         Ok(receipt) => received(alloc, receipt),

@@ -33,7 +33,7 @@ fn file(alloc: Global, words: &mut Words<'_>) -> Result<Option<Job>, Fault> {
     Ok(Some(Job::File { name, bytes }))
 }
 
-/// Makes the command that writes these octets to the open stream.
+/// Makes the command that writes these octets to the open stream. `None` if the words had none.
 fn write(bytes: Option<Octets>) -> Option<Job> {
     Some(Job::Write { bytes: bytes? })
 }
@@ -48,21 +48,21 @@ fn mark(words: &mut Words<'_>) -> Option<Job> {
     })
 }
 
-/// Reads the instance that a restart begins.
+/// Reads the instance that a restart begins. `None` if the next word is no number below 65,536.
 fn restart(words: &mut Words<'_>) -> Option<Job> {
     Some(Job::Restart {
         instance: InstanceId(words.number16()?),
     })
 }
 
-/// Reads the node that is struck.
+/// `None` if the next word is no node's id.
 fn strike(words: &mut Words<'_>) -> Option<Job> {
     Some(Job::Strike {
         node: words.node()?,
     })
 }
 
-/// Returns the command that the words spell, or `None` if they spell none.
+/// Returns the command that the words spell, or `None` if they spell none. Words that are left are a fault later, of whoever calls the node.
 ///
 /// # Errors
 ///

@@ -7,7 +7,7 @@ use norm_base::{InstanceId, Key, NodeId};
 use row_words::{Fault, Words};
 use std::str::Lines;
 
-/// A call of a node.
+/// A call of a node. `Take` is of a receiver only, and `Command` and `News` of a sender only.
 #[derive(Drop)]
 pub(crate) enum Verb {
     Deliver,
@@ -18,7 +18,7 @@ pub(crate) enum Verb {
     Tell,
 }
 
-/// A line of the input.
+/// A line of the input that is not empty, read up to the arguments of a call.
 #[derive(Drop)]
 pub(crate) enum Event {
     /// Sets a key of the next node's profile.
@@ -44,14 +44,13 @@ fn set(words: &mut Words<'_>) -> Option<Event> {
     Some(Event::Set { key, value })
 }
 
-/// Reads the node id of a receiver.
 fn receiver(words: &mut Words<'_>) -> Option<Event> {
     Some(Event::Receiver {
         node: words.node()?,
     })
 }
 
-/// Reads the instance of a sender.
+/// Reads the instance of a sender, a number below 65,536.
 fn sender(words: &mut Words<'_>) -> Option<Event> {
     let instance = InstanceId(words.number16()?);
     Some(Event::Sender { instance })
@@ -91,7 +90,7 @@ pub(crate) struct Events<'a> {
 }
 
 impl<'a> Events<'a> {
-    /// Returns the events of a text, none of them read.
+    /// Returns the events of a text. Reads none of them, and takes no memory.
     pub(crate) fn of(text: &'a str) -> Events<'a> {
         Events {
             lines: text.lines(),

@@ -43,7 +43,7 @@ fn answer<N: Node, K: Sink>(
     print(answer, output)
 }
 
-/// Prints the name of a row. It changes no node and no key.
+/// Prints the name of a row, which is one word. It changes no node and no key.
 pub(crate) fn name_row<K: Sink>(
     alloc: Global,
     events: &mut Events<'_>,

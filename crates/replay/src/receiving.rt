@@ -49,7 +49,7 @@ fn tick(
     Ok(Some(sent(alloc, given, out)?))
 }
 
-/// Takes the next hand-up.
+/// Takes the next hand-up. The line is `none` if there is none.
 fn take(alloc: Global, receiver: &mut Receiver) -> Result<Option<Line>, Fault> {
     match receiver.take_up() {
         Some(up) => Ok(Some(taken(alloc, &up)?)),
@@ -100,7 +100,7 @@ impl Node for Receiver {
     }
 }
 
-/// Begins a receiver and follows the calls of it. Returns the first event after them.
+/// Begins a receiver and follows the calls of it. Returns the first event that is none of them, and `None` at the end of the input.
 pub(crate) fn run_receiver<K: Sink>(
     alloc: Global,
     profile: &Profile,

@@ -70,7 +70,7 @@ fn follow<K: Sink>(
     }
 }
 
-/// Replays a text, event by event.
+/// Replays a text up to its end or the first fault. What was printed before stays.
 fn replay_text<K: Sink>(alloc: Global, text: &str, output: &mut K) -> Result<(), Fault> {
     let mut events = Events::of(text);
     let mut keys = Keys {

@@ -30,7 +30,7 @@ fn deliver(
     Ok(Some(said(alloc, "done")?))
 }
 
-/// Reads a moment and ticks.
+/// Reads a moment and ticks, also if news were not taken yet.
 fn tick(
     alloc: Global,
     sender: &mut Driven,
@@ -68,7 +68,7 @@ fn command(
     Ok(Some(commanded(alloc, gave)?))
 }
 
-/// Takes the sender's next news.
+/// Takes the sender's next news. The line is `none` if there are none.
 fn news(alloc: Global, sender: &mut Driven) -> Result<Option<Line>, Fault> {
     match sender.news() {
         Some(news) => Ok(Some(told(alloc, news)?)),
@@ -105,7 +105,7 @@ impl Node for Driven {
     }
 }
 
-/// Begins a sender and follows the calls of it. Returns the first event after them.
+/// Begins a sender and follows the calls of it. Returns the first event that is none of them, and `None` at the end of the input.
 pub(crate) fn run_sender<K: Sink>(
     alloc: Global,
     profile: &Profile,
