@@ -16,13 +16,13 @@ use std::alloc::Global;
 use std::sync::Wait;
 use std::thread::Threads;
 
-/// A board with one reader. `Memory` if memory runs out.
+/// A board with one reader, which is dropped: the program asks no board what became of its marks. `Memory` if memory runs out.
 fn board_of(alloc: Global) -> Result<Board, Memory> {
     let (board, _readers) = Board::new(alloc, 1)?;
     Ok(board)
 }
 
-/// Runs a script's session and returns how it ended, with its journal.
+/// Runs a script's session and returns how it ended, with its journal. If memory runs out for the board, nothing is called.
 pub(crate) fn run_session<R: Threads + Wait + Sync, K: Sink, F: Fabric, D: Files, C: Clock>(
     rt: &R,
     alloc: Global,
@@ -50,7 +50,7 @@ pub(crate) fn run_session<R: Threads + Wait + Sync, K: Sink, F: Fabric, D: Files
     )
 }
 
-/// Runs only the sender of a script's session. Returns whether everything was done.
+/// Runs only the sender of a script's session. Returns whether everything was done. If memory runs out for the board, nothing is called.
 pub(crate) fn run_send<R: Threads + Wait + Sync, K: Sink, F: Fabric, D: Files, C: Clock>(
     rt: &R,
     alloc: Global,

@@ -21,7 +21,7 @@ fn is_in_range(profile: &Profile)
     let _producers = profile.producers;
 }
 
-/// Reads the text as a script for a sender of this profile. Returns the refused line and its reason if there is one.
+/// Reads the text as a script for a sender of this profile. Returns the first refused line and its reason if there is one.
 ///
 /// # Errors
 ///
@@ -44,7 +44,8 @@ fn commands_in(
     }
 }
 
-/// Reads the text as a script for a sender of this profile. If a line is refused, writes the last line and returns the ending.
+/// Reads the text as a script for a sender of this profile. If a line is refused, writes the last line and returns the ending; if memory runs out,
+/// writes nothing and returns `Memory`.
 fn read_commands_in<K: Sink>(
     alloc: Global,
     profile: &Profile,

@@ -27,7 +27,7 @@ fn pass_on<S: Source, K: Sink, F: Fabric, D: Files, C: Clock>(
     }
 }
 
-/// Loads the profile at a path, runs its hub, and returns the ending.
+/// Loads the profile at a path, runs its hub, and returns the ending. If the profile cannot be loaded, starts no network.
 pub(crate) fn end_hub<S: Source, K: Sink, F: Fabric, D: Files, C: Clock>(
     alloc: Global,
     path: Text,

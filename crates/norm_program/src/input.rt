@@ -10,12 +10,10 @@ use crate::status::Ending;
 use norm_base::{Failed, Sink, Source};
 use std::alloc::{AllocError, Global};
 
-/// Why the input was not read whole.
+/// Why [`read_all`] returned no text. What was read before is lost.
 #[derive(Clone, Copy, Debug, PartialEq, Eq)]
 enum InputFault {
-    /// A read failed.
     Read,
-    /// Memory ran out.
     Memory,
 }
 
@@ -35,7 +33,7 @@ impl From<Failed> for InputFault {
     }
 }
 
-/// Reads up to the end of the input, 4,096 octets at a time.
+/// Reads up to the end of the input, 4,096 octets at a time. Takes memory for all of it: only memory limits how long it may be.
 fn read_all<S: Source>(alloc: Global, input: &mut S) -> Result<Vec<u8>, InputFault>
     ensures octets { IfOk result (λ text. IsInput text.items (S.left input.old) (S.left input.new)) }
     ensures cause { ReadCause result (S.fault_count input.old) (S.fault_count input.new) }
@@ -51,7 +49,8 @@ fn read_all<S: Source>(alloc: Global, input: &mut S) -> Result<Vec<u8>, InputFau
     }
 }
 
-/// Reads the input whole. If a read fails, writes the last line `fault read`. Returns the ending if there is no text.
+/// Reads the input whole. If a read fails, writes the last line `fault read` and returns `Read`; if memory runs out, writes nothing and returns
+/// `Memory`.
 pub(crate) fn read_input<S: Source, K: Sink>(
     alloc: Global,
     input: &mut S,

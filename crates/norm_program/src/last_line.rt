@@ -15,7 +15,7 @@ pub(crate) fn say<K: Sink>(output: &mut K, line: &[u8])
     let _ = output.write(line);
 }
 
-/// The line for a refused line `n` of the input.
+/// Returns the last line that names line `n` of the input, counted from 1. Fails only if memory runs out.
 #[tactic(auto, unfolding(crate::specs::Ends::refused_line))]
 pub(crate) fn refused_line(alloc: Global, n: u64) -> Result<String, AllocError>
     ensures { IfOk result (λ text. string_bytes text ≡ refused_line n) }
@@ -23,7 +23,7 @@ pub(crate) fn refused_line(alloc: Global, n: u64) -> Result<String, AllocError>
     format!(in alloc; "refused line {n}\n")
 }
 
-/// The line for an absent file.
+/// Returns the last line that names a file which is not there. Fails only if memory runs out.
 #[tactic(auto, unfolding(crate::specs::Ends::absent_line))]
 fn absent_line(alloc: Global, name: &str) -> Result<String, AllocError>
     ensures { IfOk result (λ text. string_bytes text ≡ absent_line name.now) }
@@ -62,7 +62,8 @@ pub(crate) fn say_absent<K: Sink>(alloc: Global, name: Text, output: &mut K) -> 
     }
 }
 
-/// Returns how a fault of the session ends the program, and writes the last line, if the ending has one.
+/// Returns how a fault of the session ends the program, and writes the last line. There is none after a failed write or a lack of memory, also one
+/// for that line.
 pub(crate) fn stop_session<K: Sink>(alloc: Global, fault: SessionFault, output: &mut K) -> Ending
     ensures { IsStoppedEnding fault result (K.pieces output.old) (K.pieces output.new)
         (K.fault_count output.old) (K.fault_count output.new) }

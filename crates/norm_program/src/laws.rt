@@ -1,4 +1,5 @@
-//! Promises about the statuses of failed calls. Each law is the contract of a function that does nothing.
+//! Promises about the statuses of failed calls. Each law is the contract of a function that does nothing. That no call failed means that their count
+//! stayed as it was, and is below 2^64 - 1.
 
 ghost use Rattle.norm_program.specs.Laws.{FourIsOfReads, FiveIsOfWrites, SixIsOfTheNetwork, SevenIsOfFiles};
 

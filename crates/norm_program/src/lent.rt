@@ -1,17 +1,16 @@
-//! Lends the outside to a command as one value.
+//! Lends the outside to a command as one value. `program` makes it, and commands pass it on.
 
 ghost use Rattle.std.specs.Prelude.{◌≡◌};
 
 /// The five objects of the outside, borrowed for one command. The caller keeps them and sees what the command did.
 #[derive(Drop)]
 pub(crate) struct Lent<'a, S, K, F, D, C> {
-    /// Gives the octets of the input.
+    /// Only `session`, `send` and `show` read it.
     pub input: &'a mut S,
-    /// Takes the lines.
     pub output: &'a mut K,
-    /// Takes and gives datagrams.
+    /// Only `session`, `send`, `recv` and `hub` call it.
     pub fabric: &'a mut F,
-    /// Reads and puts files.
+    /// Only `recv` puts files.
     pub files: &'a mut D,
     /// Gives the moments of turns if the profile's `step` is 0.
     pub clock: &'a mut C,

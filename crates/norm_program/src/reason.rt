@@ -47,7 +47,7 @@ fn say_extra<W: fmt::Write>(word: &str, others: &[String], f: &mut fmt::Formatte
     }
 }
 
-/// Says why these words are refused, of which `word` is the first.
+/// Says why words are refused. Only for `show` does it look at the words after the first, `word`: of the others it says what they take.
 fn say_first<W: fmt::Write>(word: &str, others: &[String], f: &mut fmt::Formatter<W>) -> fmt::Result
     ensures { DisplaysOnOk W.write_str_gives f.old result (Some (words_reason (word.now ∷ map string_bytes others.now))) f.new }
 {
@@ -83,7 +83,6 @@ fn say_words<W: fmt::Write>(words: &[String], f: &mut fmt::Formatter<W>) -> fmt:
     }
 }
 
-/// Says that a node is no receiver of a profile, whose receivers are `first` to `last`.
 fn say_node<W: fmt::Write>(
     node: u32,
     first: u32,
@@ -178,7 +177,7 @@ pub fn say_cause<C: fmt::Display>(rt: &impl Eprint, cause: Option<&C>) {
     }
 }
 
-/// Returns what was made. If memory ran out, says so on standard error and returns the exit code to end with.
+/// Returns what was made. If memory ran out, says so on standard error and returns the exit code to end with, 1.
 pub fn needed<T>(rt: &impl Eprint, made: Result<T, Memory>) -> Result<T, ExitCode>
     ensures { MatchResult result (λ x. made ≡ Ok x) (λ code. exit_status code ≡ status_of ending.Memory) }
 {

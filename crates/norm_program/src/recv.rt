@@ -50,7 +50,7 @@ fn receive<S: Source, K: Sink, F: Fabric, D: Files, C: Clock>(
     }
 }
 
-/// Loads the profile at a path, runs the receiver of a node, and returns the ending.
+/// Loads the profile at a path, runs the receiver of a node, and returns the ending. If the profile cannot be loaded, starts no network.
 pub(crate) fn end_receive<S: Source, K: Sink, F: Fabric, D: Files, C: Clock>(
     alloc: Global,
     path: Text,

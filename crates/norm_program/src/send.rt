@@ -18,7 +18,7 @@ use std::alloc::Global;
 use std::sync::Wait;
 use std::thread::Threads;
 
-/// The profile with this instance if one is given, and its own otherwise.
+/// Overrides the first instance of the profile, if one is given. The words give none above 65535, so none is cut.
 fn with_instance(profile: Profile, instance: Option<u32>) -> Profile
     requires { FitsInstance instance }
     ensures { result ≡ with_instance instance profile }
@@ -61,7 +61,8 @@ fn send<R: Threads + Wait + Sync, S: Source, K: Sink, F: Fabric, D: Files, C: Cl
     }
 }
 
-/// Loads the profile at a path, runs its sender with the instance if one is given, and returns the ending.
+/// Loads the profile at a path, runs its sender with the instance if one is given, and returns the ending. If the profile cannot be loaded, does not
+/// read the input.
 pub(crate) fn end_send<R: Threads + Wait + Sync, S: Source, K: Sink, F: Fabric, D: Files, C: Clock>(
     rt: &R,
     alloc: Global,

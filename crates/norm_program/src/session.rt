@@ -33,7 +33,7 @@ fn profile_with(profile: Profile, options: Options) -> Profile
     }
 }
 
-/// A script whose profile is overridden by the options.
+/// Overrides the profile of a script by the options, and leaves its lines as they are.
 fn script_with(script: Script, options: Options) -> Script
     requires { FitsOptions options }
     ensures { result ≡ script_with options script }
@@ -43,7 +43,8 @@ fn script_with(script: Script, options: Options) -> Script
     Script { profile, lines }
 }
 
-/// Reads the text as a script and overrides its keys with the options. If a line is refused, writes the last line and returns the ending.
+/// Reads the text as a script and overrides its keys with the options. If a line is refused, writes the last line and returns the ending; if memory
+/// runs out, writes nothing and returns `Memory`.
 fn read_text<K: Sink>(
     alloc: Global,
     text: &[u8],

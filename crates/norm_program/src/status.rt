@@ -30,7 +30,7 @@ impl Model for Status {
 }
 
 impl Status {
-    /// The status as a process returns it.
+    /// Returns the number with which the process exits, from 0 to 9.
     pub fn code(&self) -> u8
         ensures { result ≡ self.now }
     {
@@ -46,7 +46,7 @@ impl From<Status> for ExitCode {
     }
 }
 
-/// Why a profile is refused, or a node under it.
+/// Why a profile is refused, or a node that it does not have as a receiver.
 #[derive(Debug, Drop)]
 pub enum ProfileFault {
     /// The document is not that of a profile.
@@ -55,16 +55,16 @@ pub enum ProfileFault {
     Node { node: NodeId, first: u32, last: u32 },
 }
 
-/// How the program ended.
+/// How the program ended. [`Ending::status`] returns its exit status, and [`run`](crate::run) says the reason on standard error.
 #[derive(Debug, Drop)]
 pub enum Ending {
-    /// Everything was done.
+    /// Everything was done. Of a receiver and the hub: all their turns were made.
     Done,
     /// Everything was shown, and at least one datagram was refused.
     Datagram,
-    /// Memory ran out.
+    /// Memory ran out. There is no last line.
     Memory,
-    /// The words are not a command.
+    /// The words are not a command, or one is not UTF-8.
     Words,
     /// A line of the script has no meaning. `refusal` says which line and why.
     Refused { refusal: Refusal },
@@ -72,15 +72,16 @@ pub enum Ending {
     Line { number: u64, why: NoDatagram },
     /// The profile is refused, or the node is not one of its receivers.
     Profile { why: ProfileFault },
-    /// A read of the input failed.
+    /// A read of the input failed. Nothing of a script was run, and `show` wrote the lines before.
     Read,
-    /// A write of the output failed.
+    /// A write of the output failed. That of a last line is not meant, except of `turns spent`.
     Write,
-    /// A call of the network failed.
+    /// A call of the network failed, which [`say_cause`](crate::say_cause) explains. It is an error of the system, or a node alone over a network in
+    /// memory.
     Fabric,
-    /// A call of the files failed.
+    /// A call of the files failed, of a profile, a script's file or one that was handed up. [`say_cause`](crate::say_cause) explains it.
     Files,
-    /// There is no file of this name.
+    /// The profile, or a file that the script sends, is not there.
     Absent { name: Text },
     /// The session spent its turns before everything was done.
     Spent,
@@ -95,7 +96,7 @@ impl From<AllocError> for Ending {
 }
 
 impl Ending {
-    /// The exit status. Several endings share one: 3 if something is refused, 7 if a file is absent or a call of the files failed.
+    /// Returns the exit status. Several endings share one: 3 if something is refused, 7 if a file is absent or a call of the files failed.
     pub fn status(&self) -> Status
         ensures { result ≡ status_of self.now }
     {

@@ -20,7 +20,7 @@ use std::{env, io};
 pub enum WordsFault {
     /// A word is not UTF-8.
     NotText,
-    /// Memory ran out.
+    /// Memory ran out. Nothing is written to the output then.
     Memory,
 }
 
@@ -74,7 +74,7 @@ fn one_path(alloc: Global, path: Text) -> Result<Vec<Text>, Memory>
     Ok(paths)
 }
 
-/// The path of the profile of a node's task. No path if there is no task.
+/// At most one path, since only tasks of nodes have a profile.
 fn paths_of(alloc: Global, task: Option<NodeTask>) -> Result<Vec<Text>, Memory>
     ensures { IfOk result (λ paths. paths.items ≡ paths_asked task) }
 {
