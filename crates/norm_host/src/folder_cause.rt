@@ -9,7 +9,7 @@ use std::fmt;
 pub enum FolderCause {
     /// A file could not be read, measured or written.
     File(Cause),
-    /// The instance of a send could not be kept, so the first call failed ([`stop`](crate::FolderFiles::stop)).
+    /// The instance of a send could not be kept, so the next call failed, whichever it was ([`stop`](crate::FolderFiles::stop)).
     Instance(InstanceFault),
 }
 

@@ -10,7 +10,8 @@ const ADVICE: &str = "give --instance I, or the key instance";
 pub enum InstanceFault {
     /// Neither `XDG_STATE_HOME` nor `HOME` is a UTF-8 path that begins at the root.
     NoFolder,
-    /// The file at this path could not be read or written, or the folder, lock and temporary file that go with it.
+    /// The number could not be read from or kept in the file at this path. `error` may also be of its folder, its lock, the file beside it, or the
+    /// clock.
     File { path: String, error: io::Error },
 }
 

@@ -21,13 +21,13 @@ use std::rt::Env;
 // A number of 16 bits has at most five digits, and then comes a line feed. A file that fills this is no such line.
 const ROOM: usize = 7;
 
-/// Who may use the folder and a file in it: its user alone.
+/// Who may use a folder that is made here, and what is in it: its user alone.
 // Our own choice: nobody else should be able to set a user's next instance.
 const FOLDER_MODE: u32 = 0o700;
 
 const FILE_MODE: u32 = 0o600;
 
-/// What to say of a kept file that holds another text.
+/// What to say of a kept file that holds another text. Such a file is never written over.
 const NO_NUMBER: &str = "it holds no number from 0 to 65535";
 
 fn is_absolute(path: &[u8]) -> bool
@@ -36,7 +36,7 @@ fn is_absolute(path: &[u8]) -> bool
     1 <= path.len() && path[0] == b'/'
 }
 
-/// Returns the path with the name appended, which begins with a slash. `None` if there is no path, or it does not begin at the root.
+/// Returns the path with `name` appended, a name that begins with a slash. `None` if there is no path, or it does not begin at the root.
 fn below(path: Option<String>, name: &str) -> Result<Option<String>, AllocError>
     ensures { IfOk result (λ found. option_map string_bytes found ≡ below (option_map string_bytes path) name.now) }
 {

@@ -2,7 +2,7 @@
 
 use norm_base::Profile;
 
-/// A profile, and the first instance that its document gives.
+/// What a document gives. The instance is apart from the profile, so that one that was left out can be told from the default.
 #[derive(Clone, Copy, Debug)]
 pub struct Document {
     /// The profile. Keys that the document leaves out have their defaults.

@@ -14,7 +14,7 @@ use std::alloc::{AllocError, Global};
 // Our own choice: a profile has a few hundred octets, so one read mostly gives all of it.
 const PIECE: usize = 4_096;
 
-/// Why a file gives no profile.
+/// Why a file gives no profile. Only of `Refused` is it known that the file is there.
 #[derive(Debug, Drop)]
 pub enum LoadFault {
     /// The document is refused, or the file is too long to be read.
@@ -95,7 +95,7 @@ fn read_piece<D: Files>(
     }
 }
 
-/// Reads as many octets of a file, in pieces of at most 4,096. A file that grew meanwhile is cut at this length, and one that shrank is a fault.
+/// Reads this many octets of a file, in pieces of at most 4,096. A file that grew meanwhile is cut at this length, and one that shrank is a fault.
 fn read_all<D: Files>(
     alloc: Global,
     files: &mut D,

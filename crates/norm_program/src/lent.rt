@@ -12,7 +12,7 @@ pub(crate) struct Lent<'a, S, K, F, D, C> {
     pub fabric: &'a mut F,
     /// Only `recv` puts files.
     pub files: &'a mut D,
-    /// Gives the moments of turns if the profile's `step` is 0.
+    /// Gives the moments of turns if the profile's `step` is 0. Else nobody calls it.
     pub clock: &'a mut C,
 }
 

@@ -122,8 +122,8 @@ fn end_of<R: Threads + Wait + Sync, S: Source, K: Sink, F: Fabric, D: Files, C: 
     }
 }
 
-/// Runs the program and returns its exit status; what each status says is in `Ends` and `NodeEnds`. `words` are those after the program's name.
-/// The files keep their contents, except if the words ask for a receiver, which puts the files that it hands up.
+/// Runs the program and returns its exit status; what each status says is in `EndsWith`. `words` are those after the program's name. The files keep
+/// their contents, except if the words ask for a receiver, which puts the files that it hands up.
 pub fn norm_main<R: Threads + Wait + Sync, S: Source, K: Sink, F: Fabric, D: Files, C: Clock>(
     rt: &R,
     alloc: Global,

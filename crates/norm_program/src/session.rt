@@ -90,8 +90,8 @@ fn prepare<S: Source, K: Sink>(
     read_text(alloc, &text, options, output)
 }
 
-/// Runs a session with these options and returns the ending; what each ending says is in `Ends`. The files keep their contents. Only the session
-/// itself gets the runtime.
+/// Runs a session with these options and returns the ending; what each ending says is in `EndsScript`. The files keep their contents. Only the
+/// session itself gets the runtime.
 pub(crate) fn run_input<
     R: Threads + Wait + Sync,
     S: Source,

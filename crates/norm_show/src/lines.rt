@@ -246,7 +246,7 @@ fn report_text(alloc: Global, source: u32, sequence: u16) -> Result<Vec<u8>, All
     line.end()
 }
 
-/// Returns the line of a message that was decoded. Of its extensions only the transmission information is shown.
+/// Returns the line of a message that was decoded. Of its extensions only the transmission information of INFO and DATA is shown.
 pub(crate) fn message_text(alloc: Global, msg: &Message<'_>) -> Result<Vec<u8>, AllocError>
     ensures { IfOk result (λ text. text.items ≡ message_line (message_of msg.now)) }
 {

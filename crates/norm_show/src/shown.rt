@@ -1,4 +1,4 @@
-//! Shows one datagram as a line. `stream` calls [`show_line`] for each line of its input.
+//! Shows one datagram as a line. `stream` calls [`show_line`] for each datagram that its input spells.
 
 ghost use Rattle.std.specs.Prelude.{◌≡◌, IfOk, is_err};
 ghost use Rattle.norm_ext.specs.Reading.{decoded};
@@ -18,7 +18,7 @@ pub struct Shown {
     pub is_refused: bool,
 }
 
-/// Returns the line of a datagram: the words of its message, or why it is refused.
+/// Returns the line of a datagram: the words of its message, or why it is refused. Any octets are allowed.
 ///
 /// # Errors
 ///

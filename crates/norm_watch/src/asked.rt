@@ -4,7 +4,7 @@ use crate::saying::Says;
 use std::io::IsTerminal;
 use std::rt::Env;
 
-/// Whether a variable of the environment has this value, octet for octet. One that is not set has none. Takes no memory.
+/// Whether a variable of the environment has this value, octet for octet. One that is not set has none.
 fn has_value(rt: &impl Env, name: &str, value: &[u8]) -> bool {
     // No value that is asked for is longer.
     let mut buf = [0u8; 16];

@@ -6,7 +6,7 @@ use std::fmt;
 /// What to print on standard error. [`asked_in`](crate::asked_in) makes it from the environment.
 #[derive(Clone, Copy, Debug)]
 pub struct Says {
-    /// Once a second, how far the node is.
+    /// At most once a second, how far a node alone over sockets is.
     pub progress: bool,
     /// Each datagram that is offered or taken.
     pub trace: bool,
@@ -53,7 +53,7 @@ pub(crate) fn wipe<R: Eprint>(rt: &R, tally: &Tally) {
     }
 }
 
-/// Ends the line of progress, if one is drawn. Call it when the node is done.
+/// Ends the line of progress, if one is drawn. Call it after the last call of the network and the sink, and before anything else is printed.
 pub fn end_progress<R: Eprint>(rt: &R, tally: &Tally) {
     if tally.is_drawn.get() {
         let _ = eprintln!(rt;);

@@ -1,4 +1,4 @@
-//! What the watched sink and the watched network count: [`Tally`].
+//! What the watched sink and the watched network count: [`Tally`]. `saying` prints it as the line of progress.
 
 use std::cell::Cell;
 
@@ -30,7 +30,7 @@ impl Tally {
         }
     }
 
-    /// Counts an object, without its octets.
+    /// Counts an object, without its octets: those of a stream come later.
     pub(crate) fn object(&self) {
         self.objects.set(self.objects.get().saturating_add(1));
     }

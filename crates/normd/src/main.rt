@@ -56,7 +56,7 @@ fn numbered(
     }
 }
 
-/// Whether the words ask for a hub or for a sender, which send much.
+/// Whether the words ask for a hub or for a sender, which send much. Looks only at the first word, so they may still be refused.
 fn sends_much(words: &Result<Vec<String>, WordsFault>) -> bool {
     match words {
         Ok(words) => match words.first() {
@@ -67,7 +67,7 @@ fn sends_much(words: &Result<Vec<String>, WordsFault>) -> bool {
     }
 }
 
-/// Returns the network of the process. If the words ask for a node that sends much, threads send for it, if they can be made. Opens no socket.
+/// Returns the network of the process. If the words ask for a node that sends much, threads send for it, if they can be made.
 fn network<R: Net + Threads + Wait + Clock + Copy + Send + Drop + 'static>(
     rt: R,
     alloc: Global,

@@ -42,7 +42,7 @@ pub(crate) fn sent(alloc: Global, sent: Sent, datagram: &Datagram) -> Result<Lin
     }
 }
 
-/// Adds an instance, or a dash if there is none.
+/// Adds an instance, or a dash if there is none: a receiver that heard nothing has none.
 pub(crate) fn instance(line: &mut Line, instance: Option<InstanceId>) -> Result<(), Fault> {
     match instance {
         Some(instance) => line.number(u64::from(instance.0))?,
@@ -192,7 +192,7 @@ fn strike_refused(alloc: Global, fault: StrikeFault) -> Result<Line, Fault> {
     }
 }
 
-/// Returns the line of a refused command, with a reason of its own for each fault.
+/// Returns the line of a command that failed: `refused` with a reason of its own for each fault, or `memory`.
 fn command_refused(alloc: Global, fault: SendFault) -> Result<Line, Fault> {
     match fault {
         SendFault::Enqueue(fault) => enqueue_refused(alloc, fault),
@@ -203,7 +203,7 @@ fn command_refused(alloc: Global, fault: SendFault) -> Result<Line, Fault> {
     }
 }
 
-/// Returns the line of a command: its receipt, or why it is refused.
+/// Returns the line of a command: its receipt, or why it gave none.
 pub(crate) fn commanded(alloc: Global, gave: Result<Receipt, SendFault>) -> Result<Line, Fault> {
     match gave {
         Ok(receipt) => received(alloc, receipt),

@@ -62,7 +62,7 @@ fn strike(words: &mut Words<'_>) -> Option<Job> {
     })
 }
 
-/// Returns the command that the words spell, or `None` if they spell none. Words that are left are a fault later, of whoever calls the node.
+/// Returns the command that the words spell, or `None` if they spell none. Does not look whether words are left: `node` does.
 ///
 /// # Errors
 ///

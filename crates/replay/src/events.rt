@@ -18,7 +18,7 @@ pub(crate) enum Verb {
     Tell,
 }
 
-/// A line of the input that is not empty, read up to the arguments of a call.
+/// A line of the input that has a word, read up to the arguments of a call.
 #[derive(Drop)]
 pub(crate) enum Event {
     /// Sets a key of the next node's profile.
@@ -99,7 +99,7 @@ impl<'a> Events<'a> {
         }
     }
 
-    /// Returns the next event, or `None` after the last one. It skips empty lines.
+    /// Returns the next event, or `None` after the last one. It skips lines without a word.
     ///
     /// # Errors
     ///
@@ -121,7 +121,7 @@ impl<'a> Events<'a> {
         Ok(None)
     }
 
-    /// Returns the fault for a line that is no event of the node that runs: the line that was read last.
+    /// Returns the fault of the line that was read last: it has no meaning where it stands.
     pub(crate) fn fault(&self) -> Fault {
         Fault::Line {
             number: self.number,

@@ -84,12 +84,12 @@ fn replay_text<K: Sink>(alloc: Global, text: &str, output: &mut K) -> Result<(),
     Ok(())
 }
 
-/// Replays an input line by line, and prints one line for each line that is not empty.
+/// Replays an input line by line, and prints one line for each line that has a word.
 ///
 /// # Errors
 ///
-/// `Line` with the first line that is no event of the node that runs, `NotText` if the input is not UTF-8, `Read` or `Write` if
-/// a call of the input or output failed, and `Memory` if memory ran out outside a call of a node.
+/// `Line` with the first line that is no event, is no call of the node that runs, or begins a node with keys out of range. `NotText` if the input is
+/// not UTF-8, `Read` or `Write` if a call of the input or output failed, and `Memory` if memory ran out outside a call of a node.
 pub(crate) fn replay<S: Source, K: Sink>(
     alloc: Global,
     input: &mut S,
