@@ -115,7 +115,7 @@ fn receive_in(alloc: Global, words: &[String]) -> Result<Option<NodeTask>, Memor
     }
 }
 
-/// `None` if the words do not fit the form.
+/// `None` if the words do not fit the form, as without a path.
 fn hub_in(alloc: Global, words: &[String]) -> Result<Option<NodeTask>, Memory>
     ensures task { IfOk result (λ task. task ≡ hub_in (map string_bytes words.now)) }
     ensures fits { IfOk result (λ task. IfSome task FitsNode) }

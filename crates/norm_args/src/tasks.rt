@@ -104,7 +104,7 @@ fn session_in(alloc: Global, words: &[String]) -> Result<Option<Task>, Memory>
     }
 }
 
-/// `None` if the words do not fit the form.
+/// `None` if the words do not fit the form, as with a word after `show`.
 fn show_in(alloc: Global, words: &[String]) -> Result<Option<Task>, Memory>
     ensures task { IfOk result (λ task. task ≡ show_in (map string_bytes words.now)) }
     ensures fits { IfOk result (λ task. IfSome task FitsTask) }

@@ -109,7 +109,7 @@ fn fault_of(error: &io::Error) -> FileFault
     FileFault::Failed
 }
 
-/// The most octets of a file that are read ahead.
+/// The most octets of a file that one read asks for, and that are kept for the next ones.
 // Our own choice, 256 KiB. Without this a file would be opened, measured and read anew for each symbol.
 const AHEAD: usize = 262_144;
 
@@ -216,7 +216,7 @@ impl<F: fs::Files + Drop> FolderFiles<F> {
         })
     }
 
-    /// Adds a path that is measured and read as it stands, from the folder in which the process runs. A put does not go there.
+    /// Adds a path that is measured and read as it stands, a relative one from the folder in which the process runs. A put does not go there.
     ///
     /// # Errors
     ///

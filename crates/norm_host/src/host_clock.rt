@@ -7,8 +7,8 @@ ghost use Rattle.norm_host.specs.Clocks.{first_reading, last_moment, first_with,
 use norm_base::{Clock, Moment};
 use std::time::{self, Duration};
 
-/// A clock of std, in microseconds since its first reading, which gives 0. If a reading fails, it gives the last moment again. Contracts cannot rely
-/// on its moments.
+/// A clock of std, in microseconds since its first reading. If a reading fails, it gives the last moment again, and 0 before the first. Contracts
+/// cannot rely on its moments.
 #[derive(Drop)]
 pub struct HostClock<C> {
     clock: C,
@@ -17,7 +17,7 @@ pub struct HostClock<C> {
 }
 
 impl<C: time::Clock> HostClock<C> {
-    /// Returns a clock that reads this one, at the first `now` and not before.
+    /// Returns a clock that reads this one at each `now`, of which the first that succeeds gives 0.
     pub fn of(clock: C) -> HostClock<C>
         ensures first { first_reading result ≡ None }
         ensures moment { last_moment result ≡ 0 }

@@ -127,7 +127,7 @@ impl<R: Net + Wait + Clock + Drop> HostFabric<R> {
         }
     }
 
-    /// Refuses a start over a network within one process, and counts it as a failed call.
+    /// Refuses a start over a network in memory, and keeps that as what the last failed call was about.
     fn refuse(&mut self, fabric: FabricKind) -> Result<(), FabricFault>
         ensures failed { IsErrOf result FabricFault.Failed }
         ensures state { self.new ≡ host_failed self.old }

@@ -1,6 +1,6 @@
-//! The outside of a process, as the traits of `norm_base`: streams ([`StdSource`], [`StdSink`]), files ([`FolderFiles`]), a clock
-//! ([`HostClock`]), and the network that a profile names ([`HostFabric`]). [`InstanceFile`] keeps which instance a send takes. `normd` makes
-//! these objects, and runs the program on them.
+//! The outside of a process, as the traits of `norm_base`: streams ([`StdSource`], [`StdSink`]), files ([`FolderFiles`]), a clock ([`HostClock`]),
+//! and the network that a profile names ([`HostFabric`]). [`InstanceFile`] keeps the last instance that a send took. `normd` makes these objects, and
+//! runs the program on them.
 #![tactic(auto)]
 
 mod folder;

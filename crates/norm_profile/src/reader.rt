@@ -13,8 +13,8 @@ use std::alloc::{AllocError, Global};
 use std::str;
 use toml::{Table, Value};
 
-/// The most octets of a profile.
-// Our own choice, far more than 26 keys need. A longer file is refused with `TooLong`, unread.
+/// The most octets of a profile. A longer one is refused with `TooLong`, unread.
+// Our own choice, far more than 26 keys need.
 pub(crate) const MOST_OCTETS: usize = 65_536;
 
 /// Refuses a number that is negative or out of the key's range as `NoValue`.

@@ -9,7 +9,7 @@ pub enum ProfileRefusal {
     TooLong,
     /// It is not UTF-8, or not a TOML document, for example with a key that stands twice.
     NoDocument,
-    /// There is no key of this name.
+    /// No key has this name, octet for octet.
     NoKey { name: Text },
     /// The key takes a whole number, and the value is something else.
     NoNumber { key: Key },

@@ -23,7 +23,7 @@ pub(crate) fn refused_line(alloc: Global, n: u64) -> Result<String, AllocError>
     format!(in alloc; "refused line {n}\n")
 }
 
-/// Returns the last line that names a file which is not there. Fails only if memory runs out.
+/// Returns the last line that names a file which is not there, as the script or the words name it, without the folder.
 #[tactic(auto, unfolding(crate::specs::Ends::absent_line))]
 fn absent_line(alloc: Global, name: &str) -> Result<String, AllocError>
     ensures { IfOk result (λ text. string_bytes text ≡ absent_line name.now) }

@@ -49,7 +49,7 @@ impl From<Status> for ExitCode {
 /// Why a profile is refused, or a node that it does not have as a receiver.
 #[derive(Debug, Drop)]
 pub enum ProfileFault {
-    /// The document is not that of a profile.
+    /// The document is not that of a profile, or the file is too long to be read.
     Document { why: ProfileRefusal },
     /// The node is not one of the receivers, whose ids are `first` to `last`.
     Node { node: NodeId, first: u32, last: u32 },

@@ -14,7 +14,7 @@ use std::alloc::{AllocFailed, Global};
 use std::rt::Env;
 use std::{env, io};
 
-/// Why the words of the command line were not read.
+/// Why the words of the command line were not read. [`run`](crate::run) takes it in place of the words.
 // Two, because they end differently: a lack of memory with status 1, refused words with the usage line and status 2.
 #[derive(Clone, Copy, Debug, PartialEq, Eq)]
 pub enum WordsFault {

@@ -16,10 +16,10 @@ use norm_script::{spelling_of, split_at_first};
 use std::alloc::Global;
 use std::marker::Model;
 
-/// The most digits of a line.
-// Two digits for each of the 1,500 octets that a datagram has at most. A longer line ends the show as soon as it is too long.
+/// The most digits of a line. A longer one ends the show as soon as it is too long.
+// Two digits for each of the 1,500 octets that a datagram has at most.
 const MOST_DIGITS: usize = 3000;
-/// The most octets of a read.
+/// The most octets that one read of the input asks for.
 // Our own choice: some lines of full size in one read, and still on the stack.
 const PIECE: usize = 16_384;
 

@@ -38,7 +38,7 @@ struct Node {
     role: Role,
     /// The port at which it receives.
     port: u32,
-    /// The hub's port.
+    /// The profile's `port`, at which the hub receives.
     hub: u32,
     /// The profile's `turns`: after this many a receiver and the hub end.
     turns: u32,

@@ -8,7 +8,7 @@ use std::fmt;
 pub struct Says {
     /// At most once a second, how far a node alone over sockets is.
     pub progress: bool,
-    /// Each datagram that is offered or taken.
+    /// Each datagram that is offered or taken, in hexadecimal.
     pub trace: bool,
     /// Whether lines of output go to a terminal too. If so, the line of progress is wiped before each.
     pub beside: bool,

@@ -23,9 +23,9 @@ pub(crate) enum Verb {
 pub(crate) enum Event {
     /// Sets a key of the next node's profile.
     Set { key: Key, value: u32 },
-    /// Begins a receiver with this node id.
+    /// Begins a receiver with this node id, under the keys that were set.
     Receiver { node: NodeId },
-    /// Begins a sender with this instance.
+    /// Begins a sender with this instance, under the keys that were set.
     Sender { instance: InstanceId },
     /// Names the lines that follow. The name is still unread.
     Row,

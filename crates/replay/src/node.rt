@@ -23,7 +23,8 @@ pub(crate) trait Node {
     ) -> Result<Option<Line>, Fault>;
 }
 
-/// Calls a node and prints the answer. Fails if words are left after the arguments.
+/// Calls a node and prints the answer. Fails if it has no such call, the words do not spell its arguments, or words are left after these. In the last
+/// case it was called.
 fn answer<N: Node, K: Sink>(
     alloc: Global,
     node: &mut N,
