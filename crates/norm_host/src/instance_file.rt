@@ -158,8 +158,8 @@ impl<R: fs::Files<File = File> + Drop> InstanceFile<R> {
         })
     }
 
-    /// Makes the folder if it is not there, and waits until no other process reads or writes the number. None
-    /// does as long as the returned file is open.
+    /// Makes the folder if it is not there, and waits, without a limit, until no other process has the lock. None gets it as long as the returned
+    /// file is open.
     fn locked(&self) -> io::Result<File> {
         let mut folder = DirBuilder::new();
         folder.recursive(true).mode(FOLDER_MODE);

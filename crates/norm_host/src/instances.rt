@@ -1,5 +1,6 @@
-//! Which instance a send takes, and the line that keeps the last one. An instance lies above each that an earlier send of its user took (RFC 5740
-//! section 4.2.1): a receiver that runs on passes over any other, or takes its objects for those that it has. `InstanceFile` and `normd` call this.
+//! Which instance a send takes, and the line that keeps the last one. An instance lies above the last one that a send of this user and sender took at
+//! the port (RFC 5740 section 4.2.1): a receiver that runs on passes over any other, or takes its objects for those that it has. `InstanceFile` and
+//! `normd` call this.
 
 ghost use Rattle.std.specs.Prelude.{◌≡◌, ◌<◌, ◌^◌, ℕ, decimal, string_bytes, IfNone, IfOk, IfSome};
 ghost use Rattle.std.specs.Duration.{as_nanos};

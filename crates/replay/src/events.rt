@@ -21,7 +21,7 @@ pub(crate) enum Verb {
 /// A line of the input that has a word, read up to the arguments of a call.
 #[derive(Drop)]
 pub(crate) enum Event {
-    /// Sets a key of the next node's profile.
+    /// Sets a key of the nodes that begin next. The value may be out of range.
     Set { key: Key, value: u32 },
     /// Begins a receiver with this node id, under the keys that were set.
     Receiver { node: NodeId },

@@ -12,7 +12,7 @@ use norm_base::{Given, Key, Profile, Sink, Source};
 use row_words::{Fault, print, read_all};
 use std::alloc::Global;
 
-/// The keys that were set for the next node.
+/// The keys that were set for the nodes that begin next.
 #[derive(Drop)]
 struct Keys {
     given: Given,
@@ -21,7 +21,8 @@ struct Keys {
 }
 
 impl Keys {
-    /// Sets a key. If a node began since the last `set`, all other keys return to their defaults.
+    /// Sets a key. If a node began since the last `set`, all other keys return to their defaults. Whether the value is in range is seen when a node
+    /// begins.
     fn set(&mut self, key: Key, value: u32) {
         if self.are_used {
             self.given = Given::new();
