@@ -19,7 +19,7 @@ const PIECE: usize = 4_096;
 pub enum LoadFault {
     /// The document is refused, or the file is too long to be read.
     Refused { why: ProfileRefusal },
-    /// There is no file of this name.
+    /// The files have no file of this name, or take none of such a name.
     Absent,
     /// A call of the files failed, and they counted it.
     Failed,
