@@ -46,7 +46,6 @@ impl Datagram {
         self.bytes.clear();
     }
 
-    /// Borrows the octets.
     pub fn bytes(&self) -> &[u8]
         ensures octets { result.now ≡ self.now }
         ensures most { length result.now ≤ datagram_room }
@@ -54,7 +53,7 @@ impl Datagram {
         self.bytes.as_slice()
     }
 
-    /// Returns how many octets may still be pushed: 1,500 minus the length.
+    /// Returns how many octets may still be pushed.
     pub fn room(&self) -> usize
         ensures room { result ≡ datagram_room - length self.now }
         ensures most { length self.now ≤ datagram_room }

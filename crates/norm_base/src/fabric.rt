@@ -22,13 +22,14 @@ pub trait Fabric {
     /// How many calls failed, at most `u64::MAX`. Running out of memory is not counted.
     ghost fault_count: { Self → ℕ };
 
-    /// Begins a session of the profile's members. The lists of offered and taken datagrams are then empty.
+    /// Begins a session of the profile's members. The recorded lists of offered and taken datagrams are then empty. A start that fails leaves the
+    /// recorded history as it was.
     fn start(&mut self, profile: &Profile, local: Local) -> Result<(), FabricFault>
         ensures ok { OnOk result (Starts (told self.old) (told self.new) profile.now local) }
         ensures err { OnErr result (told self.new ≡ told self.old) }
         ensures cause { Counts (fault_count self.old) (fault_count self.new) (network_failed result) };
 
-    /// Offers a member's datagram to all other members.
+    /// Offers a member's datagram to all other members. An offer that fails is not recorded, though some copies may have been sent.
     fn offer(&mut self, from: NodeId, bytes: &[u8]) -> Result<(), FabricFault>
         requires { length bytes.now ≤ datagram_room }
         ensures ok { OnOk result (told self.new ≡ with_offer (told self.old) from bytes.now) }
@@ -45,7 +46,7 @@ pub trait Fabric {
         ensures err { OnErr result ((told self.new ≡ told self.old) × (into.new ≡ [])) }
         ensures cause { Counts (fault_count self.old) (fault_count self.new) (network_failed result) };
 
-    /// Returns how many calls failed. The count never falls.
+    /// Returns how many calls failed, at most `u64::MAX`. It never falls, also not at a start.
     fn faults(&self) -> u64
         ensures { result ≡ fault_count self.now };
 }

@@ -5,11 +5,11 @@ ghost use Rattle.norm_base.specs.declared.fault.FabricFault.TheVariants as fabri
 
 use std::alloc::{AllocError, AllocFailed};
 
-/// There was no memory for the call.
+/// There was no memory for the call. A call that returns this raised no count of faults.
 #[derive(Clone, Copy, Debug, PartialEq, Eq)]
 pub struct Memory;
 
-/// The outside failed. The object raised its count of faults by one.
+/// The outside failed. The object raised its count of faults by one, up to `u64::MAX`.
 #[derive(Clone, Copy, Debug, PartialEq, Eq)]
 pub struct Failed;
 
@@ -27,7 +27,6 @@ pub enum FileFault {
 pub enum FabricFault {
     /// The outside failed, and the count of faults says so.
     Failed,
-    /// There was no memory for the call.
     Memory,
 }
 

@@ -14,7 +14,7 @@ pub trait Files {
     /// How many calls failed, at most `u64::MAX`. An absent name is no failure.
     ghost fault_count: { Self → ℕ };
 
-    /// Returns the length of a file in octets, or `Absent` if there is no such name.
+    /// Returns the length of a file in octets. `Absent` if there is no such name, which counts as no fault.
     fn length(&mut self, name: &str) -> Result<u64, FileFault>
         ensures same { contents self.new ≡ contents self.old }
         ensures value { IfOk result (λ n. IfSome (contents self.old) (λ files.

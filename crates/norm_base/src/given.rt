@@ -1,4 +1,4 @@
-//! Collects the values that a script or a profile file sets, until [`Profile::of`](crate::profile::Profile::of) takes them.
+//! Collects the values that a script or a profile file sets, for [`Profile::of`](crate::profile::Profile::of).
 
 ghost use Rattle.std.specs.Prelude.{◌≡◌, IsTrue, true, is_some, unwrap_or};
 ghost use Rattle.norm_base.specs.Given.{nothing_given, given_at, give, default_beside, value_in, are_values, meets_rules, are_in_range};
@@ -26,14 +26,14 @@ impl Model for Given {
 }
 
 impl Given {
-    /// No value is given.
+    /// Returns no values: each key then has its default.
     pub fn new() -> Given
         ensures { result ≡ nothing_given }
     {
         Given { values: [None; 26] }
     }
 
-    /// Whether the key was set.
+    /// Whether [`set`](Given::set) was called for the key, be it with the default.
     pub fn has(&self, key: Key) -> bool
         ensures { result ≡ is_some (given_at self.now key) }
     {
@@ -57,7 +57,6 @@ impl Given {
         }
     }
 
-    /// Returns the default of a key.
     fn default_of(&self, key: Key) -> u32
         ensures { result ≡ default_beside (unwrap_or (given_at self.now Key.B) (row_of Key.B).default) key }
     {
@@ -88,14 +87,12 @@ impl Given {
         b <= self.value(Key::MaxN) && buffer <= 16_777_216
     }
 
-    /// Whether each of these keys has a value in its range.
     fn are_values(&self, keys: &[Key]) -> bool
         ensures { result ≡ are_values (value_in self.now) keys.now }
     {
         keys.iter().all(|key| self.is_value(*key))
     }
 
-    /// Whether the key's value is in its range.
     fn is_value(&self, key: Key) -> bool
         ensures { result ≡ is_value key (value_in self.now key) }
     {
@@ -111,7 +108,6 @@ impl Default for Given {
 
     ghost is_default = { λ g. g ≡ nothing_given };
 
-    /// No value is given.
     fn default() -> Given {
         Given::new()
     }

@@ -3,7 +3,7 @@
 ghost use Rattle.std.specs.Prelude.{◌≡◌, ◌≤◌, ◌-◌, map, length, ℕ, List, []};
 ghost use Rattle.norm_base.specs.Keys.{row_of, keys, key_named, place_of_word};
 
-/// A key of a profile. `Profile` says what each is for.
+/// A key of a profile. The field of `Profile` with the same name says what it is for.
 #[derive(Clone, Copy, Debug, PartialEq, Eq)]
 pub enum Key {
     Instance,
@@ -34,7 +34,7 @@ pub enum Key {
     Port,
 }
 
-/// All keys, in their order.
+/// All keys. Each stands at its own [`place`](Key::place).
 // Written out in the order of the variants: a key's place is its number, and a list of all has to agree with that.
 pub const KEYS: [Key; 26] = [
     Key::Instance,
@@ -70,9 +70,7 @@ pub const KEYS: [Key; 26] = [
 pub struct KeyRow {
     /// The name in a script and in a profile file.
     pub name: &'static str,
-    /// The least value.
     pub least: u32,
-    /// The greatest value.
     pub greatest: u32,
     /// The value if none is set. `max_n` has this default only if `b` has its own: see `Given::value`.
     pub default: u32,
@@ -80,7 +78,6 @@ pub struct KeyRow {
     pub words: &'static [&'static str],
 }
 
-/// The row of a key whose values are numbers.
 fn numbers(name: &'static str, least: u32, greatest: u32, default: u32) -> KeyRow
     ensures name { result.name.now ≡ name.now }
     ensures least { result.least ≡ least }
@@ -98,7 +95,7 @@ fn numbers(name: &'static str, least: u32, greatest: u32, default: u32) -> KeyRo
     }
 }
 
-/// The row of a key whose values are words. The first word is the default.
+/// The row of a key whose values are words. The words stand for 0, 1, .., and the first is the default.
 fn words(name: &'static str, words: &'static [&'static str]) -> KeyRow
     requires some { 1 ≤ length words.now }
     requires few { length words.now ≤ 3 }
@@ -119,14 +116,14 @@ fn words(name: &'static str, words: &'static [&'static str]) -> KeyRow
 }
 
 impl Key {
-    /// Returns the key's index in the table.
+    /// Returns the key's index in [`KEYS`].
     pub fn place(self) -> usize
         ensures { result ≡ (row_of self).place }
     {
         self as usize
     }
 
-    /// Returns the key's row of the table.
+    /// Returns the key's name, range, default and words. It makes them anew at each call.
     // A function and not a constant table: a constant cannot call `numbers` here, and 26 rows written in full would stand beside the 26 names.
     pub fn row(self) -> KeyRow
         ensures name { result.name.now ≡ (row_of self).name }
@@ -137,7 +134,7 @@ impl Key {
         ensures few { length result.words.now ≤ 3 }
     {
         match self {
-            // RFC 5740 sections 4.1 and 4.2.1: instances and object transport ids have 16 bits.
+            // RFC 5740 section 4.2.1: instances and object transport ids have 16 bits.
             Key::Instance => numbers("instance", 0, 65_535, 1),
             Key::First => numbers("first", 0, 65_535, 0),
             // RFC 5740 section 4.1: 0 and 2^32 - 1 name no member. Behind the greatest sender 16 numbers are left for receivers.
@@ -160,7 +157,7 @@ impl Key {
             Key::Mode => words("mode", &["hold", "drop"]),
             Key::Gap => numbers("gap", 1, 1_000_000, 1000),
             Key::Grtt => numbers("grtt", 1, 10_000_000, 10_000),
-            // RFC 5740 section 4.2: 8 bits of GRTT, 4 of the group's size and 4 of the back-off factor.
+            // RFC 5740 section 4.2.1: 8 bits of GRTT, 4 of the group's size and 4 of the back-off factor.
             Key::GrttCode => numbers("grtt_code", 0, 255, 64),
             Key::GsizeCode => numbers("gsize_code", 0, 15, 1),
             Key::K => numbers("k", 0, 15, 4),
@@ -176,14 +173,14 @@ impl Key {
         }
     }
 
-    /// Returns the key with this name, if there is one.
+    /// Returns the key with this name, octet for octet. Compares with one name after the other.
     pub fn named(name: &[u8]) -> Option<Key>
         ensures { result ≡ key_named name.now keys }
     {
         first_named(&KEYS, name)
     }
 
-    /// Returns the value that a word stands for, or `None` if this key has no such word.
+    /// Returns the value that a word stands for. `None` if this key has no such word, as each key whose values are numbers.
     pub fn value_of(self, word: &[u8]) -> Option<u32>
         ensures { result ≡ place_of_word word.now (row_of self).words }
     {
@@ -191,7 +188,6 @@ impl Key {
     }
 }
 
-/// Returns the first of these keys with this name.
 fn first_named(keys: &[Key], name: &[u8]) -> Option<Key>
     ensures { result ≡ key_named name.now keys.now }
 {
@@ -203,7 +199,6 @@ fn first_named(keys: &[Key], name: &[u8]) -> Option<Key>
     None
 }
 
-/// Returns the index of a word among these.
 fn place_of(words: &[&str], word: &[u8]) -> Option<u32>
     requires { length words.now ≤ 3 }
     ensures { result ≡ place_of_word word.now (map (λ w. w.now) words.now) }

@@ -2,10 +2,10 @@
 
 use crate::node::NodeId;
 
-/// What the sender may drop when its window is full.
+/// What the sender may drop if it needs room: in its window, or in the buffer of its stream.
 #[derive(Clone, Copy, Debug, PartialEq, Eq)]
 pub enum Mode {
-    /// Only what was sent and every member has confirmed.
+    /// Only what was sent and every receiver that is still a member has confirmed.
     Hold,
     /// What was sent, even if it was not confirmed. The oldest goes first.
     Drop,

@@ -1,5 +1,5 @@
-//! The types and traits that every crate of normd uses (RFC 5740 section 4.1). A reader meets [`NodeId`], [`Moment`], [`Datagram`] and
-//! [`Profile`] first. The five traits of the outside are [`Source`], [`Sink`], [`Files`], [`Fabric`] and [`Clock`].
+//! The types and traits that most crates of normd use: ids (RFC 5740 section 4.1), moments, settings and datagrams. A reader meets [`NodeId`],
+//! [`Moment`], [`Datagram`] and [`Profile`] first. The five traits of the outside are [`Source`], [`Sink`], [`Files`], [`Fabric`] and [`Clock`].
 #![tactic(auto)]
 
 // Of the outside only the traits stand here. A change of its objects in memory (norm_memory) or over the process (norm_host) then proves nothing

@@ -1,4 +1,4 @@
-//! Ids of nodes, sender instances and commands, and moments (RFC 5740 section 4.1).
+//! Ids of nodes (RFC 5740 section 4.1), of sender instances (section 4.2.1) and of commands, and moments.
 
 ghost use Rattle.std.specs.Prelude.{◌≡◌, ◌≢◌, ◌<◌, ◌≤◌, ◌↔◌, ℕ, IsSome, IfSome};
 ghost use Rattle.norm_base.specs.Member.{IsMember};
@@ -33,7 +33,7 @@ impl NodeId {
         Some(NodeId(n))
     }
 
-    /// Returns the number, which is neither 0 nor 4294967295.
+    /// Returns the number, as messages spell it in 32 bits.
     pub fn number(&self) -> u32
         ensures value { result ≡ self.now }
         ensures member { IsMember result }
@@ -46,7 +46,7 @@ impl NodeId {
 // 2^16, by the fields of RFC 5740 sections 4.1 and 4.2.1. Whatever counts in ids goes round there.
 pub const ID_COUNT: u32 = 65_536;
 
-/// The sender's instance (RFC 5740 section 4.2). A sender that restarts takes a new one.
+/// The sender's instance (RFC 5740 section 4.2.1). A sender that restarts takes a new one.
 #[derive(Clone, Copy, Debug, PartialEq, Eq, PartialOrd, Ord, Hash)]
 pub struct InstanceId(pub u16);
 
@@ -58,7 +58,7 @@ impl Model for InstanceId {
     ghost inverse = { λ n. record { 0 = n } };
 }
 
-/// A moment, in microseconds.
+/// A moment, in microseconds. From what it counts is the clock's choice.
 #[derive(Clone, Copy, Debug, PartialEq, Eq, PartialOrd, Ord, Hash)]
 pub struct Moment(pub u64);
 

@@ -38,10 +38,10 @@ pub enum Notice {
         mark: u32,
         has_expired: bool,
     },
-    /// The sender goes on in this instance.
+    /// The sender restarted, and goes on in this instance.
     Restarted {
         instance: InstanceId,
     },
-    /// Nothing of all that.
+    /// Nothing that is counted, such as a refusal or the end of a stream.
     Other,
 }

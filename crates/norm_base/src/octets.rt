@@ -26,7 +26,6 @@ impl Octets {
         Octets(inner)
     }
 
-    /// Borrows the octets.
     pub fn bytes(&self) -> &[u8]
         ensures { result.now ≡ self.now }
     {
@@ -73,7 +72,6 @@ impl Text {
         Text(inner)
     }
 
-    /// Borrows the UTF-8 octets.
     pub fn bytes(&self) -> &[u8]
         ensures { result.now ≡ self.now }
     {

@@ -30,22 +30,22 @@ pub struct Profile {
     pub b: u8,
     /// The encoding symbols of a block with `b` source symbols.
     pub max_n: u8,
-    /// How many parity symbols of each block are sent unasked.
+    /// How many parity symbols of a block are sent unasked. If a block has fewer, all of them.
     pub auto: u8,
-    /// The most objects that the sender keeps.
+    /// The most objects and streams that the sender keeps.
     pub window: u16,
-    /// The most octets that the sender keeps, and that one object has.
+    /// The most octets that the sender keeps, its stream's buffer counted, and that one object has.
     pub octets: u32,
     /// The blocks of a stream's buffer.
     pub blocks: u16,
     pub mode: Mode,
-    /// Microseconds from one datagram of the sender to the next.
+    /// The fewest microseconds from one datagram of the sender to the next.
     pub gap: u32,
     /// The group's round trip time in microseconds.
     pub grtt: u32,
-    /// The round trip time as messages encode it (RFC 5740 section 4.2). Nothing decides by it.
+    /// The round trip time as messages encode it (RFC 5740 section 4.2.1). Nothing decides by it.
     pub grtt_code: u8,
-    /// The group's size as messages encode it (RFC 5740 section 4.2).
+    /// The group's size as messages encode it (RFC 5740 section 4.2.1). Nothing decides by it.
     pub gsize_code: u8,
     /// The back-off factor (K in RFC 5740).
     pub k: u8,
@@ -54,13 +54,13 @@ pub struct Profile {
     /// The most turns of a run.
     pub turns: u32,
     pub fabric: FabricKind,
-    /// The seed of the network's and the receivers' random draws.
+    /// The seed of the draws of the network `chance`. Those of the receivers' back-offs have the next number.
     pub chance: u32,
-    /// How many of 1,000 copies the network loses.
+    /// How many of 1,000 copies the network `chance` loses, on average.
     pub loss: u16,
-    /// How many of 1,000 copies arrive twice.
+    /// How many of 1,000 copies that it does not lose arrive twice, on average.
     pub repeat: u16,
-    /// The most offers that a copy is late by.
+    /// The most offers that one of its copies is late by.
     pub late: u8,
     pub port: u16,
 }
@@ -80,8 +80,7 @@ impl Model for Profile {
     ghost inverse = { profile_of };
 }
 
-/// Returns the mode for a value of the key `mode`.
-// The value is the place of the key's word, so it is in range here, and the last word needs no number of its own.
+// A value is the index of the key's word, and in range. So the last word needs no number of its own.
 fn mode_at(value: u32) -> Mode
     ensures { result ≡ mode_at value }
 {
@@ -91,7 +90,6 @@ fn mode_at(value: u32) -> Mode
     }
 }
 
-/// Returns the network for a value of the key `fabric`.
 fn fabric_at(value: u32) -> FabricKind
     ensures { result ≡ fabric_at value }
 {
@@ -141,7 +139,7 @@ impl Profile {
         })
     }
 
-    /// Returns the id of receiver `i`, counted from 0.
+    /// Returns the id of receiver `i`, counted from 0. Ids follow the sender's without gaps.
     pub fn receiver(&self, i: u32) -> NodeId
         requires { i < self.now.receivers }
         ensures { result ≡ self.now.sender + 1 + i }
@@ -150,7 +148,7 @@ impl Profile {
         NodeId::of(self.sender + 1 + i).unwrap()
     }
 
-    /// Whether this node is one of the session's receivers.
+    /// Whether this node is one of the session's receivers. One that was struck out still is.
     pub fn is_receiver(&self, node: NodeId) -> bool
         ensures { result ≡ is_receiver self.now node }
     {
@@ -165,7 +163,6 @@ impl Default for Profile {
 
     ghost is_default = { λ p. p ≡ defaults };
 
-    /// Returns the profile with every key at its default.
     fn default() -> Profile {
         // It does not fail: the defaults are in their ranges, and meet both rules.
         Profile::of(&Given::new()).unwrap()

@@ -29,7 +29,7 @@ pub trait Sink {
         ensures cause { fault_count self.new ≡ fault_count self.old }
     {}
 
-    /// Returns how many writes failed. The count never falls.
+    /// Returns how many writes failed, at most `u64::MAX`. It never falls.
     fn faults(&self) -> u64
         ensures { result ≡ fault_count self.now };
 }

@@ -11,7 +11,7 @@ pub trait Source {
     /// The octets left, or `None` if the source does not record them.
     ghost left: { Self → Option (List ℕ) };
 
-    /// How many octets were read so far. A successful read leaves this below 2^63.
+    /// How many octets were read. A successful read leaves this below 2^63.
     ghost given: { Self → ℕ };
 
     /// How many reads failed, at most `u64::MAX`.
@@ -28,7 +28,7 @@ pub trait Source {
         ensures err { OnErr result ((left self.new ≡ left self.old) × (given self.new ≡ given self.old)) }
         ensures cause { Counts (fault_count self.old) (fault_count self.new) (is_err result) };
 
-    /// Returns how many reads failed. The count never falls.
+    /// Returns how many reads failed, at most `u64::MAX`. It never falls.
     fn faults(&self) -> u64
         ensures { result ≡ fault_count self.now };
 }

@@ -54,7 +54,7 @@ fn content_at(kind: u8) -> usize
     if kind < FIRST_SHORT_TYPE { 2 } else { 1 }
 }
 
-/// Returns how many octets the first extension has. `at` is its offset, which an error reports.
+/// Returns how many octets the first extension has, or how it is bad. `at` is its offset, which the error reports.
 fn check_first(words: &[u8], at: usize) -> Result<usize, ExtFault>
     ensures { MatchResult result
         (λ len. (extension_checked at words.now ≡ Ok tt) × (len ≡ extension_length words.now) × (len ≤ length words.now) × (0 < len))
@@ -108,7 +108,7 @@ fn cut_first(words: &[u8]) -> Option<(u8, &[u8], &[u8])>
     Some((kind, content, rest))
 }
 
-/// Returns the octets of a list that was checked. They spell its extensions.
+/// Returns the list itself: one that was checked spells its own extensions.
 fn spelled(words: &[u8]) -> &[u8]
     requires { IsChecked words.now }
     ensures { result.now ≡ extensions_octets (all_extensions words.now) }
@@ -140,21 +140,21 @@ impl<'a> Extensions<'a> {
         Ok(Extensions { words })
     }
 
-    /// Returns a list without extensions.
+    /// Returns an empty list, for a message that is written without extensions.
     pub fn none() -> Extensions<'a>
         ensures { result ≡ [] }
     {
         Extensions { words: &[] }
     }
 
-    /// Returns an iterator over the extensions, from the first on.
+    /// Returns another iterator over the extensions that [`next`](Extensions::next) did not return yet. This one stays as it is.
     pub fn iter(&self) -> Extensions<'a>
         ensures { result ≡ self.now }
     {
         Extensions { words: self.words }
     }
 
-    /// Returns the octets that spell the extensions.
+    /// Borrows the octets of the extensions that [`next`](Extensions::next) did not return yet, with types and lengths.
     pub fn octets(&self) -> &'a [u8]
         ensures { result.now ≡ extensions_octets self.now }
     {
@@ -174,7 +174,7 @@ impl<'a> Iterator for Extensions<'a> {
 
     ghost next_gives = { λ old given new. (option_map (λ x. extension_of x.0 x.1.now) given ≡ slice_get old 0) × (new ≡ drop 1 old) };
 
-    /// Returns the type and the content of the next extension.
+    /// Returns the type and the content of the next extension: all its octets after the type and, below type 128, the length.
     fn next(&mut self) -> Option<(u8, &'a [u8])> {
         let (kind, content, rest) = cut_first(self.words)?;
         self.words = rest;

@@ -1,4 +1,4 @@
-//! Tells whether a message can be written. The `fits` of each message calls these.
+//! The limits that messages share. The `fits` of INFO, DATA, commands and feedback call these before anything is written.
 
 ghost use Rattle.std.specs.Prelude.{◌↔◌, ◌*◌, ◌≤◌, IsTrue};
 ghost use Rattle.norm_ext.specs.Places.{word_size, most_header_words};
@@ -23,7 +23,7 @@ pub fn has_room(fixed: usize, exts: &Extensions<'_>, content: usize) -> bool
     header <= MOST_HEADER && content <= DATAGRAM_ROOM - header
 }
 
-/// Whether the back-off factor and the group size fit into four bits each.
+/// Whether the back-off factor and the group size fit into the four bits that each has (RFC 5740 section 4.2.1).
 pub fn is_narrow(backoff: u8, gsize: u8) -> bool
     ensures { IsTrue result ↔ IsNarrow backoff gsize }
 {

@@ -13,10 +13,8 @@ use std::marker::Model;
 /// The type of the extension.
 // RFC 5740 section 4.1, EXT_FTI.
 pub const FTI_TYPE: u8 = 64;
-/// The length of the extension in words.
 // Our own layout, after RFC 5510 section 5.2.4.1: 48 bits of L, 16 of E, 8 of B and 8 of max_n behind type and length.
 const FTI_WORDS: u8 = 3;
-/// The length of its content in octets.
 // Three words without the octets of the type and the length.
 const CONTENT: usize = 10;
 /// The offsets of the fields in the content.
@@ -52,7 +50,7 @@ impl Model for Fti {
     ghost inverse = { λ f. record { l = f.l; e = f.e; b = f.b; max_n = f.max_n } };
 }
 
-/// Reads the ten octets of an extension's content.
+/// Reads an extension's content. No value is checked: `Plan::of` refuses those of which no plan can be made.
 fn fti_from(content: &[u8]) -> Fti
     requires { length content.now ≡ 10 }
     ensures { result ≡ fti_in content.now }
@@ -65,7 +63,7 @@ fn fti_from(content: &[u8]) -> Fti
     }
 }
 
-/// Reads the first extension of type 64 that has three words. Returns `None` if there is none.
+/// Reads the first extension of type 64 that has three words. Others of this type are passed over. `None` if there is none.
 pub fn read_fti(exts: Extensions<'_>) -> Option<Fti>
     ensures { result ≡ fti_of exts.entry }
 {
@@ -93,7 +91,7 @@ pub fn fti_words(fti: &Fti) -> [u8; 12]
 }
 
 /// Appends the twelve octets of the extension to a datagram.
-// Nothing calls it so far. It stays for programs over this crate that write extensions by themselves.
+// Nothing calls it here. It is for programs over this crate that write extensions by themselves.
 pub fn write_fti(fti: &Fti, out: &mut Datagram)
     requires { length out.old + 12 ≤ datagram_room }
     ensures { out.new ≡ out.old ++ extension_octets (fti_extension fti.now) }

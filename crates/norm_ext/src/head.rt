@@ -3,7 +3,8 @@
 use fec_plan::PayloadId;
 use norm_base::{InstanceId, NodeId};
 
-/// The fields at the beginning of INFO and DATA. `backoff` and `gsize` have four bits each.
+/// The fields at the beginning of INFO and DATA, without those that are always the same or follow from the rest: version, type, length of the
+/// header and FEC Encoding ID. `backoff` and `gsize` have four bits each: what has more cannot be written.
 #[derive(Clone, Copy, Debug, PartialEq, Eq)]
 pub struct ObjHead {
     pub source: NodeId,
@@ -17,7 +18,8 @@ pub struct ObjHead {
     pub object: u16,
 }
 
-/// The fields at the beginning of a command. `backoff` and `gsize` have four bits each.
+/// The fields at the beginning of a command up to its sub-type, without version, type and length of the header. `backoff` and `gsize` have four
+/// bits each: what has more cannot be written.
 #[derive(Clone, Copy, Debug, PartialEq, Eq)]
 pub struct CmdHead {
     pub source: NodeId,
@@ -28,7 +30,8 @@ pub struct CmdHead {
     pub gsize: u8,
 }
 
-/// An object, by its transport id, and one of its symbols: an item of a request, or what a flush acknowledgement confirms.
+/// An object, by its transport id, and one of its symbols: an item of a request, or what a flush acknowledgement confirms. In a request of form
+/// erasures, `id.symbol` is how many symbols of the block are requested.
 #[derive(Clone, Copy, Debug, PartialEq, Eq)]
 pub struct Item {
     /// The object transport id.

@@ -42,7 +42,7 @@ pub fn check_version(bytes: &[u8]) -> Result<(), Refusal>
     Ok(())
 }
 
-/// Returns the octet at an offset, or 0 if the datagram is shorter.
+/// Returns the octet at an offset, or 0 if the datagram ends before it.
 fn octet_or_zero(bytes: &[u8], at: usize) -> u8
     ensures { result ≡ octet at bytes.now }
 {
@@ -73,7 +73,7 @@ fn least_of(kind: MessageType, bytes: &[u8]) -> u8
     }
 }
 
-/// Checks version, type and header length of a message of this type.
+/// `check_header` without the length that it returns.
 #[tactic(auto, unfolding(crate::specs::Reading::header_checked))]
 fn check_fields(kind: MessageType, bytes: &[u8]) -> Result<(), Refusal>
     ensures exact { result ≡ header_checked kind bytes.now }
@@ -156,7 +156,7 @@ pub fn check_member(number: u32) -> Result<NodeId, Refusal>
     }
 }
 
-/// Returns the source of a message, or `BadNode` if it is no member.
+/// Returns the source of a message, or `BadNode` if no member can have its number.
 pub fn check_source(bytes: &[u8]) -> Result<NodeId, Refusal>
     requires { common ≤ length bytes.now }
     ensures { MatchResult result

@@ -11,7 +11,7 @@ use norm_base::{ID_COUNT, InstanceId};
 // further above its first instance with `IdUsed`.
 pub const MOST_RISE: u32 = 32_767;
 
-/// Returns how far `id` lies above `from`, modulo 65,536.
+/// Returns how far `id` lies above `from`, modulo 65,536. Beyond [`MOST_RISE`] it is not above.
 pub fn rise(from: InstanceId, id: InstanceId) -> u32
     ensures { result ≡ rise from id }
 {

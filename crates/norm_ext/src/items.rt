@@ -1,5 +1,5 @@
 //! The items of repair requests (RFC 5740 section 4.3.1): splits a list of them and says which symbols they name. A sender reads NACKs with
-//! these, and a receiver reads what others requested.
+//! these, and a receiver reads what others requested. `item_of` makes the items that a receiver writes.
 
 ghost use Rattle.std.specs.Prelude.{◌≡◌, ◌<◌, ◌∷◌, [], MatchOption, length};
 ghost use Rattle.norm_ext.specs.Requests.{items_named};
@@ -13,7 +13,7 @@ use crate::places::{ITEM, ITEM_NAME_AT, ITEM_OBJECT_AT};
 use fec_plan::{PayloadId, Position};
 use norm_base::Profile;
 
-/// Splits off the first item. Returns `None` if there is none.
+/// Splits off the first item. `None` if fewer than eight octets are left. The FEC Encoding ID and the reserved octet are not looked at.
 pub fn split_item(items: &[u8]) -> Option<(Item, &[u8])>
     ensures { MatchOption result (items_named items.now ≡ [])
         (λ x. items_named items.now ≡ x.0 ∷ items_named x.1.now) }
@@ -28,7 +28,7 @@ pub fn split_item(items: &[u8]) -> Option<(Item, &[u8])>
     Some((item, items.split_at(ITEM).1))
 }
 
-/// Splits off the first two items. Returns `None` if there are fewer than two.
+/// Splits off the first two items: of a request of form ranges, both ends of the next range. `None` if there are fewer than two.
 pub fn split_pair(items: &[u8]) -> Option<(Item, Item, &[u8])>
     ensures { MatchOption result (length (items_named items.now) < 2)
         (λ x. items_named items.now ≡ x.0 ∷ x.1 ∷ items_named x.2.now) }
@@ -76,7 +76,7 @@ pub fn ends_of(
     }
 }
 
-/// Returns the item that names a symbol.
+/// Returns the item that names a symbol. To a node that knows an index within 32,767 of `at.index`, it names this symbol.
 pub fn item_of(profile: &Profile, at: Position) -> Item
     ensures { result ≡ item_at profile.now at }
 {
@@ -89,7 +89,7 @@ pub fn item_of(profile: &Profile, at: Position) -> Item
     }
 }
 
-/// Whether the flags of a request include `flag`.
+/// Whether flags, of a request or of INFO and DATA, include `flag`, which is a single bit.
 pub fn has_flag(flags: u8, flag: u8) -> bool
     requires { 0 < flag }
     ensures { result ≡ has_this flags flag }

@@ -22,7 +22,7 @@ impl MessageType {
         self as u8
     }
 
-    /// Returns the type with this code, or `None` if there is none.
+    /// Returns the type with this code, or `None` if it is not 1 to 6.
     pub fn of(number: u8) -> Option<MessageType>
         ensures { result ≡ type_of number }
     {
@@ -58,7 +58,7 @@ impl SubType {
         self as u8
     }
 
-    /// Returns the sub-type with this code, or `None` if there is none.
+    /// Returns the sub-type with this code, or `None` if it is not 1 to 7.
     pub fn of(number: u8) -> Option<SubType>
         ensures exact { result ≡ sub_type_of number }
         ensures number { IfSome result (λ sub_type. sub_type_number sub_type ≡ number) }
@@ -92,7 +92,7 @@ impl Form {
         self as u8
     }
 
-    /// Returns the form with this code, or `None` if there is none.
+    /// Returns the form with this code, or `None` if it is not 1 to 3.
     pub fn of(number: u8) -> Option<Form>
         ensures { result ≡ form_of number }
     {
@@ -105,12 +105,12 @@ impl Form {
     }
 }
 
-/// The bits of flags.
+/// The bits of flags: six of INFO and DATA, and four (`WANT_`) of repair requests.
 pub mod flags {
     /// INFO and DATA: sent as a repair.
     // These six: NORM_FLAG_ of RFC 5740 section 4.2.1.
     pub const REPAIR: u8 = 0x01;
-    /// INFO and DATA: requested by its own name.
+    /// INFO and DATA: requested by its own name. Our sender sets it on each info and source symbol that it repeats.
     pub const EXPLICIT: u8 = 0x02;
     /// INFO and DATA: the object has an info.
     pub const INFO: u8 = 0x04;
@@ -120,13 +120,13 @@ pub mod flags {
     pub const FILE: u8 = 0x10;
     /// INFO and DATA: the object is a stream.
     pub const STREAM: u8 = 0x20;
-    /// A request for symbols.
+    /// A request for the symbols that its items name. For erasures: for as many symbols of a block as the item says.
     // These four: NORM_NACK_ of RFC 5740 section 4.3.1.
     pub const WANT_SEGMENT: u8 = 0x01;
-    /// A request for blocks.
+    /// A request for the whole blocks that its items name. For erasures the same as `WANT_SEGMENT`.
     pub const WANT_BLOCK: u8 = 0x02;
-    /// A request for infos.
+    /// A request for the infos of the objects that its items name.
     pub const WANT_INFO: u8 = 0x04;
-    /// A request for objects.
+    /// A request for the whole objects that its items name, without their infos. For erasures nothing.
     pub const WANT_OBJECT: u8 = 0x08;
 }

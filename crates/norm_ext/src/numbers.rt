@@ -1,4 +1,4 @@
-//! Reads big-endian numbers at an offset of a slice.
+//! Reads numbers at an offset of a slice: big-endian, as all numbers of messages are.
 
 ghost use Rattle.std.specs.Prelude.{◌≡◌, ◌+◌, ◌≤◌, ◌<◌, length};
 ghost use Rattle.norm_ext.specs.Numbers.{number, name_at};
@@ -6,7 +6,6 @@ ghost use Rattle.norm_ext.specs.Numbers.{number, name_at};
 use byteorder::{BigEndian, ByteOrder};
 use fec_plan::PayloadId;
 
-/// Returns the 16-bit number at an offset.
 pub fn read_16(bytes: &[u8], at: usize) -> u16
     requires { at + 2 ≤ length bytes.now }
     ensures { result ≡ number 2 at bytes.now }
@@ -14,7 +13,6 @@ pub fn read_16(bytes: &[u8], at: usize) -> u16
     BigEndian::read_u16(bytes.split_at(at).1)
 }
 
-/// Returns the 32-bit number at an offset.
 pub fn read_32(bytes: &[u8], at: usize) -> u32
     requires { at + 4 ≤ length bytes.now }
     ensures { result ≡ number 4 at bytes.now }
@@ -22,7 +20,6 @@ pub fn read_32(bytes: &[u8], at: usize) -> u32
     BigEndian::read_u32(bytes.split_at(at).1)
 }
 
-/// Returns the 48-bit number at an offset.
 pub(crate) fn read_48(bytes: &[u8], at: usize) -> u64
     requires { at + 6 ≤ length bytes.now }
     ensures { result ≡ number 6 at bytes.now }

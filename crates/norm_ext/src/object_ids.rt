@@ -6,7 +6,6 @@ ghost use Rattle.norm_ext.specs.ObjectIds.{object_id as id_of_index, index_named
 
 use norm_base::{ID_COUNT, Profile};
 
-/// How many ids there are.
 // RFC 5740 section 4.2.1: an object transport id has 16 bits.
 const ALL_IDS: u64 = ID_COUNT as u64;
 /// How far below the known index an id still names an index.
@@ -17,7 +16,7 @@ const BELOW: u64 = 32_768;
 // Our own choice: the next index still fits in 32 bits. One more object is refused with `IdsSpent`.
 pub const LAST_INDEX: u32 = 4_294_967_294;
 
-/// Returns the id of an index. `index` may be above [`LAST_INDEX`].
+/// Like `object_id`, for an index that may be above [`LAST_INDEX`].
 fn id_of(profile: &Profile, index: u64) -> u64
     requires { index < 2 ^ 33 }
     ensures exact { result ≡ id_of_index profile.now index }
@@ -26,7 +25,7 @@ fn id_of(profile: &Profile, index: u64) -> u64
     (u64::from(profile.first) + index) % ALL_IDS
 }
 
-/// Returns the id of the object with this index.
+/// Returns the id of the object with this index: the profile's `first` and the index, modulo 65,536.
 pub fn object_id(profile: &Profile, index: u32) -> u16
     ensures { result ≡ id_of_index profile.now index }
 {

@@ -14,20 +14,20 @@ pub const OBJECT: usize = 2;
 /// The offset of the header's length, in words.
 // From here to `COMMON_WORDS`: the common header of RFC 5740 section 4.1.
 pub const WORDS_AT: usize = 1;
-/// The offset of the sequence number.
+/// The offset of the sequence number, of 16 bits.
 pub const SEQUENCE_AT: usize = 2;
-/// The offset of the source.
+/// The offset of the source's node id.
 pub const SOURCE_AT: usize = 4;
 /// The octets of the common header.
 pub const COMMON: usize = 8;
 /// The words of the common header, and of the shortest header: that of a REPORT.
 pub const COMMON_WORDS: u8 = 2;
 
-/// The offset of the instance, except in feedback.
+/// The offset of the instance, of 16 bits, except in feedback.
 // From here to `NAME_AT`: the sender's messages, RFC 5740 sections 4.2.1 to 4.2.3. Feedback has an acknowledgement's type and id at the same
 // octets.
 pub const INSTANCE_AT: usize = 8;
-/// The offset of the round trip time.
+/// The offset of the group's round trip time, in the RFC's code of one octet.
 pub const GRTT_AT: usize = 10;
 /// The offset of the octet with the back-off factor (high four bits) and the group size (low four bits).
 pub const SIZES_AT: usize = 11;
@@ -35,19 +35,19 @@ pub const SIZES_AT: usize = 11;
 pub const FLAGS_AT: usize = 12;
 /// The offset of a command's sub-type.
 pub const SUB_TYPE_AT: usize = 12;
-/// The offset of the FEC Encoding ID.
+/// The offset of the FEC Encoding ID in INFO, DATA, FLUSH and SQUELCH.
 pub const ENCODING_AT: usize = 13;
 /// The offset of the flags of a REPAIR_ADV.
 pub const ADV_FLAGS_AT: usize = 13;
-/// The offset of the object transport id.
+/// The offset of the object transport id in INFO, DATA, FLUSH and SQUELCH.
 pub const OBJECT_AT: usize = 14;
 /// The offset of an acknowledgement's type, also in ACK_REQ.
 pub const ACK_TYPE_AT: usize = 14;
 /// The offset of an acknowledgement's id, also in ACK_REQ.
 pub const ACK_ID_AT: usize = 15;
-/// The offset of a symbol's name.
+/// The offset of the symbol's name in DATA, FLUSH and SQUELCH: four octets.
 pub const NAME_AT: usize = 16;
-/// The offset of the sender in feedback.
+/// The offset of the sender's node id in feedback.
 // These two are of feedback, in a layout of our own after RFC 5740 sections 4.3.1 and 4.3.2: it names the sender that it is for, and then that
 // sender's instance.
 pub const SENDER_AT: usize = 8;

@@ -12,7 +12,7 @@ use byteorder::{BigEndian, ByteOrder};
 use fec_plan::PayloadId;
 use norm_base::{Datagram, InstanceId, NodeId};
 
-/// Appends a 16-bit number.
+/// Appends a number in two octets, the high one first.
 pub fn push_16(n: u16, out: &mut Datagram)
     requires { length out.old + 2 ≤ datagram_room }
     ensures { out.new ≡ out.old ++ big_bytes 2 n }
@@ -22,7 +22,7 @@ pub fn push_16(n: u16, out: &mut Datagram)
     out.push(&octets);
 }
 
-/// Appends a 32-bit number.
+/// Appends a number in four octets, the highest first.
 pub fn push_32(n: u32, out: &mut Datagram)
     requires { length out.old + 4 ≤ datagram_room }
     ensures { out.new ≡ out.old ++ big_bytes 4 n }
@@ -48,7 +48,7 @@ pub fn push_instance(instance: InstanceId, out: &mut Datagram)
     push_16(instance.0, out);
 }
 
-/// Appends the name of a symbol, in four octets.
+/// Appends the name of a symbol: three octets of block and one of symbol.
 pub fn push_name(id: &PayloadId, out: &mut Datagram)
     requires { length out.old + 4 ≤ datagram_room }
     ensures { out.new ≡ out.old ++ name_octets id.now }
@@ -67,7 +67,7 @@ pub fn push_front(kind: u8, words: u8, sequence: u16, source: NodeId, out: &mut 
     push_32(source.number(), out);
 }
 
-/// Appends the eight octets that follow the common header in INFO and DATA.
+/// Appends the eight octets that follow the common header in INFO and DATA. Among them is the FEC Encoding ID, 5.
 pub fn push_object_head(head: &ObjHead, out: &mut Datagram)
     requires backoff { head.now.backoff < 16 }
     requires gsize { head.now.gsize < 16 }

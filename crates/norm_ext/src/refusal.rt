@@ -1,7 +1,7 @@
 //! Why octets are refused.
 
-/// The first thing that is wrong with a datagram. If several apply, the first in the order of the variants is reported. `at` is an offset in the
-/// datagram.
+/// The first thing that is wrong with a datagram. If several apply, the first in the order of the variants is reported. Of a list of requests,
+/// only the first bad request counts. `at` is an offset in the datagram.
 #[derive(Clone, Copy, Debug, PartialEq, Eq)]
 pub enum Refusal {
     /// The datagram is shorter than the common header.
@@ -24,11 +24,12 @@ pub enum Refusal {
     RequestForm { at: usize },
     /// A request does not end within the datagram, or its length is not a whole number of items (of pairs of items, if its form is ranges).
     RequestLength { at: usize },
-    /// The FEC Encoding ID of an item is not 5.
+    /// The FEC Encoding ID of an item is not 5, in a request or in a flush acknowledgement.
     ItemFec { at: usize, id: u8 },
-    /// The source, or the sender that feedback names, is no member.
+    /// The source, or the sender that feedback names, is 0 or 4294967295, which no member can be.
     BadNode,
-    /// Octets are left over at the end of a list or after an EOT, or a flush acknowledgement has `rest` octets and not one item.
+    /// `rest` octets are left over at the end of a list of nodes or objects, or after the header of an EOT. Or a flush acknowledgement has `rest`
+    /// octets of content and not the eight of an item.
     BadList { rest: usize },
 }
 

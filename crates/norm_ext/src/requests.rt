@@ -14,7 +14,7 @@ use crate::places::{ITEM, ITEM_NAME_AT, ITEM_OBJECT_AT, ITEMS_LENGTH_AT, REQUEST
 use crate::refusal::Refusal;
 use std::marker::Model;
 
-/// A repair request. `items` are the octets of its items.
+/// A repair request. `items` are the octets of its items, eight for each. For form ranges, each two items are a range.
 // The items stay octets, with their reserved ones: a message that is written takes its list of requests as it is lent.
 #[derive(Clone, Copy, Debug)]
 pub struct Request<'a> {
@@ -24,14 +24,14 @@ pub struct Request<'a> {
 }
 
 impl<'a> Request<'a> {
-    /// Returns how many items it has, at most `u32::MAX`.
+    /// Returns how many items it has, at most `u32::MAX`. Both ends of a range count.
     pub fn count(&self) -> u32
         ensures { result ≡ min (length self.now.items.now / item_width) 4294967295 }
     {
         (self.items.len() / ITEM).min(u32::MAX as usize) as u32
     }
 
-    /// Returns the item with this index, counted from 0.
+    /// Returns the item with this index, counted from 0. Each end of a range is an item of its own.
     pub fn item(&self, i: u32) -> Item
         requires { item_width * i + item_width ≤ length self.now.items.now }
         ensures { slice_get (items_named self.now.items.now) i ≡ Some result }
@@ -54,7 +54,8 @@ fn size_of_item(form: Form) -> usize
     }
 }
 
-/// Refuses the first item whose FEC Encoding ID is not 5. `at` is the offset of the items in the datagram.
+/// Refuses the first item whose FEC Encoding ID is not 5. `at` is the offset of the items in the datagram. Fewer than eight octets at the end are
+/// not looked at.
 fn check_items(items: &[u8], at: usize) -> Result<(), Refusal>
     requires { at + length items.now < 2 ^ 64 }
     ensures { result ≡ items_checked at items.now }
@@ -89,7 +90,8 @@ fn check_length(octets: &[u8], form: Form, at: usize) -> Result<usize, Refusal>
     Ok(len)
 }
 
-/// Returns how many octets the first request has. `at` is its offset in the datagram, which a refusal reports.
+/// Returns how many octets the first request has, or how it is bad: its form first, then its length, then its items. `at` is its offset in the
+/// datagram.
 fn check_first(octets: &[u8], at: usize) -> Result<usize, Refusal>
     requires some { 0 < length octets.now }
     requires place { at + length octets.now < 2 ^ 64 }
@@ -144,7 +146,7 @@ impl<'a> Model for Requests<'a> {
     ghost invariant = { λ r. IsRequests r.list.now };
 }
 
-/// Returns the octets of a list that was checked. They spell its requests.
+/// Returns the list itself: one that was checked spells its own requests.
 fn spelled(list: &[u8]) -> &[u8]
     requires { IsRequests list.now }
     ensures { result.now ≡ requests_octets (all_requests list.now) }
@@ -152,7 +154,6 @@ fn spelled(list: &[u8]) -> &[u8]
     list
 }
 
-/// Whether a list has no requests.
 fn has_none(list: &[u8]) -> bool
     ensures { result ≡ (length (all_requests list.now) == 0) }
 {
@@ -184,28 +185,28 @@ impl<'a> Requests<'a> {
         Ok(Requests { list })
     }
 
-    /// Returns a list without requests.
+    /// Returns an empty list. A receiver writes the beginning of a NACK with it, and appends requests by a `RequestWriter`.
     pub fn none() -> Requests<'a>
         ensures { result ≡ [] }
     {
         Requests { list: &[] }
     }
 
-    /// Returns an iterator over the requests, from the first on.
+    /// Returns another iterator over the requests that [`next`](Requests::next) did not return yet. This one stays as it is.
     pub fn iter(&self) -> Requests<'a>
         ensures { result ≡ self.now }
     {
         Requests { list: self.list }
     }
 
-    /// Whether there is no request.
+    /// Whether [`next`](Requests::next) has no more to return. Looks at no request.
     pub fn is_empty(&self) -> bool
         ensures { result ≡ (length self.now == 0) }
     {
         has_none(self.list)
     }
 
-    /// Returns the octets that spell the requests.
+    /// Borrows the octets of the requests that [`next`](Requests::next) did not return yet, with forms, flags and lengths.
     pub fn octets(&self) -> &'a [u8]
         ensures { result.now ≡ requests_octets self.now }
     {
@@ -242,7 +243,7 @@ impl<'a> Iterator for Requests<'a> {
 
     ghost next_gives = { λ old given new. (option_map request_of given ≡ slice_get old 0) × (new ≡ drop 1 old) };
 
-    /// Returns the next request.
+    /// Returns the next request. It may have no items.
     fn next(&mut self) -> Option<Request<'a>> {
         let (request, rest) = cut_first(self.list)?;
         self.list = rest;

@@ -20,10 +20,8 @@ use crate::pushing::{push_16, push_name};
 use norm_base::Datagram;
 use std::marker::Model;
 
-/// The octets of a request before its items.
 // `places::REQUEST` in 16 bits, as a request's length has.
 const FRONT: u16 = places::REQUEST as u16;
-/// The octets of an item.
 // `places::ITEM` in 16 bits.
 const ITEM: u16 = places::ITEM as u16;
 
@@ -36,7 +34,7 @@ const ITEM: u16 = places::ITEM as u16;
 #[derive(Debug, Drop)]
 pub struct RequestWriter {
     limit: u16,
-    /// The octets of the requests so far.
+    /// The octets of all requests that were appended.
     used: u16,
     /// The form of the last request, if there is one. The next two are its flags and the octets of its items.
     form: Option<Form>,
@@ -56,7 +54,7 @@ impl Model for RequestWriter {
     ghost invariant = { λ w. (w.used ≤ w.limit) × ((w.form ≡ None) ⊎ (request_front + w.len ≤ w.used)) };
 }
 
-/// Appends an item.
+/// Appends an item, with FEC Encoding ID 5 and a reserved octet of 0.
 fn push_one(item: &Item, out: &mut Datagram)
     requires { length out.old + item_width ≤ datagram_room }
     ensures { out.new ≡ out.old ++ item_octets (written_item item.now) }
@@ -89,7 +87,7 @@ fn push_ends(first: &Item, last: &Option<Item>, out: &mut Datagram)
 }
 
 impl RequestWriter {
-    /// Returns a writer of at most `limit` octets of requests.
+    /// Returns a writer of at most `limit` octets of requests. Appends nothing.
     pub fn new(limit: u16) -> RequestWriter
         ensures { result ≡ writing limit [] }
     {
@@ -102,7 +100,7 @@ impl RequestWriter {
         }
     }
 
-    /// Whether an item with this form and these flags joins the last request.
+    /// Whether an item with this form and these flags joins the last request. `false` if there is none.
     fn joins(&self, form: Form, flags: u8) -> bool
         ensures { IsTrue result ↔ ((self.now.form ≡ Some form) × (self.now.flags ≡ flags)) }
     {
@@ -144,8 +142,8 @@ impl RequestWriter {
         self.len = items;
     }
 
-    /// Appends an item, or a range by its two ends. Returns false if the requests would exceed the limit; then nothing changes.
-    /// The datagram needs room for what the limit still allows.
+    /// Appends an item, or a range by its two ends: `last` is for form ranges. Returns `false` if the requests would exceed the limit; then
+    /// nothing changes. The datagram needs room for what the limit still allows.
     // Proof: it asks for numbers alone: if the datagram stands for a list of requests, it stands for one more. No list is kept.
     pub fn push_item(
         &mut self,
