@@ -15,7 +15,7 @@ use norm_ext::{CmdHead, Extensions, Requests, SubType};
 // The common header and the fields of each command up to its sub-type (RFC 5740 section 4.2.3).
 pub(crate) const BEFORE_REST: usize = SUB_TYPE_AT + 1;
 
-/// A command. It borrows from the datagram.
+/// A command. It borrows from the datagram that it was read from.
 #[derive(Debug, Drop)]
 pub enum CommandMsg<'a> {
     /// The sender sent everything up to this symbol, and these nodes should acknowledge it.
@@ -24,9 +24,8 @@ pub enum CommandMsg<'a> {
         /// The object transport id.
         object: u16,
         id: PayloadId,
-        /// The header extensions.
         exts: Extensions<'a>,
-        /// Node ids of 32 bits. If the command was read, some may still be no members.
+        /// Node ids of 32 bits, for [`nodes_of`](crate::nodes_of). If the command was read, some may still be no members.
         nodes: &'a [u8],
     },
     /// The sender's transmission ends.
@@ -40,7 +39,7 @@ pub enum CommandMsg<'a> {
         object: u16,
         id: PayloadId,
         exts: Extensions<'a>,
-        /// Object transport ids of 16 bits.
+        /// Object transport ids of 16 bits, for [`objects_of`](crate::objects_of).
         invalid: &'a [u8],
     },
     /// The sender already received these requests.
@@ -70,14 +69,12 @@ pub enum CommandMsg<'a> {
     },
 }
 
-/// Whether the back-off factor and the group size fit into four bits each.
 fn head_fits(head: &CmdHead) -> bool
     ensures { IsTrue result ↔ IsNarrow head.now }
 {
     is_narrow(head.backoff, head.gsize)
 }
 
-/// Whether extensions and content have room after `fixed` octets of fixed fields.
 fn parts_fit(fixed: usize, exts: &Extensions<'_>, content: &[u8]) -> bool
     requires { fixed ≤ word_size * most_header_words }
     ensures { IsTrue result ↔ HasRoom fixed exts.now content.now }
@@ -85,7 +82,6 @@ fn parts_fit(fixed: usize, exts: &Extensions<'_>, content: &[u8]) -> bool
     has_room(fixed, exts, content.len())
 }
 
-/// Whether extensions and requests have room in a REPAIR_ADV.
 fn adv_fits(exts: &Extensions<'_>, requests: &Requests<'_>) -> bool
     ensures { IsTrue result ↔ HasRoom command_header exts.now (requests_octets requests.now) }
 {

@@ -29,7 +29,7 @@ impl<'a> Model for Nodes<'a> {
     ghost invariant = { λ n. length n.list.now % node_size ≡ 0 };
 }
 
-/// Returns an iterator over a list of node ids, whose length is a multiple of 4.
+/// Returns an iterator over the nodes of a FLUSH or an ACK_REQ. Those of a command that was read are whole.
 pub fn nodes_of(list: &[u8]) -> Nodes<'_>
     requires { length list.now % node_size ≡ 0 }
     ensures { result ≡ all_nodes list.now }
@@ -37,7 +37,7 @@ pub fn nodes_of(list: &[u8]) -> Nodes<'_>
     Nodes { list }
 }
 
-/// Whether a list of node ids names this node. A receiver asks this to see if a FLUSH is for it.
+/// Whether a list of node ids names this node. Walks the list. A receiver asks this to see if a FLUSH is for it.
 pub fn names(list: &[u8], node: NodeId) -> bool
     requires { length list.now % node_size ≡ 0 }
     ensures { result ≡ list_any (λ n. n == node) (all_nodes list.now) }
@@ -74,7 +74,6 @@ impl<'a> Iterator for Nodes<'a> {
 
     ghost next_gives = { λ old given new. (given ≡ slice_get old 0) × (new ≡ drop 1 old) };
 
-    /// Returns the next node id.
     fn next(&mut self) -> Option<u32> {
         let (node, rest) = cut_node(self.list)?;
         self.list = rest;
@@ -82,7 +81,7 @@ impl<'a> Iterator for Nodes<'a> {
     }
 }
 
-/// Iterates over the object transport ids of a list.
+/// Iterates over the object transport ids of a list. Only `norm_show` does: a receiver goes by a SQUELCH's symbol alone.
 // Whole numbers, as for `Nodes`.
 #[derive(Debug, Drop)]
 pub struct Objects<'a> {
@@ -101,7 +100,7 @@ impl<'a> Model for Objects<'a> {
     ghost invariant = { λ n. length n.list.now % object_size ≡ 0 };
 }
 
-/// Returns an iterator over a list of object transport ids, whose length is a multiple of 2.
+/// Returns an iterator over the objects of a SQUELCH. Those of a command that was read are whole.
 pub fn objects_of(list: &[u8]) -> Objects<'_>
     requires { length list.now % object_size ≡ 0 }
     ensures { result ≡ all_objects list.now }
@@ -132,7 +131,6 @@ impl<'a> Iterator for Objects<'a> {
 
     ghost next_gives = { λ old given new. (given ≡ slice_get old 0) × (new ≡ drop 1 old) };
 
-    /// Returns the next object transport id.
     fn next(&mut self) -> Option<u16> {
         let (object, rest) = cut_object(self.list)?;
         self.list = rest;

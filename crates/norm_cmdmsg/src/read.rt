@@ -155,7 +155,7 @@ fn known_sub_type(bytes: &[u8]) -> Result<SubType, Refusal>
     }
 }
 
-/// Reads a command of this sub-type, whose header has `end` octets.
+/// Reads a command of this sub-type, whose header has `end` octets. The two that are kept unread need no `end`.
 fn read_by(sub_type: SubType, bytes: &[u8], end: usize) -> Result<CommandMsg<'_>, Refusal>
     requires end { end ≡ word_size * words_of bytes.now }
     requires least { word_size * least_words MessageType.Command bytes.now ≤ end }

@@ -146,7 +146,7 @@ fn write_ack_req(
     out.push(nodes);
 }
 
-/// Writes a command whose content was kept unread.
+/// Writes a command whose content was kept unread. Its extensions are in `rest` too, so `words` is written as it is.
 fn write_opaque(head: &CmdHead, sub_type: u8, words: u8, rest: &[u8], out: &mut Datagram)
     requires empty { out.old ≡ [] }
     requires head { IsNarrow head.now }

@@ -16,7 +16,7 @@ use norm_ext::{MessageType, Refusal, read_16};
 use norm_fbmsg::{read_ack, read_nack};
 use norm_objmsg::grammar::{read_data, read_info};
 
-/// Reads a report, or returns the first refusal that applies.
+/// Reads a report. Refuses it only for its header or its source, since its content is kept unread.
 #[tactic(auto, unfolding(norm_ext::specs::Reading::report_read))]
 fn read_report(bytes: &[u8]) -> Result<Message<'_>, Refusal>
     ensures exact { MatchResult result (λ m. report_read bytes.now ≡ Ok (message_of m)) (λ refusal. report_read bytes.now ≡ Err refusal) }
@@ -44,7 +44,7 @@ fn read_type(bytes: &[u8]) -> Result<MessageType, Refusal>
     }
 }
 
-/// Reads a message of this type, or returns the first refusal that applies.
+/// Reads a message of this type. Its reader checks version and type once more, because each may be called by itself.
 fn read_message(kind: MessageType, bytes: &[u8]) -> Result<Message<'_>, Refusal>
     ensures exact { MatchResult result (λ m. read_as kind bytes.now ≡ Ok (message_of m)) (λ refusal. read_as kind bytes.now ≡ Err refusal) }
     ensures whole { IfOk result IsWhole }
@@ -74,7 +74,7 @@ fn read_message(kind: MessageType, bytes: &[u8]) -> Result<Message<'_>, Refusal>
     }
 }
 
-/// Reads a message of any type. `decode` is the same with more promises.
+/// Like `decode`, which promises more.
 #[tactic(auto, unfolding(norm_ext::specs::Reading::decoded))]
 fn read_any(bytes: &[u8]) -> Result<Message<'_>, Refusal>
     ensures exact { MatchResult result (λ m. decoded bytes.now ≡ Ok (message_of m)) (λ refusal. decoded bytes.now ≡ Err refusal) }
@@ -91,13 +91,10 @@ fn read_any(bytes: &[u8]) -> Result<Message<'_>, Refusal>
 ///
 /// If the octets spell no message, the first refusal that applies, in the order of [`Refusal`].
 pub fn decode(bytes: &[u8]) -> Result<Message<'_>, Refusal>
-    // It is what the grammar's reading gives.
     ensures exact { MatchResult result (λ m. decoded bytes.now ≡ Ok (message_of m)) (λ refusal. decoded bytes.now ≡ Err refusal) }
-    // The lists of numbers that it lends are whole.
     ensures whole { IfOk result IsWhole }
-    // A message that is given is spelled by the octets.
     ensures found { IfOk result (λ m. Spells (message_of m) bytes.now) }
-    // Octets that are refused spell no message.
+    // So whoever drops what is refused loses no message.
     ensures none { IfErr result (λ refusal. (m : Meaning) → Spells m bytes.now → ⊥) }
 {
     read_any(bytes)

@@ -24,7 +24,7 @@ fn write_report(source: NodeId, sequence: u16, words: u8, rest: &[u8], out: &mut
 }
 
 /// Writes a message into an empty datagram. Reserved octets and time stamps are 0. Ask [`fits`](Message::fits) first if it may not fit.
-// Only tests call it so far: a node knows which message it writes. It stays for programs over this crate.
+// Only tests call it: a node knows which message it writes. It is for programs over this crate.
 pub fn encode(msg: &Message<'_>, out: &mut Datagram)
     requires empty { out.old ≡ [] }
     requires message { CanEncode msg.now }

@@ -12,7 +12,7 @@ use norm_ext::{Extensions, Item, Requests};
 // NORM_ACK_FLUSH. An acknowledgement of any other type is lent as it is, and not read.
 pub const FLUSH_ACK: u8 = 2;
 
-/// A NACK: a receiver requests repairs. It borrows from the datagram.
+/// A NACK: a receiver requests repairs. It borrows from the datagram that it was read from.
 #[derive(Debug, Drop)]
 pub struct NackMsg<'a> {
     pub source: NodeId,
@@ -20,7 +20,6 @@ pub struct NackMsg<'a> {
     /// The sender that should repair.
     pub sender: NodeId,
     pub instance: InstanceId,
-    /// The header extensions.
     pub exts: Extensions<'a>,
     pub requests: Requests<'a>,
 }
@@ -34,7 +33,7 @@ pub enum AckBody<'a> {
     Opaque(&'a [u8]),
 }
 
-/// An ACK. It borrows from the datagram.
+/// An ACK: a receiver answers the sender, which requested it by a FLUSH or an ACK_REQ. It borrows from the datagram that it was read from.
 #[derive(Debug, Drop)]
 pub struct AckMsg<'a> {
     pub source: NodeId,
@@ -44,12 +43,11 @@ pub struct AckMsg<'a> {
     pub instance: InstanceId,
     pub ack_type: u8,
     pub ack_id: u8,
-    /// The header extensions.
     pub exts: Extensions<'a>,
     pub body: AckBody<'a>,
 }
 
-/// Whether extensions and `content` octets of content have room after the fixed fields.
+/// Whether extensions and `content` octets of content have room after the fixed fields, which NACK and ACK have equally many of.
 fn parts_fit(exts: &Extensions<'_>, content: usize) -> bool
     ensures { IsTrue result ↔ CanWriteParts exts.now content }
 {
@@ -64,7 +62,7 @@ impl<'a> NackMsg<'a> {
         parts_fit(&self.exts, self.requests.octets().len())
     }
 
-    /// Returns an iterator over its requests.
+    /// Returns an iterator over its requests, from the first on. The message keeps its own.
     pub fn requests(&self) -> Requests<'a>
         ensures { result ≡ self.now.requests }
     {
@@ -73,7 +71,7 @@ impl<'a> NackMsg<'a> {
 }
 
 impl<'a> AckBody<'a> {
-    /// Returns its length in octets.
+    /// Returns its length in octets, as it is written: eight for an item.
     fn len(&self) -> usize
         ensures { result ≡ body_length self.now }
     {

@@ -54,7 +54,7 @@ fn check_ack_encoding(ack_type: u8, at: usize, content: &[u8]) -> Result<(), Ref
     Ok(())
 }
 
-/// Refuses a flush acknowledgement if its content is not as long as one item.
+/// Refuses a flush acknowledgement if its content is not as long as one item. Any content of other types is accepted.
 fn check_ack_length(ack_type: u8, content: &[u8]) -> Result<(), Refusal>
     ensures exact { result ≡ ack_length_checked ack_type content.now }
     ensures item { OnOk result (ack_type ≡ flush_ack → length content.now ≡ item_width) }
@@ -66,7 +66,7 @@ fn check_ack_length(ack_type: u8, content: &[u8]) -> Result<(), Refusal>
     Ok(())
 }
 
-/// Returns the content of an acknowledgement of this type.
+/// Returns the content of an acknowledgement of this type. An item's FEC Encoding ID and reserved octet are not looked at.
 fn body_of(ack_type: u8, content: &[u8]) -> AckBody<'_>
     requires { ack_type ≡ flush_ack → length content.now ≡ item_width }
     ensures { content_of result ≡ ack_content_of ack_type content.now }

@@ -51,7 +51,7 @@ pub fn write_nack(msg: &NackMsg<'_>, out: &mut Datagram)
     write_nack_parts(msg, &msg.exts, &msg.requests, out);
 }
 
-/// Appends the content of an acknowledgement.
+/// Appends the content of an acknowledgement. An item has FEC Encoding ID 5 and a reserved octet of 0.
 fn push_body(body: &AckBody<'_>, out: &mut Datagram)
     requires { length out.old + body_length body.now ≤ datagram_room }
     ensures { out.new ≡ out.old ++ content_octets (content_of body.now) (zero_list 1) }

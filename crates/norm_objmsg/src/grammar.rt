@@ -28,7 +28,6 @@ const OFFSET_AT: usize = 4;
 #[derive(Debug, Drop)]
 pub struct InfoMsg<'a> {
     pub head: ObjHead,
-    /// The header extensions.
     pub exts: Extensions<'a>,
     pub info: &'a [u8],
 }
@@ -38,7 +37,6 @@ pub struct InfoMsg<'a> {
 pub struct DataMsg<'a> {
     pub head: ObjHead,
     pub id: PayloadId,
-    /// The header extensions.
     pub exts: Extensions<'a>,
     pub payload: &'a [u8],
 }
@@ -67,7 +65,7 @@ impl<'a> DataMsg<'a> {
 // The order (norm_order) has a definition of its own for a segment's octets, because it does not stand on the messages.
 #[derive(Clone, Copy, Debug, PartialEq, Eq)]
 pub struct StreamPart<'a> {
-    /// The number of octets, as the payload says.
+    /// How many octets the segment has, as the payload says.
     pub len: u16,
     pub msg_start: u16,
     /// The offset of the segment in the stream.
@@ -119,7 +117,7 @@ pub fn read_data(bytes: &[u8]) -> Result<DataMsg<'_>, Refusal>
 
 /// Returns the segment in the payload of a stream's symbol. Returns `None` if the payload has fewer than eight octets, or fewer after them than
 /// it says. More octets are ignored.
-// Nothing calls it so far: a receiver hands up the octets of a coded row. It stays for programs that read single datagrams.
+// Nothing calls it here: a receiver hands up the octets of decoded symbol buffers. It is for programs that read single datagrams.
 pub fn read_part(payload: &[u8]) -> Option<StreamPart<'_>>
     ensures { option_map part_of result ≡ segment_in payload.now }
 {
@@ -138,7 +136,6 @@ pub fn read_part(payload: &[u8]) -> Option<StreamPart<'_>>
     })
 }
 
-/// Writes a NORM_INFO from its parts.
 fn write_info_parts(head: &ObjHead, exts: &Extensions<'_>, info: &[u8], out: &mut Datagram)
     requires empty { out.old ≡ [] }
     requires parts { CanWrite info_header head.now exts.now info.now }
@@ -167,7 +164,6 @@ pub fn write_info(msg: &InfoMsg<'_>, out: &mut Datagram)
     write_info_parts(&msg.head, &msg.exts, msg.info, out);
 }
 
-/// Writes a NORM_DATA from its parts.
 fn write_data_parts(
     head: &ObjHead,
     id: &PayloadId,
