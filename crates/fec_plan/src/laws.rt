@@ -33,7 +33,7 @@ pub fn symbols_cover()
     ensures { SymbolsCover }
 {}
 
-/// Every source symbol of an object has `e` octets, except the last one.
+/// Every source symbol of an object has `e` octets, as it is sent, except perhaps the last one.
 pub fn all_but_last_are_full()
     ensures { AllButLastAreFull }
 {}

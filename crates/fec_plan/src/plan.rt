@@ -50,7 +50,7 @@ pub enum PlanFault {
 }
 
 /// How an object of `l` octets, or a stream, is cut into symbols of `e` octets and blocks of at most `b` source symbols. A block of `b` has
-/// `max_n` encoding symbols, a shorter one proportionally fewer.
+/// `max_n` encoding symbols, a shorter one proportionally fewer, rounded down.
 // Only a sound cut is ever made. An `e` or a `b` of 0 would divide by 0 as blocks are counted, and an `l` of 0 as their sizes are computed.
 #[derive(Clone, Copy, Debug, PartialEq, Eq)]
 pub struct Plan {
@@ -72,7 +72,7 @@ impl Model for Plan {
     ghost inverse = { λ c. record { l = c.l; e = c.e; b = c.b; max_n = c.max_n } };
 }
 
-/// Checks the length of symbols and blocks.
+/// Checks what objects and streams have in common.
 ///
 /// # Errors
 ///
@@ -92,7 +92,6 @@ fn check_shape(e: u16, b: u8, max_n: u8) -> Result<(), PlanFault>
     Ok(())
 }
 
-/// Returns the number of blocks of an object of `l` octets.
 fn blocks_of(l: u64, e: u16, b: u8) -> u64
     requires symbol { 0 < e }
     requires block { 0 < b }
@@ -131,7 +130,7 @@ fn larger_count(symbols: u64, b: u8) -> u64
     symbols - symbols / blocks * blocks
 }
 
-/// Returns the size of a block, in source symbols.
+/// Returns the size of a block, in source symbols. A number after the last block gives a smaller block's.
 fn size_of_block(symbols: u64, b: u8, block: u32) -> u8
     requires some { 0 < symbols }
     requires block { 0 < b }
@@ -145,7 +144,7 @@ fn size_of_block(symbols: u64, b: u8, block: u32) -> u8
     }
 }
 
-/// Returns the number of source symbols in all blocks before `block`.
+/// Returns the number of source symbols in all blocks before `block`. Needs no walk over them.
 fn count_before(symbols: u64, b: u8, block: u32) -> u64
     requires some { 0 < symbols }
     requires block { 0 < b }
@@ -214,7 +213,7 @@ impl Plan {
         self.e
     }
 
-    /// Returns the number of blocks, at most 16,777,216. A stream has this many from the beginning.
+    /// Returns the number of blocks. A stream has 16,777,216 from the beginning.
     pub fn blocks(&self) -> u32
         ensures exact { result ≡ blocks self.now }
         ensures most { result ≤ most_blocks }
@@ -227,7 +226,8 @@ impl Plan {
         }
     }
 
-    /// Returns the number of source symbols of a block. For a stream it is `b`, for any block.
+    /// Returns the number of source symbols of a block. For a stream it is `b`, for any block. `block` is not checked: a number after an object's last
+    /// block gives a smaller block's.
     pub fn source_len(&self, block: u32) -> u8
         ensures exact { result ≡ source_symbols self.now block }
         ensures most { result ≤ self.now.b }
@@ -242,7 +242,7 @@ impl Plan {
         }
     }
 
-    /// Returns the number of encoding symbols of a block: source symbols and parity.
+    /// Returns the number of encoding symbols of a block: source symbols and parity. `block` is not checked, as for `source_len`.
     pub fn encoded_len(&self, block: u32) -> u8
         ensures { result ≡ encoding_symbols self.now block }
     {
@@ -251,7 +251,7 @@ impl Plan {
         (u16::from(sources) * u16::from(self.max_n) / u16::from(self.b)) as u8
     }
 
-    /// Returns a source symbol's number in the whole object or stream, from 0.
+    /// Returns a source symbol's number in the whole object or stream, from 0. Whether there is such a symbol is not checked.
     pub fn symbol_number(&self, block: u32, symbol: u8) -> u64
         ensures exact { result ≡ symbol_number self.now block symbol }
         ensures most { result < 2 ^ 43 }
@@ -265,7 +265,7 @@ impl Plan {
         }
     }
 
-    /// Returns the length of a symbol as it is sent, in octets. The last source symbol of an object may be shorter than the others. For a
+    /// Returns the length of a symbol as it is sent, in octets. The last source symbol of an object may be shorter than `e`; parity never is. For a
     /// stream it is the most that a symbol can have: the header of a segment and `e` octets.
     pub fn symbol_octets(&self, block: u32, symbol: u8) -> u16
         ensures { result ≡ sent_octets self.now block symbol }

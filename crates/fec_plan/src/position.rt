@@ -46,7 +46,7 @@ impl Model for Position {
 }
 
 impl Point {
-    /// Whether this block is before the other.
+    /// Whether this block is before the other in transport order.
     // Every comparison of points goes by these calls: a user of the crate then needs their contract, and nothing of how a derived order compares.
     pub fn is_before(&self, other: &Point) -> bool
         ensures { result ≡ point_before self.now other.now }
@@ -54,14 +54,13 @@ impl Point {
         self < other
     }
 
-    /// Whether they are the same block.
     pub fn is(&self, other: &Point) -> bool
         ensures { result ≡ same_point self.now other.now }
     {
         self == other
     }
 
-    /// Returns the further of this block and `seen`, or this one if `seen` is `None`.
+    /// Returns the further of this block and `seen`, or this one if `seen` is `None`. The result is never `None`.
     pub fn further(self, seen: Option<Point>) -> Option<Point>
         ensures { result ≡ further_point self seen }
     {
@@ -73,7 +72,6 @@ impl Point {
 }
 
 impl Position {
-    /// Returns the block of the symbol.
     pub fn point(&self) -> Point
         ensures { result ≡ point_of self.now }
     {
@@ -83,14 +81,13 @@ impl Position {
         }
     }
 
-    /// Whether this symbol is before the other.
+    /// Whether this symbol is before the other in transport order.
     pub fn is_before(&self, other: &Position) -> bool
         ensures { result ≡ position_before self.now other.now }
     {
         self < other
     }
 
-    /// Whether they are the same symbol.
     pub fn is(&self, other: &Position) -> bool
         ensures { result ≡ same_position self.now other.now }
     {
@@ -112,7 +109,7 @@ impl Position {
         if other.is_before(&self) { other } else { self }
     }
 
-    /// Returns the further of this symbol and `seen`, or this one if `seen` is `None`.
+    /// Returns the further of this symbol and `seen`, or this one if `seen` is `None`. The result is never `None`.
     pub fn further(self, seen: Option<Position>) -> Option<Position>
         ensures { result ≡ further self seen }
     {

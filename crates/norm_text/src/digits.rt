@@ -24,7 +24,6 @@ fn high_digits(lanes: u8x64) -> u8x64
     u8x64::from_array(DIGITS).swizzle_dyn_within::<16>(lanes >> u8x64::splat(4))
 }
 
-/// Returns the lower-case hexadecimal digit of each lane's low four bits.
 #[inline(always)]
 fn low_digits(lanes: u8x64) -> u8x64
     ensures { result ≡ map (λ x. slice_index lower_digits (x % 16)) lanes }
@@ -43,7 +42,7 @@ fn halves_of(lanes: u8x64) -> (u8x64, u8x64)
     high_digits(lanes).interleave(low_digits(lanes))
 }
 
-/// Returns the two digits of each lane, in order.
+/// Returns the two digits of each lane, the one of its high four bits first.
 #[inline(always)]
 fn digits_of(lanes: u8x64) -> [u8; 128]
     ensures { result ≡ encode_lower lanes }
@@ -55,7 +54,7 @@ fn digits_of(lanes: u8x64) -> [u8; 128]
     digits
 }
 
-/// Returns fewer than 64 octets, padded with zeros.
+/// Returns fewer than 64 octets, padded with zeros, so that they take the way of 64.
 fn padded(octets: &[u8]) -> u8x64
     requires { length octets.now < 64 }
     ensures { result ≡ octets.now ++ replicate (64 - length octets.now) 0 }
@@ -80,7 +79,7 @@ fn put_few(text: &mut Vec<u8>, octets: &[u8])
     text.extend_from_slice(&digits[..2 * octets.len()]).unwrap();
 }
 
-/// Appends the digits of 64 octets to a text that has room for them.
+/// Appends the digits of 64 octets. It never fails, since the text has room for them.
 #[inline(always)]
 fn put_lanes(text: &mut Vec<u8>, octets: &[u8])
     requires whole { length octets.now ≡ 64 }

@@ -10,11 +10,10 @@ use norm_base::Octets;
 use std::alloc::{AllocError, Global};
 use std::marker::Model;
 
-/// The room that is reserved for the words of a line, except its contents.
+/// How many octets are reserved for the words of a line, except its contents.
 // Our own choice: a guess of the room, so that most lines take memory once. A longer line takes more as it grows.
 const WORDS: usize = 128;
 
-/// The separator between words.
 const SPACE: u8 = b' ';
 
 /// A line without its line feed. Contracts see its octets. Order of calls: [`begin`](Line::begin) with the first word, then words and
@@ -66,7 +65,7 @@ impl Line {
         self.octets.extend_from_slice(first)
     }
 
-    /// Borrows the octets of the line.
+    /// Borrows the octets of the line, with the line feed if [`finish`](Line::finish) was called.
     pub fn bytes(&self) -> &[u8]
         ensures { result.now ≡ self.now }
     {
@@ -171,14 +170,14 @@ impl Line {
         }
     }
 
-    /// Adds the line feed.
+    /// Adds the line feed. Then [`bytes`](Line::bytes) gives the whole line.
     pub fn finish(&mut self) -> Result<(), AllocError>
         ensures { OnOk result (self.new ≡ self.old ++ codes "\n") }
     {
         self.octets.extend_from_slice(b"\n")
     }
 
-    /// Returns the line with its line feed.
+    /// Returns the line with its line feed. Its memory goes to the caller.
     pub fn end(self) -> Result<Vec<u8>, AllocError>
         ensures { IfOk result (λ line. line.items ≡ self ++ codes "\n") }
     {

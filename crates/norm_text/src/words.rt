@@ -5,7 +5,7 @@ ghost use Rattle.norm_text.specs.Words.{kind_word};
 
 use norm_base::Kind;
 
-/// Returns the word for an object's kind.
+/// Returns `data` or `file`, as the lines of events spell an object's kind.
 pub fn kind_word(kind: Kind) -> &'static str
     ensures { result.now ≡ kind_word kind }
 {
