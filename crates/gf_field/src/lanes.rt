@@ -98,7 +98,6 @@ pub fn multiples_of(c: u8) -> Multiples
     }
 }
 
-/// Repeats sixteen lanes four times.
 #[inline(always)]
 fn four_times(lanes: u8x16) -> u8x64
     ensures { (i : ℕ) → i < 64 → slice_index result i ≡ slice_index lanes (i % 16) }
@@ -128,7 +127,7 @@ impl Multiples {
         }
     }
 
-    /// Multiplies each lane by the factor.
+    /// Multiplies each lane by the factor. One look-up for each half of the octets.
     #[inline(always)]
     fn times(&self, lanes: u8x16) -> u8x16
         ensures { (c : ℕ) → HasProducts 16 c self.now.low self.now.high → result ≡ map (product c) lanes }
@@ -137,7 +136,7 @@ impl Multiples {
             ^ self.high.swizzle_dyn(lanes >> u8x16::splat(4))
     }
 
-    /// Adds the products of sixteen octets from `at` on.
+    /// Adds the products of sixteen octets of `src`, from `at` on, to those of `dst`.
     #[inline(always)]
     fn add_lane(&self, dst: &mut [u8], src: &[u8], at: usize)
         requires room { at + 16 ≤ length dst.old }
@@ -150,7 +149,7 @@ impl Multiples {
 }
 
 impl WideMultiples {
-    /// Multiplies each lane by the factor.
+    /// Multiplies each lane by the factor. A look-up stays within sixteen lanes, so the four tables have to be equal.
     #[inline(always)]
     fn times(&self, lanes: u8x64) -> u8x64
         ensures { (c : ℕ) → HasProducts 64 c self.now.low self.now.high → result ≡ map (product c) lanes }
@@ -159,7 +158,7 @@ impl WideMultiples {
             ^ self.high.swizzle_dyn_within::<16>(lanes >> u8x64::splat(4))
     }
 
-    /// Adds the products of 64 octets from `at` on.
+    /// Adds the products of 64 octets of `src`, from `at` on, to those of `dst`.
     #[inline(always)]
     fn add_lane(&self, dst: &mut [u8], src: &[u8], at: usize)
         requires room { at + 64 ≤ length dst.old }
@@ -228,7 +227,7 @@ impl Multiples {
         dst.copy_from_slice(&sums[..dst.len()]);
     }
 
-    /// Adds the products of all octets of `src` to `dst`.
+    /// Adds the products of all octets of `src` to `dst`: 64 at a time, then sixteen, and then those that are left at once.
     // Proof: each lane speaks of every c whose products these are; IsAdded joins lanes by one lemma.
     pub fn add_all(&self, dst: &mut [u8], src: &[u8])
         requires { length dst.old ≡ length src.now }
@@ -247,7 +246,6 @@ impl Multiples {
     }
 }
 
-/// Returns fewer than sixteen octets, padded with zeros after them.
 fn padded(octets: &[u8]) -> u8x16
     requires { length octets.now < 16 }
     ensures { result ≡ octets.now ++ replicate (16 - length octets.now) 0 }

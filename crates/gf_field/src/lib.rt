@@ -17,8 +17,8 @@ mod tables;
 use lanes::multiples_of;
 use tables::{logarithm_of, power_of};
 
-/// Returns the product of two octets.
-// Only tests call it so far: codes multiply by `add_scaled` and by logarithms. It stays for programs over this crate, and so does `inv`.
+/// Returns the product of two octets. It costs three look-ups.
+// Only tests call it: codes multiply by `add_scaled` and by logarithms. It is for programs over this crate, and so is `inv`.
 #[inline]
 #[tactic(auto, using(crate::proofs::TableLemmas::logarithm_steps))]
 pub fn mul(a: u8, b: u8) -> u8
@@ -54,7 +54,7 @@ pub fn alpha_log(a: u8) -> u32
     logarithm_of(a)
 }
 
-/// Returns the octet whose product with `a` is 1.
+/// Returns the inverse of an octet that is not 0. It costs two look-ups.
 #[inline]
 #[tactic(auto, using(crate::proofs::TableLemmas::logarithm_steps))]
 pub fn inv(a: u8) -> u8

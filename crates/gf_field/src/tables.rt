@@ -51,7 +51,7 @@ const LOGARITHMS: [u8; 256] = [
     214, 244, 234, 168, 80, 88, 175,
 ];
 
-/// Returns the power of alpha with an exponent below 510.
+/// Returns a power of alpha by a look-up. The sum of two logarithms is an exponent that it takes.
 // Proof: each entry is the shift of the one before it, so one recursion carries the power along the table and no pair of entries is tested.
 #[inline(always)]
 #[tactic(auto, using(crate::proofs::TableLemmas::power_in_table))]
@@ -62,7 +62,7 @@ pub fn power_of(exponent: u32) -> u8
     POWERS[exponent as usize]
 }
 
-/// Returns the logarithm of an octet that is not 0.
+/// Returns the logarithm of an octet that is not 0, by a look-up.
 #[inline(always)]
 #[tactic(auto, using(crate::proofs::TableLemmas::logarithm_is))]
 pub fn logarithm_of(octet: u8) -> u32

@@ -31,7 +31,7 @@ impl Model for Code {
     ghost invariant = { λ c. CodeSound c.k c.n c.rows.items };
 }
 
-/// Returns the powers of alpha with exponents below `n`.
+/// Returns the points of symbols 0 to `n - 1`.
 fn powers_below(alloc: Global, n: u8) -> Result<Vec<u8>, AllocError>
     ensures { IfOk result (λ v. v.items ≡ powers n) }
 {
@@ -63,7 +63,7 @@ fn put_rows(k: u8, n: u8, places: &[u8], weights: &[u8], rows: &mut [u8])
     }
 }
 
-/// Returns the coefficients of all parity symbols, k octets for each.
+/// Returns the coefficients of all parity symbols, k octets for each. While it computes them it takes 2 k octets more.
 fn rows_of(alloc: Global, k: u8, n: u8) -> Result<Vec<u8>, AllocError>
     requires some { 1 ≤ k }
     requires fits { k ≤ n }
@@ -81,7 +81,8 @@ impl Code {
     ghost use Rattle.rs_block.specs.Codeword.{IsSymbol};
     ghost use Rattle.rs_block.specs.Code.{CodeState};
 
-    /// Returns the code of `k` source symbols and `n` encoded symbols. It computes k coefficients for each parity symbol.
+    /// Returns the code of `k` source symbols and `n` encoded symbols. It computes k coefficients for each parity symbol, and the weights of k points
+    /// at a cost that grows with the square of k.
     ///
     /// # Errors
     ///

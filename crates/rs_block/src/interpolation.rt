@@ -18,14 +18,14 @@ use gf_field::{add_scaled, alpha_log, alpha_pow};
 // RFC 5510 section 8.1: the powers of alpha are all octets except 0.
 pub const ORDER: u32 = 255;
 
-/// Returns the point of the symbol with this id.
+/// Returns the point of the symbol with this id. Ids below 255 have different points.
 pub fn place_of(id: u8) -> u8
     ensures { result ≡ power id }
 {
     alpha_pow(u32::from(id))
 }
 
-/// Returns the index of the id in `ids`, if it is there.
+/// Returns the index of the id in `ids`, if it is there. Walks the list.
 pub fn position_of(ids: &[u8], id: u8) -> Option<usize>
     ensures { MatchOption result
         (EachIndex ids.now (λ i. slice_index ids.now i ≢ id))

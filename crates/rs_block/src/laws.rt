@@ -8,7 +8,7 @@ pub fn codewords()
     ensures { CodewordLaws }
 {}
 
-/// If k symbols of a block have different ids, solving them gives the block's source symbols.
+/// The first k symbols of a block are its source symbols. If any k symbols of a block have different ids, solving them gives its source symbols.
 #[tactic(auto, using(crate::proofs::Blocks::symbol_laws))]
 pub fn symbols()
     ensures { SymbolLaws }

@@ -18,14 +18,14 @@ pub trait Piece {
     /// Whether these pieces are this many symbols of this many octets.
     ghost are_symbols: { ℕ → ℕ → List Self → Type 0 };
 
-    /// Borrows the octets of symbol `i`.
+    /// Borrows symbol `i`. Copies nothing.
     fn symbol(pieces: &[Self], size: usize, i: usize) -> &[u8]
         requires { (k : ℕ) × ((i < k) × are_symbols k size pieces.now) }
         ensures len { length result.now ≡ size }
         ensures octets { EachIndex result.now (λ t.
             slice_index result.now t ≡ slice_index (octets pieces.now) (i * size + t)) };
 
-    /// Overwrites symbol `i`.
+    /// Overwrites symbol `i` in place. Takes no memory.
     fn put(pieces: &mut [Self], size: usize, i: usize, symbol: &[u8])
         requires size { length symbol.now ≡ size }
         requires within { (k : ℕ) × ((i < k) × are_symbols k size pieces.old) }

@@ -24,14 +24,13 @@ impl Row {
         Row(octets)
     }
 
-    /// Borrows the octets.
     pub fn octets(&self) -> &[u8]
         ensures { result.now ≡ self.now }
     {
         self.0.as_slice()
     }
 
-    /// Overwrites the octets with this many others.
+    /// Overwrites the octets in place with as many others. Takes no memory.
     pub fn copy(&mut self, octets: &[u8])
         requires { length octets.now ≡ length self.old }
         ensures { self.new ≡ octets.now }
@@ -39,7 +38,7 @@ impl Row {
         self.0.copy_from_slice(octets);
     }
 
-    /// Returns the octets with their buffer.
+    /// Returns the octets in their buffer. Takes no memory.
     pub fn into_inner(self) -> Vec<u8>
         ensures { result.items ≡ self }
     {

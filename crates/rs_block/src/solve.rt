@@ -16,7 +16,7 @@ use norm_base::Memory;
 use std::alloc::{AllocError, Global};
 use std::marker::Model;
 
-/// Solves blocks of at most k source symbols. `new` takes all memory: 3 k octets, and room for the symbols of one block. Make it once, then
+/// Solves blocks of at most k source symbols. `new` takes all memory: 3 k octets, and room for k symbols. Make it once, then
 /// call `solve_in` or `solve_rows` for each block.
 // Made by `new`, so that solving cannot fail: by then the symbol that completes the block is kept.
 #[derive(Debug, Drop)]
@@ -158,7 +158,7 @@ fn hold_octets(row: &[u8])
     ensures { AreOctets row.now }
 {}
 
-/// Returns k octets.
+/// Returns scratch space of an octet for each of k symbols.
 fn room_for(alloc: Global, k: u8) -> Result<Vec<u8>, AllocError>
     ensures { IfOk result (λ v. length v.items ≡ k) }
 {
