@@ -11,7 +11,7 @@ use thiserror::Error;
 // RFC 5510 section 5.1: a payload id has 24 bits for the block. An object that needs more blocks is refused with `TooManyBlocks`.
 pub const MOST_BLOCKS: u32 = 16_777_216;
 
-/// The greatest block number.
+/// The greatest number of a block of an object or a stream. The first has 0.
 // A span up to it reaches the end of any object.
 pub const LAST_BLOCK: u32 = MOST_BLOCKS - 1;
 

@@ -46,7 +46,7 @@ impl Model for Position {
 }
 
 impl Point {
-    /// Whether this block is before the other in transport order.
+    /// Whether this block is of an earlier object than the other, or earlier in the same one.
     // Every comparison of points goes by these calls: a user of the crate then needs their contract, and nothing of how a derived order compares.
     pub fn is_before(&self, other: &Point) -> bool
         ensures { result ≡ point_before self.now other.now }
@@ -81,7 +81,7 @@ impl Position {
         }
     }
 
-    /// Whether this symbol is before the other in transport order.
+    /// Whether this symbol is of an earlier block than the other, or earlier in the same one.
     pub fn is_before(&self, other: &Position) -> bool
         ensures { result ≡ position_before self.now other.now }
     {

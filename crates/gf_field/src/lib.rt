@@ -17,7 +17,7 @@ mod tables;
 use lanes::multiples_of;
 use tables::{logarithm_of, power_of};
 
-/// Returns the product of two octets. It costs three look-ups.
+/// Returns the product of two octets. It costs at most three look-ups.
 // Only tests call it: codes multiply by `add_scaled` and by logarithms. It is for programs over this crate, and so is `inv`.
 #[inline]
 #[tactic(auto, using(crate::proofs::TableLemmas::logarithm_steps))]

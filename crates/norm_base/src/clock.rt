@@ -10,7 +10,7 @@ pub trait Clock {
     /// The moments that it returned, or `None` if the clock does not record them.
     ghost moments: { Self → Option (List ℕ) };
 
-    /// Returns the current moment.
+    /// Returns the current moment. A caller that needs moments in order keeps the later one.
     fn now(&mut self) -> Moment
         ensures { GainsWhereTold (moments self.old) (moments self.new) result };
 }

@@ -11,8 +11,8 @@ use std::marker::Model;
 // Our own choice: more than the 1,440 octets of the longest DATA. A longer datagram that comes is passed over, and none is written.
 pub const DATAGRAM_ROOM: usize = 1500;
 
-/// The most octets of a coded symbol: 1,400 of the symbol, and before them the eight octets of a segment's position.
-// It follows from `e` up to 1,400 (own) and the place of RFC 5740 section 4.2.1. It is the length of arrays in which symbols are made.
+/// The most octets of a coded symbol: 1,400 of the symbol, and before them the eight of a segment's header.
+// It follows from `e` up to 1,400 (own) and a segment's header (RFC 5740 section 4.2.1). It is the length of arrays in which symbols are made.
 pub const SYMBOL_ROOM: usize = 1408;
 
 /// A datagram of at most 1,500 octets. Only [`new`](Datagram::new) takes memory: room for all 1,500.

@@ -13,16 +13,16 @@ pub struct Memory;
 #[derive(Clone, Copy, Debug, PartialEq, Eq)]
 pub struct Failed;
 
-/// Why a call of `Files` failed.
+/// Why `length` or `read_at` of a `Files` failed.
 #[derive(Clone, Copy, Debug, PartialEq, Eq)]
 pub enum FileFault {
-    /// No file has that name.
+    /// No file has that name. It is no fault, and none is counted.
     Absent,
     /// The outside failed, and the count of faults says so.
     Failed,
 }
 
-/// Why a call of a `Fabric` did nothing.
+/// Why a call of a `Fabric` failed.
 #[derive(Clone, Copy, Debug, PartialEq, Eq)]
 pub enum FabricFault {
     /// The outside failed, and the count of faults says so.

@@ -6,7 +6,7 @@ ghost use Rattle.norm_base.specs.Contents.{content_of, ChangesOnly};
 
 use crate::fault::{Failed, FileFault};
 
-/// Files by their names.
+/// Files by their names: a sender reads them, and a receiver stores what was handed up.
 pub trait Files {
     /// The names with their contents, or `None` if the files do not record them. Only `put` changes them.
     ghost contents: { Self → Option (List (List ℕ × List ℕ)) };
@@ -14,7 +14,7 @@ pub trait Files {
     /// How many calls failed, at most `u64::MAX`. An absent name is no failure.
     ghost fault_count: { Self → ℕ };
 
-    /// Returns the length of a file in octets. `Absent` if there is no such name, which counts as no fault.
+    /// Returns the length of a file in octets. `Absent` if there is no such name.
     fn length(&mut self, name: &str) -> Result<u64, FileFault>
         ensures same { contents self.new ≡ contents self.old }
         ensures value { IfOk result (λ n. IfSome (contents self.old) (λ files.
@@ -43,7 +43,7 @@ pub trait Files {
         ensures others { ChangesOnly (contents self.old) (contents self.new) name.now }
         ensures cause { Counts (fault_count self.old) (fault_count self.new) (is_err result) };
 
-    /// Returns how many calls failed. The count never falls.
+    /// Returns how many calls failed, at most `u64::MAX`. It never falls. An absent name does not count.
     fn faults(&self) -> u64
         ensures { result ≡ fault_count self.now };
 }

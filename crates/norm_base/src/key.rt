@@ -65,7 +65,7 @@ pub const KEYS: [Key; 26] = [
     Key::Port,
 ];
 
-/// A key's row of the table.
+/// The name, the range, the default and the words of a key, as [`Key::row`] returns them.
 #[derive(Clone, Copy, Debug)]
 pub struct KeyRow {
     /// The name in a script and in a profile file.

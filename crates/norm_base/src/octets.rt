@@ -7,7 +7,7 @@ ghost use Rattle.std.specs.Cmp.Rules.{comparing};
 
 use std::marker::Model;
 
-/// A vector of octets.
+/// A vector of octets. Contracts see a list.
 // A type of its own, because clauses see it as a list: what a refusal gives back is then one equation.
 #[derive(Clone, Debug, Drop)]
 pub struct Octets(Vec<u8>);

@@ -24,7 +24,7 @@ pub struct Profile {
     pub sender: u32,
     pub receivers: u8,
     pub producers: u8,
-    /// The octets of a symbol.
+    /// The octets of a symbol. In a stream, a segment's header of eight comes before them.
     pub e: u16,
     /// The most source symbols of a block.
     pub b: u8,
@@ -36,7 +36,7 @@ pub struct Profile {
     pub window: u16,
     /// The most octets that the sender keeps, its stream's buffer counted, and that one object has.
     pub octets: u32,
-    /// The blocks of a stream's buffer.
+    /// The blocks of a stream's buffer, at the sender and at each receiver.
     pub blocks: u16,
     pub mode: Mode,
     /// The fewest microseconds from one datagram of the sender to the next.

@@ -126,7 +126,7 @@ fn read_ack_req(bytes: &[u8], end: usize) -> Result<CommandMsg<'_>, Refusal>
     })
 }
 
-/// Reads a command whose content is kept unread. Refuses it only if its source is no member.
+/// Reads a command whose content is kept unread, its extensions too. Refuses it only if no member can have its source's number.
 #[tactic(auto, unfolding(norm_ext::specs::Reading::opaque_read))]
 fn read_opaque(bytes: &[u8]) -> Result<CommandMsg<'_>, Refusal>
     requires { command_header ≤ length bytes.now }

@@ -1,4 +1,4 @@
-//! Writes commands (RFC 5740 section 4.2.3).
+//! Writes commands (RFC 5740 section 4.2.3), each by one function of its own that asks for an empty datagram.
 
 ghost use Rattle.std.specs.Prelude.{◌≡◌, ◌+◌, ◌≤◌, ◌<◌, ◌%◌, ◌++◌, [], length};
 ghost use Rattle.norm_base.specs.Sizes.{datagram_room};
@@ -157,7 +157,8 @@ fn write_opaque(head: &CmdHead, sub_type: u8, words: u8, rest: &[u8], out: &mut 
     out.push(rest);
 }
 
-/// Writes a command into an empty datagram. Reserved octets are 0. Ask [`fits`](CommandMsg::fits) first if it may not fit.
+/// Writes a command into an empty datagram. Reserved octets are 0, except in what is kept unread and in lent requests, which is copied. Ask
+/// [`fits`](CommandMsg::fits) first if it may not fit.
 pub fn write_command(msg: &CommandMsg<'_>, out: &mut Datagram)
     requires empty { out.old ≡ [] }
     requires message { CanWrite msg.now }

@@ -1,4 +1,4 @@
-//! Reads messages of any type.
+//! Reads messages of any type: looks at the version and the type, and calls the reader of that type. Reports are read here.
 
 ghost use Rattle.std.specs.Prelude.{◌≡◌, ◌≤◌, Ok, Err, MatchResult, IfOk, IfErr, length};
 ghost use Rattle.norm_ext.specs.Places.{common};

@@ -1,4 +1,4 @@
-//! Writes messages of any type.
+//! Writes messages of any type: calls the writer of its type. Reports are written here.
 
 ghost use Rattle.std.specs.Prelude.{◌≡◌, []};
 ghost use Rattle.norm_ext.specs.Message.{Report};
@@ -23,7 +23,8 @@ fn write_report(source: NodeId, sequence: u16, words: u8, rest: &[u8], out: &mut
     out.push(rest);
 }
 
-/// Writes a message into an empty datagram. Reserved octets and time stamps are 0. Ask [`fits`](Message::fits) first if it may not fit.
+/// Writes a message into an empty datagram. Reserved octets and time stamps are 0, except in what is kept unread and in lent requests, which is
+/// copied. Ask [`fits`](Message::fits) first if it may not fit.
 // Only tests call it: a node knows which message it writes. It is for programs over this crate.
 pub fn encode(msg: &Message<'_>, out: &mut Datagram)
     requires empty { out.old ≡ [] }

@@ -28,7 +28,7 @@ const B_AT: usize = 8;
 const MAX_N_AT: usize = 9;
 
 /// How an object is cut: its length in octets (below 2^48), the octets of a symbol, the most source symbols of a block, and the most encoding
-/// symbols of a block.
+/// symbols of a block. For a stream, our sender writes the length of its buffer as `l`.
 // The length is below 2^48, as many bits as it is written with. A longer one would be read as another.
 #[derive(Clone, Copy, Debug, PartialEq, Eq)]
 pub struct Fti {

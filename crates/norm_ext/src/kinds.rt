@@ -114,9 +114,9 @@ pub mod flags {
     pub const EXPLICIT: u8 = 0x02;
     /// INFO and DATA: the object has an info.
     pub const INFO: u8 = 0x04;
-    /// INFO and DATA: the sender repairs nothing of the object.
+    /// INFO and DATA: the sender repairs nothing of the object. It is neither set nor looked at here.
     pub const UNRELIABLE: u8 = 0x08;
-    /// INFO and DATA: the object is a file.
+    /// INFO and DATA: the object is a file, unless `STREAM` is set too.
     pub const FILE: u8 = 0x10;
     /// INFO and DATA: the object is a stream.
     pub const STREAM: u8 = 0x20;

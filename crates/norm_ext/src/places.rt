@@ -33,7 +33,7 @@ pub const GRTT_AT: usize = 10;
 pub const SIZES_AT: usize = 11;
 /// The offset of the flags of INFO and DATA.
 pub const FLAGS_AT: usize = 12;
-/// The offset of a command's sub-type.
+/// The offset of a command's sub-type. The octets after it depend on it.
 pub const SUB_TYPE_AT: usize = 12;
 /// The offset of the FEC Encoding ID in INFO, DATA, FLUSH and SQUELCH.
 pub const ENCODING_AT: usize = 13;
@@ -51,7 +51,7 @@ pub const NAME_AT: usize = 16;
 // These two are of feedback, in a layout of our own after RFC 5740 sections 4.3.1 and 4.3.2: it names the sender that it is for, and then that
 // sender's instance.
 pub const SENDER_AT: usize = 8;
-/// The offset of the sender's instance in feedback.
+/// The offset of the sender's instance in feedback, of 16 bits.
 pub const FEEDBACK_INSTANCE_AT: usize = 12;
 
 /// The words of an INFO header without extensions. `INFO` has the same in octets.

@@ -1,4 +1,4 @@
-//! Why octets are refused.
+//! Why octets are refused: the errors of all readers of messages.
 
 /// The first thing that is wrong with a datagram. If several apply, the first in the order of the variants is reported. Of a list of requests,
 /// only the first bad request counts. `at` is an offset in the datagram.

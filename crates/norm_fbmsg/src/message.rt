@@ -24,7 +24,7 @@ pub struct NackMsg<'a> {
     pub requests: Requests<'a>,
 }
 
-/// The content of an acknowledgement.
+/// What an acknowledgement says. Its type decides which of the two it has.
 #[derive(Clone, Copy, Debug, PartialEq, Eq)]
 pub enum AckBody<'a> {
     /// The receiver confirms everything up to this symbol. Only acknowledgements of type `FLUSH_ACK` have it.

@@ -42,7 +42,8 @@ fn write_nack_parts(
     out.push(requests.octets());
 }
 
-/// Writes a NACK into an empty datagram. Reserved octets and the time stamp are 0. Ask [`fits`](NackMsg::fits) first if it may not fit.
+/// Writes a NACK into an empty datagram. Reserved octets and the time stamp are 0, except in the requests, which are copied. Ask
+/// [`fits`](NackMsg::fits) first if it may not fit.
 pub fn write_nack(msg: &NackMsg<'_>, out: &mut Datagram)
     requires empty { out.old ≡ [] }
     requires message { CanWriteNack msg.now }

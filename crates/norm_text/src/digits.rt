@@ -64,7 +64,7 @@ fn padded(octets: &[u8]) -> u8x64
     u8x64::from_array(lanes)
 }
 
-/// Appends the digits of fewer than 64 octets to a text that has room for them.
+/// Appends the digits of fewer than 64 octets, which are padded to 64. It never fails, since the text has room for them.
 // No form of its own for few octets: time counts where contents are long, and there this does only their end.
 fn put_few(text: &mut Vec<u8>, octets: &[u8])
     requires few { length octets.now < 64 }

@@ -16,7 +16,7 @@ const WORDS: usize = 128;
 
 const SPACE: u8 = b' ';
 
-/// A line without its line feed. Contracts see its octets. Order of calls: [`begin`](Line::begin) with the first word, then words and
+/// A printed line while it is built. Contracts see its octets. Order of calls: [`begin`](Line::begin) with the first word, then words and
 /// pieces of words, then [`end`](Line::end). To keep the memory for the next line: [`new`](Line::new) once, then for each line
 /// [`restart`](Line::restart), words, [`finish`](Line::finish) and [`bytes`](Line::bytes).
 ///
@@ -72,7 +72,7 @@ impl Line {
         self.octets.as_slice()
     }
 
-    /// Removes all octets. Keeps the memory.
+    /// Removes all octets. Keeps the memory for what comes next.
     pub fn clear(&mut self)
         ensures { self.new ≡ [] }
     {

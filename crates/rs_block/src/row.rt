@@ -4,7 +4,7 @@ ghost use Rattle.std.specs.Prelude.{◌≡◌, length};
 
 use std::marker::Model;
 
-/// The octets of one symbol, owned.
+/// The octets of one symbol, owned. Their number never changes.
 #[derive(Debug, Drop)]
 pub struct Row(Vec<u8>);
 
