@@ -42,7 +42,7 @@ pub fn points()
     ensures { PointsLaw }
 {}
 
-/// The value of that polynomial at any octet is Lagrange's sum.
+/// The value at any octet of the polynomial through k points is Lagrange's sum.
 #[tactic(auto, using(crate::proofs::LawsHold::formula_law))]
 pub fn formula()
     ensures { FormulaLaw }

@@ -62,7 +62,7 @@ pub fn power_of(exponent: u32) -> u8
     POWERS[exponent as usize]
 }
 
-/// Returns the logarithm of an octet that is not 0, by a look-up.
+/// Returns the logarithm of an octet by a look-up. 0 has none.
 #[inline(always)]
 #[tactic(auto, using(crate::proofs::TableLemmas::logarithm_is))]
 pub fn logarithm_of(octet: u8) -> u32

@@ -37,7 +37,7 @@ pub trait Files {
             IsErrOf result FileFault.Absent ↔ IsNone (content_of files name.now)) }
         ensures cause { Counts (fault_count self.old) (fault_count self.new) (file_failed result) };
 
-    /// Replaces or creates a file with these octets. No other file changes, even if the call fails.
+    /// Replaces or creates a file with these octets. No other file changes, even if the call fails. What this one has then is open.
     fn put(&mut self, name: &str, bytes: &[u8]) -> Result<(), Failed>
         ensures ok { OnOk result (IfSome (contents self.new) (λ files. content_of files name.now ≡ Some bytes.now)) }
         ensures others { ChangesOnly (contents self.old) (contents self.new) name.now }

@@ -65,7 +65,7 @@ pub const KEYS: [Key; 26] = [
     Key::Port,
 ];
 
-/// The name, the range, the default and the words of a key, as [`Key::row`] returns them.
+/// What whoever reads values needs to know of a key. [`Key::row`] returns it.
 #[derive(Clone, Copy, Debug)]
 pub struct KeyRow {
     /// The name in a script and in a profile file.

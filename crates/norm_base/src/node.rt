@@ -58,7 +58,7 @@ impl Model for InstanceId {
     ghost inverse = { λ n. record { 0 = n } };
 }
 
-/// A moment, in microseconds. From what it counts is the clock's choice.
+/// A moment, in microseconds since a beginning that is the same for a whole run.
 #[derive(Clone, Copy, Debug, PartialEq, Eq, PartialOrd, Ord, Hash)]
 pub struct Moment(pub u64);
 

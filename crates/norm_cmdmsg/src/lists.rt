@@ -1,4 +1,5 @@
-//! Iterators over lists of numbers in commands: node ids of 32 bits, and object transport ids of 16 bits.
+//! Iterators over lists of numbers in commands, node ids of 32 bits and object transport ids of 16 bits, and the question whether a list of nodes
+//! names one.
 
 ghost use Rattle.std.specs.Prelude.{◌≡◌, ◌==◌, ◌%◌, [], ◌∷◌, MatchOption, length};
 ghost use Rattle.std.specs.List.{list_any};
@@ -81,8 +82,8 @@ impl<'a> Iterator for Nodes<'a> {
     }
 }
 
-/// Iterates over the object transport ids of a list. Only `norm_show` does: a receiver goes by a SQUELCH's symbol alone.
-// Whole numbers, as for `Nodes`.
+/// Iterates over the object transport ids of a list.
+// Whole numbers, as for `Nodes`. It is for programs over this crate: a receiver here goes by a SQUELCH's symbol alone.
 #[derive(Debug, Drop)]
 pub struct Objects<'a> {
     list: &'a [u8],

@@ -1,5 +1,5 @@
-//! Lists of header extensions (RFC 5740 section 4.1). [`Extensions::check`] checks a list once. The result stands for the list, and is an
-//! iterator over it.
+//! Lists of header extensions (RFC 5740 section 4.1). A list is checked once: as a message is read, or by [`Extensions::check`]. The result stands
+//! for the list, and is an iterator over it.
 
 ghost use Rattle.std.specs.Prelude.{◌≡◌, ◌+◌, ◌≤◌, ◌<◌, ◌^◌, [], ◌∷◌, MatchOption, MatchResult, OnOk, length, drop, take};
 ghost use Rattle.norm_ext.specs.Extensions.{extensions_of as all_extensions, extensions_checked, extension_checked, extension_length, extension_of, content_at as content_place, IsChecked};

@@ -50,7 +50,7 @@ impl Model for Fti {
     ghost inverse = { λ f. record { l = f.l; e = f.e; b = f.b; max_n = f.max_n } };
 }
 
-/// Reads an extension's content. No value is checked: `Plan::of` refuses those of which no plan can be made.
+/// Reads an extension's content. No value is checked here: a receiver makes a `Plan` of them, which may refuse.
 fn fti_from(content: &[u8]) -> Fti
     requires { length content.now ≡ 10 }
     ensures { result ≡ fti_in content.now }

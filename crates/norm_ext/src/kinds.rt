@@ -107,7 +107,7 @@ impl Form {
 
 /// The bits of flags: six of INFO and DATA, and four (`WANT_`) of repair requests.
 pub mod flags {
-    /// INFO and DATA: sent as a repair.
+    /// INFO and DATA: sent because it was requested, and not by itself.
     // These six: NORM_FLAG_ of RFC 5740 section 4.2.1.
     pub const REPAIR: u8 = 0x01;
     /// INFO and DATA: requested by its own name. Our sender sets it on each info and source symbol that it repeats.

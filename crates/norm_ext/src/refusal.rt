@@ -36,8 +36,8 @@ pub enum Refusal {
 /// The first thing that is wrong with a list of header extensions. `at` is the offset of the bad one.
 #[derive(Clone, Copy, Debug, PartialEq, Eq)]
 pub enum ExtFault {
-    /// The length of an extension is 0.
+    /// The length of an extension is 0, so a walk over the list would never end.
     ZeroLength { at: usize },
-    /// An extension does not end within the list.
+    /// An extension does not end within the list, or fewer than four octets are left for it.
     Overrun { at: usize },
 }

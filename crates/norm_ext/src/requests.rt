@@ -1,4 +1,5 @@
-//! Lists of repair requests (RFC 5740 section 4.3.1). Check a list with [`check_requests`] and then iterate over it with [`requests_of`].
+//! Lists of repair requests (RFC 5740 section 4.3.1). [`Requests::check`] checks a list once, as a message is read. The result stands for the list,
+//! and is an iterator over it. [`check_requests`] and [`requests_of`] are its two steps.
 
 ghost use Rattle.std.specs.Prelude.{◌≡◌, ◌+◌, ◌*◌, ◌/◌, ◌==◌, ◌≤◌, ◌<◌, ◌^◌, [], ◌∷◌, Ok, Err, Some, MatchOption, MatchResult, OnOk, min, length, drop, take, slice_get};
 ghost use Rattle.norm_ext.specs.Places.{request_front, item_width};
@@ -214,7 +215,7 @@ impl<'a> Requests<'a> {
     }
 }
 
-/// Splits off the first request of a list of whole requests. Returns `None` if the list is empty.
+/// Splits off the first request of a list of whole requests. Trusts its form and its length, which were checked. `None` if the list is empty.
 fn cut_first(list: &[u8]) -> Option<(Request<'_>, &[u8])>
     requires { IsRequests list.now }
     ensures { MatchOption result

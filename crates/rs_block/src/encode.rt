@@ -96,7 +96,7 @@ impl Code {
         Ok(Code { k, n, rows })
     }
 
-    /// Returns the k coefficients of parity symbol `j`.
+    /// Borrows the k coefficients of parity symbol `j`, which were computed with the code.
     fn row(&self, j: u8) -> &[u8]
         requires parity { self.now.k ≤ j }
         requires encoded { j < self.now.n }

@@ -16,8 +16,8 @@ use norm_base::Memory;
 use std::alloc::{AllocError, Global};
 use std::marker::Model;
 
-/// Solves blocks of at most k source symbols. `new` takes all memory: 3 k octets, and room for k symbols. Make it once, then
-/// call `solve_in` or `solve_rows` for each block.
+/// Solves blocks of at most k source symbols. `new` takes all memory: 3 k octets, and room for k symbols. Make it once
+/// for each size of symbols, then call `solve_in` or `solve_rows` for each block.
 // Made by `new`, so that solving cannot fail: by then the symbol that completes the block is kept.
 #[derive(Debug, Drop)]
 pub struct Solver {
@@ -165,7 +165,7 @@ fn room_for(alloc: Global, k: u8) -> Result<Vec<u8>, AllocError>
     vec![in alloc; 0; usize::from(k)]
 }
 
-/// Fills `places` with the point of each id.
+/// Fills `places` with the points of the symbols that came.
 fn place(ids: &[u8], places: &mut [u8])
     requires { length places.old ≡ length ids.now }
     ensures { places.new ≡ map power ids.now }
