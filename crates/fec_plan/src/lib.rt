@@ -1,5 +1,5 @@
-//! How an object is cut into blocks of symbols (RFC 5052 section 9.1), how a message names a symbol (RFC 5510 section 5.1), and in which
-//! order blocks and symbols are sent.
+//! How an object is cut into blocks of symbols (RFC 5052 section 9.1), how a message names a symbol (RFC 5510 section 5.1), and the transport
+//! order of blocks and symbols.
 //!
 //! A [`Plan`] says how an object or a stream is cut, and a [`PayloadId`] names a symbol in a message. A [`Point`] is a block of an object
 //! and a [`Position`] a symbol of it. If you compare points or positions, use the calls here. Senders, receivers and the codec of messages

@@ -47,7 +47,7 @@ impl Given {
         self.values[key.place()] = Some(value);
     }
 
-    /// Returns the value that was set, or the default. The default of `max_n` is one and a half times `b`, at most 255.
+    /// Returns the value that was set, or the default. The default of `max_n` is one and a half times `b`, rounded down, at most 255.
     pub fn value(&self, key: Key) -> u32
         ensures { result ≡ value_in self.now key }
     {

@@ -58,9 +58,9 @@ pub struct Profile {
     pub chance: u32,
     /// How many of 1,000 copies the network `chance` loses, on average.
     pub loss: u16,
-    /// How many of 1,000 copies that it does not lose arrive twice, on average.
+    /// How many of 1,000 copies that the network `chance` does not lose arrive twice, on average.
     pub repeat: u16,
-    /// The most offers that one of its copies is late by.
+    /// The most offers that a copy is late by in the network `chance`.
     pub late: u8,
     pub port: u16,
 }

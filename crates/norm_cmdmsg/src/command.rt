@@ -15,7 +15,7 @@ use norm_ext::{CmdHead, Extensions, Requests, SubType};
 // The common header and the fields of each command up to its sub-type (RFC 5740 section 4.2.3).
 pub(crate) const BEFORE_REST: usize = SUB_TYPE_AT + 1;
 
-/// A command. It borrows from the datagram that it was read from.
+/// A command. If it was read, it borrows from the datagram.
 #[derive(Debug, Drop)]
 pub enum CommandMsg<'a> {
     /// The sender sent everything up to this symbol, and these nodes should acknowledge it.
@@ -28,7 +28,7 @@ pub enum CommandMsg<'a> {
         /// Node ids of 32 bits, for [`nodes_of`](crate::nodes_of). If the command was read, some may still be no members.
         nodes: &'a [u8],
     },
-    /// The sender's transmission ends.
+    /// The sender's transmission ends. Nothing follows the header.
     Eot {
         head: CmdHead,
         exts: Extensions<'a>,
@@ -42,7 +42,7 @@ pub enum CommandMsg<'a> {
         /// Object transport ids of 16 bits, for [`objects_of`](crate::objects_of).
         invalid: &'a [u8],
     },
-    /// The sender already received these requests.
+    /// The sender already received these requests, so receivers need not send them.
     RepairAdv {
         head: CmdHead,
         flags: u8,

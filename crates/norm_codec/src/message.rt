@@ -9,7 +9,7 @@ use norm_ext::places::{COMMON, COMMON_WORDS, WORD};
 use norm_fbmsg::{AckMsg, NackMsg};
 use norm_objmsg::grammar::{DataMsg, InfoMsg};
 
-/// A message of any type. It borrows from the datagram that it was read from.
+/// A message of any type. If it was read, it borrows from the datagram.
 #[derive(Debug, Drop)]
 pub enum Message<'a> {
     Info(InfoMsg<'a>),

@@ -63,11 +63,11 @@ pub const INFO: usize = 16;
 pub const DATA_WORDS: u8 = 5;
 
 pub const DATA: usize = 20;
-/// The words of a command header without extensions. `COMMAND` has the same in octets.
+/// The words of a command's header without extensions, except a FLUSH's and a SQUELCH's. `COMMAND` has the same in octets.
 pub const COMMAND_WORDS: u8 = 4;
 
 pub const COMMAND: usize = 16;
-/// The words of the header of a FLUSH or a SQUELCH, which name a symbol. `NAMING` has the same in octets.
+/// The words of the header of a FLUSH or a SQUELCH, which name a symbol, without extensions. `NAMING` has the same in octets.
 pub const NAMING_WORDS: u8 = 5;
 
 pub const NAMING: usize = 20;

@@ -12,7 +12,7 @@ use norm_ext::{Extensions, Item, Requests};
 // NORM_ACK_FLUSH. An acknowledgement of any other type is lent as it is, and not read.
 pub const FLUSH_ACK: u8 = 2;
 
-/// A NACK: a receiver requests repairs. It borrows from the datagram that it was read from.
+/// A NACK: a receiver requests repairs. If it was read, it borrows from the datagram.
 #[derive(Debug, Drop)]
 pub struct NackMsg<'a> {
     pub source: NodeId,
@@ -33,7 +33,7 @@ pub enum AckBody<'a> {
     Opaque(&'a [u8]),
 }
 
-/// An ACK: a receiver answers the sender, which requested it by a FLUSH or an ACK_REQ. It borrows from the datagram that it was read from.
+/// An ACK: a receiver answers the sender, which requested it by a FLUSH or an ACK_REQ. If it was read, it borrows from the datagram.
 #[derive(Debug, Drop)]
 pub struct AckMsg<'a> {
     pub source: NodeId,

@@ -24,7 +24,7 @@ const MSG_START_AT: usize = 2;
 
 const OFFSET_AT: usize = 4;
 
-/// NORM_INFO: the info of an object. It borrows from the datagram.
+/// NORM_INFO: the info of an object. If it was read, it borrows from the datagram.
 #[derive(Debug, Drop)]
 pub struct InfoMsg<'a> {
     pub head: ObjHead,
@@ -32,7 +32,7 @@ pub struct InfoMsg<'a> {
     pub info: &'a [u8],
 }
 
-/// NORM_DATA: one symbol of an object. It borrows from the datagram.
+/// NORM_DATA: one symbol of an object or a stream. If it was read, it borrows from the datagram.
 #[derive(Debug, Drop)]
 pub struct DataMsg<'a> {
     pub head: ObjHead,
