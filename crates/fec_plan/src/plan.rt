@@ -226,8 +226,8 @@ impl Plan {
         }
     }
 
-    /// Returns the number of source symbols of a block. For a stream it is `b`, for any block. `block` is not checked: a number after an object's last
-    /// block gives a smaller block's.
+    /// Returns the number of source symbols of a block. For a stream it is `b`, for any block. `block` is not checked: a number after an object's
+    /// last block gives a smaller block's.
     pub fn source_len(&self, block: u32) -> u8
         ensures exact { result ≡ source_symbols self.now block }
         ensures most { result ≤ self.now.b }
