@@ -47,8 +47,8 @@ use std::marker::Model;
 /// What is wanted of the objects of a window, what of them was sent, and what the open round asks for.
 ///
 /// `first` is the transport index of the first object. The other numbers are list indexes of `objects`. The round asks for nothing outside of
-/// `low..high`, and its requests count from the point `earliest`. Nothing is wanted of the objects before `quiet`. Something is wanted of
-/// `wanting` objects.
+/// `low..high`, and `earliest` is the first point from which one of its requests counts. Nothing is wanted of the objects before `quiet`. Something
+/// is wanted of `wanting` objects.
 #[derive(Debug, Drop)]
 pub struct Collection {
     alloc: Global,
@@ -63,12 +63,12 @@ pub struct Collection {
     wanting: usize,
 }
 
-/// The result of closing a repair round.
+/// What a repair round gave when it was closed. The wants themselves stay in the union.
 #[derive(Clone, Copy, Debug, PartialEq, Eq)]
 pub struct Closed {
-    /// How many wants are new, or `u32::MAX` if there are more.
+    /// How many wants were not there before the round closed, or `u32::MAX` if there are more.
     pub queued: u32,
-    /// Whether the round asked for something before the window. If so, the sender owes a squelch.
+    /// Whether a request of the round counts from a point before the first block that the window keeps. If so, the sender owes a squelch.
     pub early: bool,
 }
 
@@ -84,7 +84,8 @@ impl Model for Collection {
     ghost invariant = { CollectionSound };
 }
 
-/// Returns the list index of the first object of which something is wanted. It begins with `from`: nothing is wanted before.
+/// Returns the list index of the first object of which something is wanted. `None` if there is
+/// none. The search begins with `from`: nothing is wanted before.
 fn first_wanted(objects: &[Marks], from: usize) -> Option<usize>
     requires { AreQuiet from objects.now }
     ensures { result ≡ position (λ m. nat_lt 0 (length m.wants)) objects.now }
@@ -98,14 +99,13 @@ fn first_wanted(objects: &[Marks], from: usize) -> Option<usize>
     None
 }
 
-/// Returns the number of objects of which something is wanted.
+/// Returns the number of objects of which something is wanted, by one test for each object.
 fn count_wanted(objects: &[Marks]) -> usize
     ensures { result ≡ wanting objects.now }
 {
     objects.iter().filter(|object| object.is_wanted()).count()
 }
 
-/// Drops the first `count` objects.
 fn drop_front(objects: &mut Vec<Marks>, count: usize)
     requires { count ≤ length objects.old.items }
     ensures { objects.new.items ≡ drop count objects.old.items }
@@ -113,7 +113,7 @@ fn drop_front(objects: &mut Vec<Marks>, count: usize)
     objects.drain(..count);
 }
 
-/// Closes the round of each object. Returns how many wants are new, or `u32::MAX` if there are more.
+/// Closes the round of each object. The cost is one test for an object of which the round asks for nothing.
 fn close_all(objects: &mut [Marks]) -> u32
     ensures closed { objects.new ≡ map closed_marks objects.old }
     ensures counted { AllByRecursion IsCounted objects.old }
@@ -128,7 +128,7 @@ fn close_all(objects: &mut [Marks]) -> u32
     queued.min(u32::MAX as u64) as u32
 }
 
-/// Returns the first block that is kept of the first object, or 0 if there is no object.
+/// Returns the first block that is kept of the first object. It is 0 unless that is a stream that was moved on.
 fn first_block(objects: &[Marks]) -> u32
     ensures { result ≡ first_block objects.now }
 {
@@ -171,7 +171,8 @@ impl Collection {
         }
     }
 
-    /// Appends an object of which nothing is wanted and nothing was sent. `index` is one above the last object's.
+    /// Appends an object of which nothing is wanted and nothing was sent. `index` is one above that of the last object that joined, or 0 if none
+    /// joined.
     ///
     /// # Errors
     ///
@@ -189,7 +190,8 @@ impl Collection {
         self.join(marks)
     }
 
-    /// Appends a stream without closed segments, with room for `profile.blocks` blocks. `index` is one above the last object's.
+    /// Appends a stream without closed segments, with room for `profile.blocks` blocks. `index` is one above that of the last object that joined,
+    /// or 0 if none joined.
     ///
     /// # Errors
     ///
@@ -228,7 +230,7 @@ impl Collection {
         Ok(())
     }
 
-    /// Sets how many source symbols of the last object, a stream, are closed.
+    /// Sets how many source symbols of the last object, a stream, are closed. `index` is the stream's. It takes no memory.
     pub fn grow(&mut self, index: u32, closed: u64)
         requires index { index + 1 ≡ self.old.first + length self.old.objects }
         requires last { OfLast (CanGrow closed) self.old }
@@ -249,7 +251,7 @@ impl Collection {
         self.objects.pop();
     }
 
-    /// Empties the window and the open round for another instance.
+    /// Empties the window and the open round for another instance. It takes no memory.
     pub fn clear(&mut self)
         ensures begun { self.new ≡ begun_union }
         ensures stands { (p : Settings) (s : SenderState) (id : ℕ) → Holds p self.new (begun_anew id s) }
@@ -264,7 +266,7 @@ impl Collection {
         self.wanting = 0;
     }
 
-    /// Drops all objects before an index. Returns whether something of them was wanted.
+    /// Drops all objects before an index, with their memory. Returns whether something of them was wanted.
     fn drop_objects(&mut self, index: u32) -> bool
         requires not_back { self.old.first ≤ index }
         requires within { index ≤ self.old.first + length self.old.objects }
@@ -313,7 +315,8 @@ impl Collection {
         self.move_first(block)
     }
 
-    /// Drops everything before a block of an object. Returns whether something of it was wanted.
+    /// Drops everything before a block of an object. With the index after the last object's and block 0 it drops all. Returns whether something of
+    /// what was dropped was wanted.
     pub fn retire(&mut self, index: u32, block: u32) -> bool
         requires { MayRetire index block self.old }
         ensures exact { self.new ≡ retired index block self.old }
@@ -328,7 +331,7 @@ impl Collection {
         dropped || gone
     }
 
-    /// Notes that an encoded symbol was sent. The window has it.
+    /// Notes that an encoded symbol of the window was sent. If it is parity, no later count takes it.
     pub fn note_sent(&mut self, at: Position)
         requires { IsEncodedIn self.old at }
         ensures exact { (m : Marked) → slice_get self.old.objects (at.index - self.old.first) ≡ Some m
@@ -352,7 +355,7 @@ impl Collection {
         ask_range(&mut self.objects, self.first, from, to, named);
     }
 
-    /// Asks for an encoded symbol if the window has it.
+    /// Asks for a symbol, which may be parity, if it is encoded and the window has it.
     fn ask_symbol(&mut self, at: Position)
         ensures { HasPart (symbol_part at) self.old self.new }
     {
@@ -366,7 +369,7 @@ impl Collection {
         }
     }
 
-    /// Counts a block for as many symbols as the symbol id of a position says, if the window has the block.
+    /// Counts a block for as many symbols as the symbol id of a position says, if the window has the block and some symbol of it is closed.
     fn count_block(&mut self, at: Position)
         ensures { HasPart (count_part at) self.old self.new }
     {
@@ -381,7 +384,6 @@ impl Collection {
         object.hold();
     }
 
-    /// Asks for an encoded symbol if `wanted`.
     fn ask_symbol_where(&mut self, wanted: bool, at: Position)
         ensures { HasPart (part_where wanted (symbol_part at)) self.old self.new }
     {
@@ -399,7 +401,7 @@ impl Collection {
         self.ask_symbol_where(has_flag(flags, WANT_SEGMENT), at);
     }
 
-    /// Asks for what a range names. An empty range names nothing.
+    /// Asks for what a range names. A range that ends before it begins names nothing.
     fn ask_pair(&mut self, flags: u8, first: Position, last: Position)
         ensures { HasPart (part_where (is_proper (span first last)) (named_part flags (span first last))) self.old self.new }
     {
@@ -456,7 +458,7 @@ impl Collection {
         }
     }
 
-    /// Asks for what a request asks for.
+    /// Asks for what a request asks for. Erasures count blocks if SEGMENT or BLOCK is set, and else ask for nothing.
     fn ask_request(&mut self, profile: &Profile, known: u32, request: &Request<'_>)
         ensures { HasPart (request_part (named profile.now known (request_of request.now))) self.old self.new }
     {
@@ -472,7 +474,7 @@ impl Collection {
         }
     }
 
-    /// Asks for what requests ask for, and notes the first point from which they count.
+    /// Asks for what requests ask for. `earliest` becomes the first point from which they or earlier requests of the round count.
     fn ask_requests(&mut self, profile: &Profile, known: u32, requests: Requests<'_>)
         ensures asked { HasPart (requests_part (map (named profile.now known) requests.entry)) self.old self.new }
         ensures earliest { self.new.earliest ≡ earliest_with self.old.earliest (map (named profile.now known) requests.entry) }
@@ -486,14 +488,13 @@ impl Collection {
         self.count_from(earliest);
     }
 
-    /// Sets the first point from which the requests of the open round count.
     fn count_from(&mut self, earliest: Option<Point>)
         ensures { self.new ≡ record self.old { earliest = earliest } }
     {
         self.earliest = earliest;
     }
 
-    /// Whether the window has the object with this index.
+    /// Whether the object with this index joined the window and was not dropped.
     fn has(&self, index: u32) -> bool
         ensures { MatchBool result ((self.now.first ≤ index) × (index < self.now.first + length self.now.objects))
             ((self.now.first ≤ index → self.now.first + length self.now.objects ≤ index)) }
@@ -510,7 +511,7 @@ impl Collection {
     }
 
     /// Adds the requests of a NACK to the open round, as far as the window has what they ask for. Ignores an item whose object id stands for no
-    /// index.
+    /// index, and a range if that is so of one of its ends.
     // Proof: for a request that comes now, the order as it came (as_it_came) is the order as it stands. Marks then decide every test of the
     // rules.
     pub fn add(&mut self, profile: &Profile, requests: Requests<'_>)
@@ -534,7 +535,7 @@ impl Collection {
         self.wanting > 0
     }
 
-    /// Takes out the first want in transport order. `None` if nothing is wanted.
+    /// Takes out the first want in transport order, in which an object's info comes before its symbols. `None` if nothing is wanted.
     pub fn next(&mut self) -> Option<Want>
         ensures collects { (p : Settings) (s : SenderState) (asked : List Asked) (rest : List Wanted) → Collects p self.old s asked
             → Collects p self.new (record s { wants = rest }) asked }
@@ -553,8 +554,9 @@ impl Collection {
         Some(want_of(self.first + place as u32, slot))
     }
 
-    /// Closes the open round: what it asked for is wanted, and the next round begins empty (RFC 5740 section 5.4). A block that was counted gives
-    /// its lowest parity symbols that were never sent, or all its closed source symbols if fewer than the count are left.
+    /// Closes the open round: what it asked for is wanted, and the next round begins empty (RFC 5740 section 5.4). Of a block that
+    /// was counted, as many symbols are wanted as the count says, at most its number of source symbols: its lowest parity symbols that were never
+    /// sent, or all its closed source symbols if too few are left.
     // Proof: each object's slots come first. all_closed lifts that to the listed wants, and closed_range leads from low .. high to all.
     pub fn close_round(&mut self) -> Closed
         ensures exact { self.new ≡ closed_union self.old }

@@ -24,9 +24,9 @@ use symbol_mask::Mask;
 ///
 /// If the round asks for a span of whole blocks, `ends` keeps the end of the longest such span at the block with which it begins. Its slots are
 /// filled in when the round closes, or when the stream moves on. The set `alone` has all other slots. A block is whole if all its source symbols
-/// are closed; the first `whole` blocks are. If `complete` is set, the round asks for all closed source symbols.
-// All blocks of a run are whole. A run is filled later, so over a block that still grows it would also ask for symbols that were closed after the
-// request.
+/// are closed; the first `whole` blocks are known to be. If `complete` is set, the round asks for all closed source symbols.
+// All blocks of a span are whole. A span is filled in later, so over a block that still grows it would also ask for symbols that were closed after
+// the request.
 #[derive(Debug, Drop)]
 pub struct Coverage {
     plan: Plan,
@@ -70,7 +70,6 @@ fn insert_sources(set: &mut Mask, plan: &Plan, closed: u64, room: usize, from: u
     }
 }
 
-/// Puts the closed source symbols of a block into a set if `wanted`.
 fn insert_block(set: &mut Mask, plan: &Plan, closed: u64, block: u32, wanted: bool)
     requires room { slots (block + 1) ≤ set.old.size }
     ensures members { (slot : ℕ) → is_member nat_lt slot set.new.members ≡ (is_member nat_lt slot set.old.members
@@ -83,7 +82,7 @@ fn insert_block(set: &mut Mask, plan: &Plan, closed: u64, block: u32, wanted: bo
     }
 }
 
-/// Puts the closed source symbols of the blocks that lie in a span of `ends` into a set.
+/// Puts the closed source symbols of the blocks that lie in a span of `ends` into a set. The cost grows with the number of blocks.
 fn insert_runs(set: &mut Mask, plan: &Plan, closed: u64, ends: &[u32])
     requires size { slots (length ends.now) ≤ set.old.size }
     requires within { length ends.now ≤ blocks plan.now }
@@ -158,7 +157,7 @@ impl Coverage {
         let _ = &self.alone;
     }
 
-    /// Adds a slot to what the open round asks for.
+    /// Adds one slot to what the open round asks for: the info's, or that of any symbol, also parity.
     pub fn insert(&mut self, slot: usize)
         requires { slot < slots self.old.room }
         ensures { self.new ≡ record self.old { members = with_member nat_lt slot self.old.members } }
@@ -166,7 +165,7 @@ impl Coverage {
         self.alone.insert(slot);
     }
 
-    /// Asks for the closed source symbols whose slots lie in `from..to`, one by one.
+    /// Asks for the closed source symbols whose slots lie in `from..to`, as bits of `alone`. The cost grows with their number.
     fn insert_part(&mut self, from: usize, to: usize)
         ensures members { (slot : ℕ) → is_member nat_lt slot self.new.members ≡ (is_member nat_lt slot self.old.members || (is_source_slot self.old.shape slot && in_run from to slot)) }
         ensures shape { self.new.shape ≡ self.old.shape }
@@ -177,7 +176,7 @@ impl Coverage {
     }
 
     /// Asks for the source symbols of the blocks `first..behind`, which are whole. The cost does not depend on how many these are.
-    // One number for a run of any length. Otherwise a request for a whole object would set a bit for each of its symbols.
+    // One number for a span of any length. Otherwise each request for a whole object would set the bits of all its symbols again.
     fn insert_blocks(&mut self, first: usize, behind: usize)
         requires some { first < behind }
         requires within { behind ≤ self.old.room }
@@ -190,7 +189,7 @@ impl Coverage {
         self.ends[first] = end;
     }
 
-    /// Whether the round asks for the info.
+    /// Whether the round asks for the info, which has slot 0.
     pub fn has_info(&self) -> bool
         ensures { result ≡ is_member nat_lt 0 self.now.members }
     {
@@ -204,7 +203,7 @@ impl Coverage {
         self.complete
     }
 
-    /// Notes that the round asks for all closed source symbols.
+    /// Notes that the round asks for all closed source symbols, until more are closed, the stream moves on, or the round closes.
     fn note_complete(&mut self)
         requires { HasSources self.old.shape self.old.members }
         ensures { self.new ≡ self.old }
@@ -229,7 +228,8 @@ impl Coverage {
         self.insert_part(BLOCK * behind + 1, to);
     }
 
-    /// Asks for the closed source symbols whose slots lie in `from..to`, and notes if these are all of the object's.
+    /// Asks for the closed source symbols whose slots lie in `from..to`, and notes if the range takes in all
+    /// blocks that have room.
     pub fn insert_sources(&mut self, from: usize, to: usize)
         ensures members { (slot : ℕ) → is_member nat_lt slot self.new.members ≡ (is_member nat_lt slot self.old.members || (is_source_slot self.old.shape slot && in_run from to slot)) }
         ensures shape { self.new.shape ≡ self.old.shape }

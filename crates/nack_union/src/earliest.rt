@@ -52,7 +52,7 @@ fn counts_from(flags: u8, at: Position) -> Point
     }
 }
 
-/// Whether the form and flags of a request ask for anything.
+/// Whether the form and flags of a request ask for anything. Its items are not read.
 fn gives_something(request: &Request<'_>) -> bool
     ensures { result ≡ gives_something (record { form = request.now.form; flags = request.now.flags; spans = [] }) }
 {

@@ -76,7 +76,7 @@ fn slot_behind(index: u32, last: Position, most: usize) -> usize
     if index == last.index { slot + 1 } else { most }
 }
 
-/// Widens a span to whole blocks.
+/// Widens a span to whole blocks: from symbol 0 to symbol 255, which is past the end of any block.
 fn whole_blocks(first: Position, last: Position) -> (Position, Position)
     ensures span { span result.0 result.1 ≡ block_span (span first last) }
     ensures from { result.0.index ≡ first.index }
@@ -90,7 +90,7 @@ fn whole_blocks(first: Position, last: Position) -> (Position, Position)
     (start, end)
 }
 
-/// Widens a span to whole objects.
+/// Widens a span to whole objects, up to the greatest block and symbol that a message can name.
 fn whole_objects(first: Position, last: Position) -> (Position, Position)
     ensures span { span result.0 result.1 ≡ object_span (span first last) }
     ensures from { result.0.index ≡ first.index }
@@ -138,7 +138,6 @@ fn move_counts(counts: &mut [u8], count: usize)
     }
 }
 
-/// Whether flags ask for source symbols: any of SEGMENT, BLOCK and OBJECT does.
 fn asks_sources(flags: u8) -> bool
     ensures { result ≡ ((has_flag flags segment_flag || has_flag flags block_flag) || has_flag flags object_flag) }
 {
@@ -194,7 +193,7 @@ impl Marks {
         })
     }
 
-    /// Creates an object of data or a file, with room for all its blocks.
+    /// Creates an object of data or a file, all closed, with room for all its blocks.
     ///
     /// # Errors
     ///
@@ -217,7 +216,7 @@ impl Marks {
         Marks::with_room(alloc, plan, 0, usize::from(room), false)
     }
 
-    /// Sets how many source symbols of the stream are closed.
+    /// Sets how many source symbols of the stream are closed. The round does not ask for those that become closed.
     pub fn grow(&mut self, closed: u64)
         requires { CanGrow closed self.old }
         ensures { self.new ≡ record self.old { closed = closed } }
@@ -257,7 +256,7 @@ impl Marks {
         gone > 0
     }
 
-    /// Returns the first block that is kept.
+    /// Returns the first block that is kept. It is 0 unless the object is a stream that was moved on.
     pub fn first_block(&self) -> u32
         ensures { result ≡ self.now.first }
     {
@@ -281,14 +280,14 @@ impl Marks {
         self.asked.rises();
     }
 
-    /// Whether something of the object is wanted.
+    /// Whether something of the object is wanted. The cost is one comparison.
     pub fn is_wanted(&self) -> bool
         ensures { result ≡ nat_lt 0 (length self.now.wants) }
     {
         self.wanted > 0
     }
 
-    /// Notes that the symbol at a slot was sent.
+    /// Notes that the symbol at a slot was sent. Slots are numbered from the object's block 0 here, also after a stream moved on.
     pub fn note_sent(&mut self, slot: usize)
         requires within { slot < slots (length self.old.counts) }
         requires kept { stands_from self.old.first slot ≡ true }
@@ -299,7 +298,7 @@ impl Marks {
         self.sent.insert(slot - start);
     }
 
-    /// Takes out the lowest wanted slot. `None` if none is wanted.
+    /// Takes out the lowest wanted slot, numbered from the object's block 0. `None` if none is wanted.
     pub fn take_lowest(&mut self) -> Option<usize>
         ensures { MatchOption result ((self.old.wants ≡ []) × (self.new ≡ self.old))
             (λ slot. (self.old ≡ record self.new { wants = slot ∷ self.new.wants }) × (slot < slots most_blocks)) }
@@ -310,7 +309,7 @@ impl Marks {
         Some(BLOCK * self.first as usize + slot)
     }
 
-    /// Adds a slot to what the open round asks for.
+    /// Adds a slot, numbered from the object's block 0, to what the open round asks for.
     pub fn ask(&mut self, slot: usize)
         requires within { slot < slots (length self.old.counts) }
         requires kept { stands_from self.old.first slot ≡ true }
@@ -323,7 +322,7 @@ impl Marks {
         self.is_asked = true;
     }
 
-    /// Asks for the closed source symbols whose slots lie in `from..to`.
+    /// Asks for the closed source symbols whose slots lie in `from..to`. Slots of dropped blocks are passed over.
     fn ask_sources(&mut self, from: usize, to: usize)
         ensures { HasMore (λ slot. is_source_slot (symbols_of_marked self.old) slot && in_run from to slot) (λ block. 0) self.old self.new }
     {
@@ -346,7 +345,7 @@ impl Marks {
         self.ask_sources(slot_from(index, first), slot_behind(index, last, behind));
     }
 
-    /// Asks for the info if the object has one.
+    /// Asks for the info. Does nothing if the object has none.
     pub fn ask_info(&mut self)
         ensures { HasMore (λ slot. self.old.info && slot == 0) (λ block. 0) self.old self.new }
     {
@@ -355,7 +354,6 @@ impl Marks {
         }
     }
 
-    /// Asks for the closed source symbols from one position to another if `wanted`.
     fn ask_where(&mut self, wanted: bool, index: u32, first: Position, last: Position)
         requires from { first.index ≤ index }
         requires to { index ≤ last.index }
@@ -366,7 +364,6 @@ impl Marks {
         }
     }
 
-    /// Asks for the info if `wanted` and the object has one.
     fn ask_info_where(&mut self, wanted: bool)
         ensures { HasMore (λ slot. wanted && (self.old.info && slot == 0)) (λ block. 0) self.old self.new }
     {
@@ -408,7 +405,7 @@ impl Marks {
         self.has_info(has_flag(flags, WANT_INFO))
     }
 
-    /// Asks for what each of the flags names of the object. `index` is the object's.
+    /// Asks for what each of the flags names of the object: BLOCK and OBJECT widen the span, and INFO names the info. `index` is the object's.
     fn ask_by_flags(&mut self, index: u32, named: &Named)
         requires from { named.now.first.index ≤ index }
         requires to { index ≤ named.now.last.index }

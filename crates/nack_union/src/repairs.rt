@@ -14,7 +14,7 @@ use crate::slots::slot_of;
 use fec_plan::Plan;
 use symbol_mask::Mask;
 
-/// Returns how many symbols in `from..to` of a block were never sent.
+/// Returns how many symbols in `from..to` of a block were never sent, by one test for each.
 fn count_fresh(sent: &Mask, block: u32, from: u8, to: u8) -> u8
     requires { symbol_slot block to ≤ sent.now.size }
     ensures { result ≡ length (fresh_symbols sent.now.members block from (to - from)) }
@@ -29,7 +29,7 @@ fn count_fresh(sent: &Mask, block: u32, from: u8, to: u8) -> u8
     fresh
 }
 
-/// Asks for the first `count` symbols in `from..to` of a block that were never sent.
+/// Asks for the first `count` symbols in `from..to` of a block that were never sent, or for all of them if there are fewer.
 // Proof: the invariant: to put what is left to ask for into the set as it is gives the same as to put all of it into the set as it was.
 fn ask_fresh(asked: &mut Mask, sent: &Mask, block: u32, from: u8, to: u8, count: u8)
     requires asked { symbol_slot block to ≤ asked.old.size }
@@ -51,7 +51,7 @@ fn ask_fresh(asked: &mut Mask, sent: &Mask, block: u32, from: u8, to: u8, count:
     }
 }
 
-/// Asks for the symbols of a block below `to`.
+/// Asks for the symbols of a block below `to`, also for those that were sent.
 fn ask_below(asked: &mut Mask, block: u32, to: u8)
     requires { symbol_slot block to ≤ asked.old.size }
     ensures members { asked.new.members ≡ with_members nat_lt (map (symbol_slot block) (range_with_len 0 to)) asked.old.members }
@@ -85,7 +85,7 @@ fn ask_repairs(asked: &mut Mask, sent: &Mask, plan: &Plan, closed: u64, block: u
     }
 }
 
-/// Asks for the repairs that the counts of the first blocks ask for. `closed` source symbols of the object are closed.
+/// Asks for the repairs that the counts of the first blocks ask for. A count of 0 asks for none. `closed` source symbols of the object are closed.
 pub fn ask_counted(asked: &mut Mask, sent: &Mask, plan: &Plan, closed: u64, counts: &[u8])
     requires counts { length counts.now ≤ blocks plan.now }
     requires asked { slots (length counts.now) ≤ asked.old.size }

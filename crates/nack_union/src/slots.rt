@@ -11,7 +11,7 @@ use norm_send_rules::Want;
 // RFC 5510 section 5.1: an id has 8 bits. All ids get a slot, also those past max_n, so that a slot is computed without a plan.
 pub const BLOCK: usize = 256;
 
-/// Returns the slot of a symbol.
+/// Returns the slot of a symbol. It is above 0, the slot of the info.
 pub fn slot_of(block: u32, symbol: u8) -> usize
     ensures slot { result ≡ symbol_slot block symbol }
     ensures named { symbol < 256 }
@@ -19,7 +19,7 @@ pub fn slot_of(block: u32, symbol: u8) -> usize
     BLOCK * block as usize + usize::from(symbol) + 1
 }
 
-/// Returns the info or the symbol at a slot of the object with this index.
+/// Returns what is at a slot of the object with this index: the info at 0, or else a symbol.
 pub fn want_of(index: u32, slot: usize) -> Want
     requires { slot < slots most_blocks }
     ensures { result ≡ want_at index slot }

@@ -58,7 +58,7 @@ impl Model for Union {
 
 impl Union {
     /// Creates a union with an empty window. It takes no memory.
-    // It takes no memory and so cannot fail: all room is taken as objects and streams are admitted.
+    // All room is taken as objects and streams are admitted.
     pub fn new(alloc: Global, profile: &Profile) -> Union
         ensures empty { result ≡ empty_union profile.now }
         ensures begun { (instance : ℕ) → Stands result (sender_opening profile.now instance) }
@@ -70,7 +70,8 @@ impl Union {
         }
     }
 
-    /// Appends an object of which nothing is wanted and nothing was sent. `index` is one above the last object's.
+    /// Appends an object of which nothing is wanted and nothing was sent. `index` is one above that of the last object that joined, or 0 if none
+    /// joined.
     ///
     /// # Errors
     ///
@@ -88,7 +89,8 @@ impl Union {
         Ok(())
     }
 
-    /// Appends a stream without closed segments, with room for the profile's number of blocks. `index` is one above the last object's.
+    /// Appends a stream without closed segments, with room for the profile's number of blocks. `index` is one above that of the last object that
+    /// joined, or 0 if none joined.
     ///
     /// # Errors
     ///
@@ -105,7 +107,8 @@ impl Union {
         Ok(())
     }
 
-    /// Sets how many segments of the last object, a stream, are closed. `index` is the stream's.
+    /// Sets how many segments of the last object, a stream, are closed. `index` is the stream's. It takes no memory. The open round does not ask for
+    /// those that become closed.
     pub fn grow(&mut self, index: u32, segments: u32)
         requires index { index + 1 ≡ self.old.kept.first + length self.old.kept.objects }
         requires last { OfLast (MayGrow self.old.p segments) self.old.kept }
@@ -132,7 +135,8 @@ impl Union {
         self.collection.clear();
     }
 
-    /// Drops everything before a block of an object. Returns whether something of it was wanted.
+    /// Drops everything before a block of an object. With the index after the last object's and block 0 it drops all. Returns whether something of
+    /// what was dropped was wanted.
     pub fn retire(&mut self, index: u32, block: u32) -> bool
         requires { MayRetire index block self.old.kept }
         ensures exact { self.new ≡ record self.old { kept = retired index block self.old.kept } }
@@ -143,7 +147,7 @@ impl Union {
         self.collection.retire(index, block)
     }
 
-    /// Notes that an encoded symbol was sent. The window has it.
+    /// Notes that an encoded symbol of the window was sent. If it is parity, no later count takes it.
     pub fn note_sent(&mut self, at: Position)
         requires { IsEncodedIn self.old.kept at }
         ensures stands { UnionMoves self.old self.new (noted (Symbol at)) }
@@ -161,7 +165,7 @@ impl Union {
     }
 
     /// Adds the requests of a NACK to the open round, or to a new one, as far as the window has what they ask for. Ignores an item whose object
-    /// id stands for no index.
+    /// id stands for no index, and a range if that is so of one of its ends.
     pub fn add(&mut self, requests: Requests<'_>)
         ensures stands { (s : SenderState) (now : ℕ) → Stands self.old s → Stands self.new (joined_round self.old.p s now requests.entry) }
         ensures profile { self.new.p ≡ self.old.p }
@@ -176,7 +180,7 @@ impl Union {
         self.collection.is_wanted()
     }
 
-    /// Takes out the first want in transport order. `None` if nothing is wanted.
+    /// Takes out the first want in transport order, in which an object's info comes before its symbols. `None` if nothing is wanted.
     pub fn next(&mut self) -> Option<Want>
         ensures first { (s : SenderState) → Stands self.old s → MatchOption result ((s.wants ≡ []) × Stands self.new s)
             (λ want. (rest : List Wanted) × (s.wants ≡ want ∷ rest) × Stands self.new (record s { wants = rest })) }
@@ -185,8 +189,9 @@ impl Union {
         self.collection.next()
     }
 
-    /// Closes the open round: what it asked for is wanted, and the next round begins empty (RFC 5740 section 5.4). A block that was counted gives
-    /// its lowest parity symbols that were never sent, or all its closed source symbols if fewer than the count are left.
+    /// Closes the open round: what it asked for is wanted, and the next round begins empty (RFC 5740 section 5.4). Of a block that
+    /// was counted, as many symbols are wanted as the count says, at most its number of source symbols: its lowest parity symbols that were never
+    /// sent, or all its closed source symbols if too few are left.
     pub fn close_round(&mut self) -> Closed
         ensures stands { (r : Round) (s : SenderState) → s.round ≡ Some r → Stands self.old s → Stands self.new (round_closed self.old.p r s) }
         ensures answer { (r : Round) (s : SenderState) → s.round ≡ Some r → Stands self.old s

@@ -37,7 +37,7 @@ impl Asked {
         }
     }
 
-    /// Creates another, empty one. It takes no memory.
+    /// Creates an empty one that takes its memory from the same allocator. It takes none yet.
     pub fn anew(&self) -> Asked
         ensures { result ≡ heard_nothing }
     {

@@ -10,7 +10,7 @@ ghost use Rattle.rx_heard.specs.Orderly.{AreApart, Rise};
 use crate::heard::{Count, Span};
 use crate::searching::{first_count, first_span};
 
-/// Whether the span at index `place` takes in all of this span, which then adds nothing. All spans before the index end before this one.
+/// Whether the span at index `place` takes in all of this span, which then adds nothing. All spans before the index end before this one begins.
 pub(crate) fn has_at(spans: &[Span], place: usize, span: &Span) -> bool
     requires ordered { AreApart spans.now }
     requires before { AllWithin (λ other. position_before other.last span.now.first ≡ true) spans.now 0 place }
@@ -47,7 +47,7 @@ fn has_count(counts: &[Count], count: &Count) -> bool
     counts[place].asks_for(count.of, count.lacking)
 }
 
-/// Returns the rest of `asked` from the first span on that does not lie in one of `spans`.
+/// Returns the rest of `asked` from the first span on that adds something to `spans`. Later ones may add nothing.
 pub(crate) fn fresh_spans<'a>(spans: &[Span], asked: &'a [Span]) -> &'a [Span]
     requires { AreApart spans.now }
     ensures same { fold with_proper spans.now result.now ≡ fold with_proper spans.now asked.now }
@@ -63,7 +63,7 @@ pub(crate) fn fresh_spans<'a>(spans: &[Span], asked: &'a [Span]) -> &'a [Span]
     rest
 }
 
-/// Returns the rest of `asked` from the first count on that exceeds what `counts` has for its block.
+/// Returns the rest of `asked` from the first count on for whose block `counts` has none, or a lower one. Later ones may add nothing.
 pub(crate) fn fresh_counts<'a>(counts: &[Count], asked: &'a [Count]) -> &'a [Count]
     requires { Rise counts.now }
     ensures same { fold (λ counts c. with_count c counts) counts.now result.now ≡ fold (λ counts c. with_count c counts) counts.now asked.now }

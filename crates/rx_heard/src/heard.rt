@@ -52,14 +52,12 @@ impl Span {
         }
     }
 
-    /// Whether all of another span lies in this one.
     pub fn takes_in(&self, other: &Span) -> bool
         ensures { result ≡ (not (position_before other.now.first self.now.first) && not (position_before self.now.last other.now.last)) }
     {
         !other.first.is_before(&self.first) && !self.last.is_before(&other.last)
     }
 
-    /// Whether it ends before another span begins.
     fn ends_before(&self, other: &Span) -> bool
         ensures { result ≡ position_before self.now.last other.now.first }
     {
@@ -157,21 +155,19 @@ impl Count {
         }
     }
 
-    /// Whether both are of the same block.
     fn is_of(&self, other: &Count) -> bool
         ensures { result ≡ same_point self.now.of other.now.of }
     {
         self.of.is(&other.of)
     }
 
-    /// Whether its block is before another's.
     fn is_before(&self, other: &Count) -> bool
         ensures { result ≡ point_before self.now.of other.now.of }
     {
         self.of.is_before(&other.of)
     }
 
-    /// Whether it asks for at least `wanted` symbols of a block.
+    /// Whether it asks for at least `wanted` symbols of a block. `false` for another block than its own, even if `wanted` is 0.
     pub fn asks_for(&self, at: Point, wanted: u8) -> bool
         ensures { result ≡ (same_point self.now.of at && nat_le wanted self.now.lacking) }
     {
@@ -179,7 +175,7 @@ impl Count {
     }
 }
 
-/// Inserts a count, or raises the one of the same block. There is room for it.
+/// Inserts a count, or raises the one of the same block if that is lower. There is room for it.
 fn put_count(counts: &mut Vec<Count>, count: Count)
     requires ordered { Rise counts.old.items }
     requires room { length counts.old.items < vec_capacity counts.old }
@@ -204,7 +200,7 @@ fn put_count(counts: &mut Vec<Count>, count: Count)
     counts.push(count).unwrap();
 }
 
-/// Inserts these counts. There is room for them.
+/// Inserts these counts, or raises those of the same blocks. There is room for them.
 fn note_counts(counts: &mut Vec<Count>, more: &[Count])
     requires ordered { Rise counts.old.items }
     requires room { length counts.old.items + length more.now ≤ vec_capacity counts.old }
@@ -220,7 +216,7 @@ fn note_counts(counts: &mut Vec<Count>, more: &[Count])
     }
 }
 
-/// Whether `kept` items and `more` are within the bound together.
+/// Whether a list of `kept` items may grow by `more`.
 fn are_kept(kept: usize, more: usize) -> bool
     ensures { result ≡ nat_le (kept + more) most_heard }
 {
@@ -262,7 +258,7 @@ impl Heard {
         }
     }
 
-    /// Creates another, empty one. It takes no memory.
+    /// Creates an empty one that takes its memory from the same allocator. It takes none yet.
     pub fn anew(&self) -> Heard
         ensures { result ≡ heard_nothing }
     {

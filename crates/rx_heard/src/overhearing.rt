@@ -18,7 +18,7 @@ use norm_ext::flags::{WANT_BLOCK, WANT_INFO, WANT_OBJECT, WANT_SEGMENT};
 use norm_ext::items::{ends_of, has_flag, position_of, split_item, split_pair};
 use norm_ext::{Form, Request, Requests};
 
-/// The greatest symbol that a message can name.
+/// The greatest symbol number that a message can name.
 // RFC 5510 section 5.1: 8 bits name a symbol. Encoding symbols go up to 254, so a span up to it reaches the end of any block.
 const LAST_SYMBOL: u8 = 255;
 
@@ -58,7 +58,7 @@ fn widened(width: Width, first: Position, last: Position) -> Span
     }
 }
 
-/// Appends the span of each item.
+/// Appends the span of each item. Skips an item whose object id stands for no index.
 fn hear_items(
     spans: &mut Vec<Span>,
     profile: &Profile,
@@ -79,7 +79,7 @@ fn hear_items(
     Ok(())
 }
 
-/// Appends the span of a range, unless that is empty.
+/// Appends the span of a range, unless that ends before it begins.
 fn put_pair(
     spans: &mut Vec<Span>,
     width: Width,
@@ -95,7 +95,8 @@ fn put_pair(
     Ok(())
 }
 
-/// Appends the span of each pair of items, which are the ends of a range. Empty ranges are left out.
+/// Appends the span of each pair of items, which are the ends of a range. Skips a pair if the object id of one of them stands for no index, or if
+/// the range ends before it begins.
 fn hear_ranges(
     spans: &mut Vec<Span>,
     profile: &Profile,
@@ -143,7 +144,7 @@ fn count_at(at: Position) -> Count
     }
 }
 
-/// Appends the count of each item.
+/// Appends the count of each item of erasures. Skips an item whose object id stands for no index.
 fn hear_counts(
     counts: &mut Vec<Count>,
     profile: &Profile,
@@ -180,7 +181,7 @@ fn hear_where(
     hear_named(spans, profile, known, kind.1, request)
 }
 
-/// Appends the spans of source symbols that a request asks for.
+/// Appends the spans of source symbols that a request asks for, once for each of SEGMENT, BLOCK and OBJECT that its flags have.
 fn hear_symbols(
     spans: &mut Vec<Span>,
     profile: &Profile,
@@ -207,7 +208,7 @@ fn hear_symbols(
     Ok(())
 }
 
-/// Appends the infos that a request asks for.
+/// Appends the infos that a request asks for, as spans of whole objects.
 fn hear_infos(
     spans: &mut Vec<Span>,
     profile: &Profile,
@@ -226,7 +227,7 @@ fn wants_symbols(flags: u8) -> bool
     has_flag(flags, WANT_SEGMENT) || has_flag(flags, WANT_BLOCK)
 }
 
-/// Appends the counts that a request asks for.
+/// Appends the counts that a request asks for. Only erasures have some, if SEGMENT or BLOCK is set.
 fn hear_lacking(
     counts: &mut Vec<Count>,
     profile: &Profile,

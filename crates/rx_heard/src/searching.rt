@@ -44,7 +44,7 @@ pub(crate) fn first_count(counts: &[Count], at: Point) -> usize
     )
 }
 
-/// Whether a position lies in one of these spans.
+/// Whether a position lies in one of these spans, by binary search.
 fn is_asked(spans: &[Span], at: Position) -> bool
     requires { AreApart spans.now }
     ensures { result ≡ is_asked spans.now at }
@@ -57,7 +57,7 @@ fn is_asked(spans: &[Span], at: Position) -> bool
     !at.is_before(&span.first)
 }
 
-/// Whether one of these counts asks for at least `wanted` symbols of a block.
+/// Whether one of these counts asks for at least `wanted` symbols of a block, by binary search.
 fn asks_as_many(counts: &[Count], at: Point, wanted: u8) -> bool
     requires { Rise counts.now }
     ensures { result ≡ asks_as_many counts.now at wanted }
@@ -116,7 +116,7 @@ fn covers(spans: &[Span], width: u16, first: Position, last: Position) -> bool
 }
 
 impl Heard {
-    /// Whether others asked for the info of an object.
+    /// Whether others asked for the info of an object. The cost is a binary search.
     pub fn has_info(&self, index: u32) -> bool
         ensures { result ≡ info_heard self.now index }
     {
@@ -128,7 +128,7 @@ impl Heard {
         is_asked(self.infos.as_slice(), at)
     }
 
-    /// Whether others asked for a source symbol.
+    /// Whether others asked for a source symbol by a span of symbols, blocks or objects. Counts are not looked at.
     pub fn has_symbol(&self, at: Position) -> bool
         ensures { result ≡ is_asked self.now.symbols at }
     {
@@ -171,7 +171,7 @@ impl Heard {
             || self.has_blocks(u16::from(width), at.index, at.block, at.block)
     }
 
-    /// Whether others asked for everything of a stream from a block on. Its blocks have `width` source symbols.
+    /// Whether others asked for all source symbols of a stream from a block on. Its blocks have `width` of them.
     pub fn has_rest(&self, width: u8, index: u32, block: u32) -> bool
         requires { IsBlock block }
         ensures { result ≡ blocks_heard self.now width index block last_block }
