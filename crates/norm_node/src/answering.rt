@@ -14,7 +14,7 @@ use norm_base::{Datagram, Fabric, Sent};
 use norm_turns::SessionFault;
 
 impl ReceiverRun {
-    /// Ticks the receiver, after all its hand-ups were printed.
+    /// Ticks the receiver at the turn's moment. If it has a datagram to send, that is in `out` afterwards.
     fn tick(&mut self, out: &mut Datagram) -> Sent
         requires { self.old.receiver.hold.ups ≡ [] }
         ensures goes { (x : Begun) (o : Outside) → At x self.old Handing o → At x self.new (after_sent result out.new) o }

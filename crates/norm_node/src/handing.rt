@@ -47,7 +47,7 @@ fn put_file<D: Files>(
 
 impl ReceiverRun {
     /// Takes the next hand-up. If it is a file, it puts the file, and then it writes the hand-up's line. Returns false if none is left. Then
-    /// nothing changed.
+    /// nothing changed. After an error, the hand-up is gone.
     ///
     /// # Errors
     ///
@@ -81,7 +81,7 @@ impl ReceiverRun {
         Ok(true)
     }
 
-    /// Takes all hand-ups of the receiver, and writes a line for each.
+    /// Takes all hand-ups of the receiver, and puts the file and writes the line of each.
     ///
     /// # Errors
     ///

@@ -12,7 +12,7 @@ use norm_turns::{MOST_TAKES, SessionFault, moment_of};
 use std::alloc::Global;
 use std::marker::Model;
 
-/// A hub's run so far.
+/// A hub's run between two turns. It keeps nothing of what it passed on.
 #[derive(Drop)]
 struct HubRun {
     profile: Profile,
@@ -69,7 +69,8 @@ impl HubRun {
         self.profile.step
     }
 
-    /// Begins the next turn. Its moment is its number times the profile's step, or the clock's if the step is 0.
+    /// Begins the next turn. Its moment is its number times the profile's step. If the step is 0, it is the clock's, or the moment before if the
+    /// clock went backwards.
     fn begin_turn<C: Clock>(&mut self, number: u32, clock: &mut C)
         requires number { number ≡ self.old.turn + 1 }
         requires left { self.old.turn < self.old.p.turns }
@@ -83,7 +84,7 @@ impl HubRun {
         self.now = moment;
     }
 
-    /// Does the turn with this number.
+    /// Begins the turn with this number, and passes on what the network has ready. The hub itself sends nothing.
     fn turn<F: Fabric, C: Clock>(
         &mut self,
         number: u32,

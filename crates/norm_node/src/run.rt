@@ -15,7 +15,7 @@ use std::alloc::Global;
 use std::marker::Model;
 
 /// A receiver that runs alone. Start the network for its node, then call [`turns`](ReceiverRun::turns), or in each turn:
-/// 1. [`begin_turn`](ReceiverRun::begin_turn), at the turn's moment.
+/// 1. [`begin_turn`](ReceiverRun::begin_turn), which gives the turn its moment.
 /// 2. [`take_all`](ReceiverRun::take_all), which delivers what the network has.
 /// 3. [`hand_all`](ReceiverRun::hand_all), which prints what was handed up.
 /// 4. [`answer`](ReceiverRun::answer), which sends what the receiver has to say.
@@ -48,7 +48,7 @@ impl Model for ReceiverRun {
 }
 
 impl ReceiverRun {
-    /// A node's receiver before its first turn.
+    /// A node's receiver before its first turn. The network is not started.
     ///
     /// # Errors
     ///

@@ -1,4 +1,4 @@
-//! Takes datagrams from the network and delivers them.
+//! The takes of a turn: datagrams come from the network to the receiver.
 
 ghost use Rattle.std.specs.Prelude.{◌≡◌, ℕ, Some, None, IfOk, IfErr, OnOk};
 ghost use Rattle.norm_turns.specs.Causes.{NetworkCause, NeedsMemory};
@@ -12,7 +12,6 @@ use crate::run::ReceiverRun;
 use norm_base::{Datagram, Fabric, NodeId};
 use norm_turns::{MOST_TAKES, SessionFault, next_draw};
 
-/// Whether a datagram for node `to` is for this node.
 fn reaches(to: NodeId, node: NodeId) -> bool
     ensures { result ≡ reaches to node }
 {
@@ -34,7 +33,7 @@ impl ReceiverRun {
         Ok(())
     }
 
-    /// Takes a datagram from the network and delivers it. Returns false if the network has none ready.
+    /// Takes a datagram from the network and delivers it, or passes over it if it is for another node. Returns false if the network has none ready.
     ///
     /// # Errors
     ///
@@ -60,7 +59,7 @@ impl ReceiverRun {
         }
     }
 
-    /// Takes and delivers datagrams until the network has none ready, at most `MOST_TAKES` of them.
+    /// Takes and delivers datagrams until the network has none ready, at most `MOST_TAKES` of them, those for other nodes included.
     ///
     /// # Errors
     ///

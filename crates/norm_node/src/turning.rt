@@ -1,4 +1,4 @@
-//! Turns of a receiver's run.
+//! The turns of a receiver's run. [`ReceiverRun::turn`] has the order of its parts.
 
 ghost use Rattle.std.specs.Prelude.{◌≡◌, ◌+◌, ◌<◌, IfErr, OnOk};
 ghost use Rattle.norm_turns.specs.Causes.{HasCause, counted};
@@ -19,7 +19,8 @@ impl ReceiverRun {
         self.profile.step
     }
 
-    /// Begins the next turn. Its moment is its number times the profile's step, or the clock's if the step is 0.
+    /// Begins the next turn. Its moment is its number times the profile's step. If the step is 0, it is the clock's, or the moment before if the
+    /// clock went backwards.
     pub fn begin_turn<C: Clock>(&mut self, number: u32, clock: &mut C)
         requires number { number ≡ self.old.turn + 1 }
         requires left { self.old.turn < self.old.p.turns }
@@ -33,7 +34,7 @@ impl ReceiverRun {
         self.now = moment;
     }
 
-    /// Does the turn with this number.
+    /// Does the turn with this number: begins it, takes datagrams, reports what is handed up, and sends the receiver's answer.
     ///
     /// # Errors
     ///

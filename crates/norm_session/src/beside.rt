@@ -5,16 +5,12 @@ ghost use Rattle.std.specs.Prelude.{◌≡◌};
 /// What a session does while another thread runs the producers. [`Lent`] makes it of a closure.
 // Proof: what is lent for the work stands behind a type parameter. A scope whose closures hold the loans themselves is dear to prove.
 pub(crate) trait Work {
-    /// What the work returns.
     type Given;
 
-    /// Whether the work can be done.
     ghost can_run: { Self → Type 0 };
 
-    /// What the work did.
     ghost run_gives: { Self → Self.Given → Type 0 };
 
-    /// Does the work.
     fn run(self) -> Self::Given
         requires { can_run self }
         ensures { run_gives self result };

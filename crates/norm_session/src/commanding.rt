@@ -35,7 +35,7 @@ use norm_world::World;
 use std::sync::Wait;
 use std::thread;
 
-/// What the sender answers to a command.
+/// What the sender answers to a command, without the job that a refusal gives back.
 pub(crate) type Gives = Result<Receipt, SendFault>;
 
 /// The name of a line's command: its producer, and that producer's number of it.
@@ -102,7 +102,7 @@ fn job_of(verb: &Verb) -> Result<Option<Job>, Memory>
     }
 }
 
-/// Returns a copy of the job for the journal if `tells` is true.
+/// Returns a copy of the job for the journal if `tells` is true. Otherwise it takes no memory. `Memory` if memory runs out.
 fn told_of(tells: bool, job: &Job) -> Result<Option<Job>, Memory>
     ensures { IfOk result (λ told. told ≡ told_at tells job.now) }
 {
@@ -170,7 +170,7 @@ fn count(totals: &mut Totals, gave: &Gives) -> Result<(), Memory>
     Ok(())
 }
 
-/// Returns the index of the line if its command waits after this answer.
+/// Returns the index of the line if its command waits after this answer: the sender only had no room for it.
 pub(crate) fn waits_at(place: usize, gave: &Gives) -> Option<usize>
     ensures { result ≡ waits_at place gave.now }
 {
@@ -193,7 +193,7 @@ fn within_lines(waiting: Option<usize>, lines: usize) -> Option<usize>
 
 impl Run {
     /// Pulls a line that was handed over, if it is the next one of its producer, and returns its index. Otherwise passes over it and returns
-    /// `None`.
+    /// `None`. `Memory` if memory runs out.
     fn pull_one(&mut self, script: &Script, arrived: Arrived) -> Result<Option<usize>, SessionFault>
         ensures place { IfOk result (λ pulled. IfSome pulled (λ place. place < length script.now.lines)) }
         ensures goes { IfOk result (λ pulled. IfSome pulled (λ place. (x : Context) (network : Network) (written : Pieces) → x.script ≡ script.now
@@ -299,7 +299,7 @@ impl Run {
         self.note_job(line, place, instance, told, gave, output)
     }
 
-    /// Offers the command of the line with this index, for the first time or again.
+    /// Offers the command of the line with this index, for the first time or again. A file is read only if the sender accepts it.
     fn offer_command<K: Sink, D: Files>(
         &mut self,
         script: &Script,

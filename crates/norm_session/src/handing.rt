@@ -1,4 +1,4 @@
-//! A receiver's hand-ups, and its tick. [`Run::serve`] does both for each receiver in each turn.
+//! A receiver's hand-ups, and its tick. [`Run::serve_all`] does both for each receiver in each turn.
 
 ghost use Rattle.std.specs.Prelude.{◌≡◌, ℕ, List, true, false, IfOk, IfErr, OnOk};
 ghost use Rattle.norm_base.specs.Members.{is_receiver};
@@ -44,7 +44,7 @@ fn note_up(
 }
 
 impl Run {
-    /// Takes a receiver's next hand-up and writes its line. Returns false if none is left. Then nothing changed.
+    /// Takes a receiver's next hand-up, counts and notes it, and writes its line. Returns false if none is left. Then nothing changed.
     ///
     /// # Errors
     ///

@@ -9,7 +9,7 @@ use std::alloc::Global;
 use std::marker::Model;
 
 /// The indices of the lines that were not pulled yet, in the script's order.
-// Places and not a next number for each producer, so that the order of the script is the order of the list. A line is taken once; if it stayed
+// Indices and not a next number for each producer, so that the order of the script is the order of the list. A line is taken once; if it stayed
 // here, it would be pulled again.
 #[derive(Drop)]
 pub(crate) struct Left {
@@ -24,7 +24,7 @@ impl Model for Left {
     ghost view = { λ left. left.places.items };
 }
 
-/// Whether this producer's line has this index in the script.
+/// Whether the line with this index is one of this producer. False if the script has no such line.
 fn is_of(lines: &[Line], producer: u32, place: usize) -> bool
     ensures { result ≡ is_of lines.now producer place }
 {
@@ -35,7 +35,7 @@ fn is_of(lines: &[Line], producer: u32, place: usize) -> bool
 }
 
 impl Left {
-    /// All lines of a script. `Memory` if memory runs out.
+    /// All lines of a script, as none was pulled yet. `Memory` if memory runs out.
     pub(crate) fn all(alloc: Global, lines: &[Line]) -> Result<Left, Memory>
         ensures { IfOk result (λ left. lines_at lines.now left ≡ lines.now) }
     {
@@ -46,7 +46,6 @@ impl Left {
         Ok(Left { places })
     }
 
-    /// Whether no line is left.
     pub(crate) fn is_empty(&self, lines: &[Line]) -> bool
         ensures { result ≡ (length (lines_at lines.now self.now) == 0) }
     {
@@ -72,7 +71,8 @@ impl Left {
         None
     }
 
-    /// Removes the line with this index if it is the next one of this producer. Returns whether it was.
+    /// Removes the line with this index if it is the next one of this producer. Returns whether it was. Looks at each line that is left until it
+    /// finds one of this producer.
     pub(crate) fn take(&mut self, lines: &[Line], producer: u32, place: usize) -> bool
         ensures { MatchBool result (IsTaken lines.now self.old self.new producer place) (self.new ≡ self.old) }
     {

@@ -12,7 +12,7 @@ use std::alloc::Global;
 use std::marker::Model;
 
 /// The journal of a run, or `None` if its sender is alone: nobody reads that journal, and it would grow with each datagram. Each push adds
-/// its event if the journal is kept. Otherwise it does nothing and needs no memory.
+/// its event if the journal is kept, or answers `Memory` if it cannot grow. Otherwise it does nothing and needs no memory.
 #[derive(Drop)]
 pub(crate) struct KeptJournal {
     kept: Option<Journal>,
@@ -40,7 +40,6 @@ impl KeptJournal {
         }
     }
 
-    /// Whether a journal is kept.
     pub(crate) fn is_kept(&self) -> bool
         ensures { result ≡ is_some self.entry.now }
     {
@@ -54,14 +53,13 @@ impl KeptJournal {
         first && self.kept.is_some()
     }
 
-    /// Returns the journal if it was kept.
     pub(crate) fn into_journal(self) -> Option<Journal>
         ensures { result ≡ self }
     {
         self.kept
     }
 
-    /// Notes that the network was started.
+    /// Call it before the network starts: afterwards nothing may fail before the event is noted.
     pub(crate) fn push_start(&mut self) -> Result<(), Memory>
         ensures { OnOk result (self.new ≡ noted self.old event.Start) }
     {
@@ -71,7 +69,6 @@ impl KeptJournal {
         }
     }
 
-    /// Notes that a turn began, at its moment.
     pub(crate) fn push_turn(&mut self, t: u32, now: Moment) -> Result<(), Memory>
         ensures { OnOk result (self.new ≡ noted self.old (event.Turn t now)) }
     {
@@ -81,7 +78,6 @@ impl KeptJournal {
         }
     }
 
-    /// Notes that a command was pulled from its producer.
     pub(crate) fn push_pull(&mut self, by: Origin) -> Result<(), Memory>
         ensures { OnOk result (self.new ≡ noted self.old (event.Pull by)) }
     {
@@ -107,7 +103,7 @@ impl KeptJournal {
         }
     }
 
-    /// Notes that the sender refused a file by its name and its length in octets.
+    /// Notes that the sender refused a file by its name and its length in octets, before any octet was read.
     pub(crate) fn push_length(
         &mut self,
         by: Origin,
@@ -123,7 +119,7 @@ impl KeptJournal {
         }
     }
 
-    /// Notes a node's tick, and whether it gave a datagram.
+    /// Notes a node's tick. Its datagram is noted only by the offer.
     pub(crate) fn push_tick(&mut self, node: NodeId, sent: Sent) -> Result<(), Memory>
         ensures { OnOk result (self.new ≡ noted self.old (event.Tick node sent)) }
     {
@@ -133,7 +129,7 @@ impl KeptJournal {
         }
     }
 
-    /// Notes that a node's datagram was offered to the network.
+    /// Notes an offer, with a copy of the octets.
     pub(crate) fn push_offer(&mut self, from: NodeId, octets: &[u8]) -> Result<(), Memory>
         ensures { OnOk result (self.new ≡ noted self.old (event.Offer from octets.now)) }
     {
@@ -143,7 +139,7 @@ impl KeptJournal {
         }
     }
 
-    /// Notes that a datagram was taken from the network.
+    /// Notes a take. It copies the octets only if they are not those of the latest offer with their name.
     pub(crate) fn push_took(&mut self, to: NodeId, octets: &[u8]) -> Result<(), Memory>
         ensures { OnOk result (self.new ≡ noted self.old (event.Took to octets.now)) }
     {
@@ -153,7 +149,7 @@ impl KeptJournal {
         }
     }
 
-    /// Notes a take that found no datagram ready. `Memory` if a journal is kept and cannot grow.
+    /// Notes a take that found no datagram ready.
     pub(crate) fn push_empty(&mut self) -> Result<(), Memory>
         ensures { OnOk result (self.new ≡ noted self.old event.Empty) }
     {
@@ -163,7 +159,7 @@ impl KeptJournal {
         }
     }
 
-    /// Notes that a receiver handed something up.
+    /// Notes a hand-up. If other receivers handed up the same, it is kept once for all.
     pub(crate) fn push_up(
         &mut self,
         node: NodeId,
@@ -178,7 +174,6 @@ impl KeptJournal {
         }
     }
 
-    /// Notes a change that the sender reported.
     pub(crate) fn push_news(&mut self, news: News) -> Result<(), Memory>
         ensures { OnOk result (self.new ≡ noted self.old (event.News news)) }
     {
@@ -188,7 +183,7 @@ impl KeptJournal {
         }
     }
 
-    /// Notes that the run ended with its summary.
+    /// Call it before the summary is written, so that no printed line lacks its event.
     pub(crate) fn push_end(&mut self) -> Result<(), Memory>
         ensures { OnOk result (self.new ≡ noted self.old event.End) }
     {

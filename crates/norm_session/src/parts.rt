@@ -1,4 +1,5 @@
-//! A run, taken apart: what it has made so far. [`run_session`](crate::run_session) returns its journal this way.
+//! A run that is taken apart. [`run_session`](crate::run_session) gets its journal this way, and [`run_until`](crate::run_until) all that a caller
+//! needs to go on.
 
 ghost use Rattle.std.specs.Prelude.{◌≡◌};
 ghost use Rattle.norm_world.specs.WorldKept.{IsReady};
@@ -10,7 +11,7 @@ use norm_record::Journal;
 use norm_world::World;
 use rand_pcg::Lcg64Xsh32;
 
-/// What a run has made so far.
+/// What a run made up to its last event, and what a caller needs to go on with its nodes.
 #[derive(Drop)]
 pub struct Parts {
     /// The run's journal, or `None` if its sender is alone.
@@ -19,9 +20,9 @@ pub struct Parts {
     pub totals: Totals,
     /// The last turn that began, 0 before the first.
     pub turn: u32,
-    /// That turn's moment.
+    /// That turn's moment, 0 before the first.
     pub now: Moment,
-    /// The index in the script of the line whose command waits.
+    /// The index in the script of the line whose command waits: it was offered, and the sender had no room for it.
     pub waiting: Option<usize>,
     pub world: World,
 }

@@ -26,9 +26,9 @@ use std::thread::Threads;
 #[derive(Drop)]
 pub struct Paused {
     pub journal: Journal,
-    /// The words that the turns did not use.
+    /// They go on where those that the turns used end.
     pub draws: Lcg64Xsh32,
-    /// Whether everything was done.
+    /// Whether all commands were pulled, none waits, no watermark is open, and the sender is idle.
     pub whole: bool,
     /// Whether a command was not pulled yet, or waits.
     pub waiting: bool,

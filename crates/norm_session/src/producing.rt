@@ -43,7 +43,7 @@ impl<R: Wait> Arrivals for Pulled<'_, R> {
     }
 }
 
-/// Submits a line's index. If the ring is full, it yields the processor and tries again.
+/// Submits a line's index. If the ring is full, it yields the processor and tries again. It gives up if the seat has no submission left.
 fn insist<R: Wait>(rt: &R, ring: &Gate, seat: &mut Seat, place: u32)
     requires { seat.old.gate ≡ ring.now.id }
     ensures { seat.new.gate ≡ seat.old.gate }
@@ -102,7 +102,7 @@ fn produce_all<R: Threads + Wait + Sync, G: Turnstile + Sync>(
     );
 }
 
-/// Works while a thread of their own runs the producers. If that thread cannot be started, the producers run before the work. So the work
+/// Does the work while another thread runs the producers. If that thread cannot be started, the producers run before the work. So the work
 /// finds all that they submit in the ring, and does not wait for a line that nobody will submit.
 fn work_beside<R: Threads + Wait + Sync, G: Turnstile + Sync, W: Work<Given = A> + Drop, A>(
     rt: &R,
@@ -140,7 +140,7 @@ fn work_beside<R: Threads + Wait + Sync, G: Turnstile + Sync, W: Work<Given = A>
     )
 }
 
-/// Calls a closure while a thread of their own runs the producers, or after they ran if that thread cannot be started.
+/// Calls a closure while another thread runs the producers, or after they ran if that thread cannot be started.
 fn beside_producers<R: Threads + Wait + Sync, G: Turnstile + Sync, F: FnMut() -> A, A>(
     rt: &R,
     lines: &[Line],
@@ -159,7 +159,8 @@ fn beside_producers<R: Threads + Wait + Sync, G: Turnstile + Sync, F: FnMut() ->
     made
 }
 
-/// A ring with a slot for each line, so that producers can end before anything is pulled, with a seat for each producer.
+/// A ring with a slot for each line, so that producers can end before anything is pulled, with a seat for each producer. `Memory` if memory runs
+/// out.
 fn ring_for(alloc: Global, script: &Script) -> Result<(Gate, Vec<Seat>, PullSeat), Memory>
     requires { CanRun script.now }
     ensures seats { IfOk result (λ made. All (λ s. s.gate ≡ made.0.id) made.1.items) }

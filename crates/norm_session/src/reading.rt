@@ -39,7 +39,7 @@ pub(crate) enum FileGave {
     Refused { name: Octets, fault: SendFault },
 }
 
-/// The octets of a file that were read so far, if they are kept for its job. Otherwise only the sender has them.
+/// The octets of a file that were read already, if they are kept for its job. Otherwise only the sender has them.
 #[derive(Drop)]
 struct Copied {
     octets: Option<Vec<u8>>,
@@ -55,7 +55,7 @@ impl Model for Copied {
 }
 
 impl Copied {
-    /// No octets yet, with room for `len` octets if they are kept.
+    /// No octets yet, with room for `len` octets if they are kept. `Memory` if memory runs out.
     fn of(alloc: Global, keeps: bool, len: u64) -> Result<Copied, Memory>
         ensures { IfOk result (λ copied. copied ≡ octets_at keeps []) }
     {
@@ -70,7 +70,7 @@ impl Copied {
         })
     }
 
-    /// Adds the octets that were read next.
+    /// Adds the octets that were read next, if they are kept. They fit in the room that [`of`](Copied::of) took.
     fn add(&mut self, piece: &[u8]) -> Result<(), Memory>
         ensures { OnOk result (self.new ≡ option_map (λ (octets : List ℕ). octets ++ piece.now) self.old) }
     {
@@ -116,7 +116,7 @@ fn fault_of(alloc: Global, fault: FileFault, name: &str) -> SessionFault
     }
 }
 
-/// Returns the length of a file in octets.
+/// Returns the length of a file in octets. Nothing is read.
 // Asked each time a file is offered, also while its command waits: the file is sent as it is when it is accepted, and takes no memory before.
 // `FolderFiles` may repeat an old length up to 64 times.
 fn length_of<D: Files>(alloc: Global, files: &mut D, name: &str) -> Result<u64, SessionFault>
@@ -205,7 +205,7 @@ fn read_all<D: Files>(
     Ok(copied.into_octets())
 }
 
-/// Returns the job of a file if its octets are kept.
+/// Returns the job of a file if its octets are kept. It copies the name, and takes the octets over.
 fn job_of_file(alloc: Global, name: &str, octets: Option<Octets>) -> Result<Option<Job>, Memory>
     ensures { IfOk result (λ job. job ≡ option_map (λ (bytes : List ℕ). Job.File name.now bytes) octets) }
 {

@@ -12,9 +12,9 @@ use rand_pcg::Lcg64Xsh32;
 use std::alloc::Global;
 use std::marker::Model;
 
-/// A run of a script so far: its nodes, and its journal unless its sender is alone. The order of calls:
+/// A run of a script: its nodes, and its journal unless its sender is alone. The order of calls:
 /// 1. [`start`](Run::start), which starts the network.
-/// 2. [`turns`](Run::turns), which does all turns. It begins each with [`begin_turn`](Run::begin_turn) and [`command`](Run::command). Then come
+/// 2. [`turns`](Run::turns), which does all turns, or those up to a given one. It begins each with [`begin_turn`](Run::begin_turn) and [`command`](Run::command). Then come
 ///    [`tick_sender`](Run::tick_sender) and the offer, [`take_all`](Run::take_all) and [`serve_all`](Run::serve_all). After the command, the
 ///    sender's tick and each take, [`tell_all`](Run::tell_all) reports the sender's news.
 /// 3. [`summarize`](Run::summarize), which ends the run.
@@ -62,7 +62,6 @@ impl Model for Run {
     ghost invariant = { λ r. IsReady r.world };
 }
 
-/// The sender's node.
 pub(crate) fn sender_node(profile: &Profile) -> NodeId
     ensures { result ≡ profile.now.sender }
 {

@@ -34,11 +34,11 @@ impl Run {
         Ok(sent)
     }
 
-    /// Offers a node's datagram to the network.
+    /// Offers a node's datagram to the network, and notes the offer.
     ///
     /// # Errors
     ///
-    /// `Fabric` if the network failed, or `Memory`.
+    /// `Fabric` if the network failed, or `Memory`. After `Memory` the datagram may have been offered.
     pub fn offer<F: Fabric>(
         &mut self,
         fabric: &mut F,

@@ -227,7 +227,7 @@ fn made_of(
 }
 
 impl Run {
-    /// Returns the journal of the run if it was kept.
+    /// Returns the journal of the run, or `None` if its sender is alone. The nodes are dropped.
     fn into_journal(self) -> Option<Journal>
         ensures { result ≡ self.journal }
     {

@@ -21,7 +21,7 @@ use norm_turns::{SessionFault, first_draws};
 use norm_world::World;
 use std::alloc::Global;
 
-/// Which nodes the network is started for.
+/// Which nodes the network is started for: the sender alone, or all members.
 fn local_of(profile: &Profile, alone: bool) -> Local
     ensures { result ≡ local_of alone profile.now }
 {

@@ -21,7 +21,7 @@ use norm_send_rules::News;
 use norm_turns::{SessionFault, left_by, news_notice, write_line};
 use producer_gate::Board;
 
-/// Publishes the outcome of a watermark on the board. The board gets no other change. `Memory` also if it has no room.
+/// Publishes the outcome of a watermark on the board. The board gets no other change. `Memory` if it has no room.
 fn publish(board: &mut Board, news: &News) -> Result<(), Memory>
     ensures posted { OnOk result (board.new ≡ posting board.old (entries_in (event.News news.now ∷ []))) }
     ensures same { OnErr result (board.new ≡ board.old) }

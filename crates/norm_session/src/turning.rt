@@ -51,7 +51,6 @@ fn all_three(first: bool, second: bool, third: bool) -> bool
     first && second && third
 }
 
-/// Whether the first holds, and at least one of the others.
 fn with_either(first: bool, second: bool, third: bool) -> bool
     ensures { result ≡ (first && (second || third)) }
 {
@@ -59,14 +58,12 @@ fn with_either(first: bool, second: bool, third: bool) -> bool
 }
 
 impl Run {
-    /// Whether all commands of a script were pulled.
     pub(crate) fn has_pulled_all(&self, script: &Script) -> bool
         ensures { result ≡ (length (lines_at script.now.lines self.entry.now.left) == 0) }
     {
         self.left.is_empty(&script.lines)
     }
 
-    /// Whether no command of a script waits.
     fn has_none_waiting(&self, script: &Script) -> bool
         ensures { result ≡ is_none (option_and_then (slice_get script.now.lines) self.entry.now.waiting) }
     {
@@ -113,7 +110,6 @@ impl Run {
         self.turn == self.profile.turns
     }
 
-    /// Whether a turn began.
     fn has_turned(&self) -> bool
         ensures { result ≡ nat_le 1 self.entry.now.turn }
     {

@@ -27,21 +27,21 @@ pub(crate) fn oldest_mark(world: &World) -> Option<u32>
     Some(open.mark)
 }
 
-/// How many streams the window has.
+/// How many streams are enqueued and not wholly dropped, closed ones included.
 fn streams(world: &World) -> u32
     ensures { (w : Rules) → StandsFor world.now w → result ≡ streams w.sender }
 {
     world.sender().window().streams()
 }
 
-/// How many infos and encoded symbols the window has.
+/// How many infos and encoded symbols the window has, parity included. Visits each entry.
 pub(crate) fn symbols(world: &World) -> u64
     ensures { (w : Rules) → StandsFor world.now w → result ≡ repairable world.now.p w.sender }
 {
     world.sender().repairable()
 }
 
-/// How many flushes were counted.
+/// How many flushes were counted since another watermark became the oldest, or a round made a want.
 fn flushes(world: &World) -> u32
     ensures { (w : Rules) → StandsFor world.now w → result ≡ w.sender.flushes }
 {
@@ -81,7 +81,7 @@ fn is_late(profile: &Profile, flushes: u32) -> bool
     MOST_COUNTED < u64::from(flushes) + 2 * u64::from(profile.k)
 }
 
-/// The first fault that applies, by whether no watermark is open, the streams, and the infos and symbols of the window, and the flushes counted.
+/// The first fault that applies. `closed` says that no watermark is open, and `symbols` counts infos too.
 #[tactic(auto, unfolding(norm_order::specs::First::first_where))]
 fn first_fault(
     profile: &Profile,
@@ -113,7 +113,7 @@ fn first_fault(
     None
 }
 
-/// Why no tail may begin. `None` if one may.
+/// Why no tail may begin: the first fault that applies, in the order of [`TailFault`], and never `Memory`. `None` if one may.
 pub(crate) fn refused(world: &World, profile: &Profile) -> Option<TailFault>
     requires { world.now.p ≡ profile.now }
     ensures { (w : Rules) → StandsFor world.now w → option_and_then refusal_of result ≡ tail_fault profile.now w.sender }

@@ -44,7 +44,7 @@ fn deliver(
     Ok(())
 }
 
-/// Delivers a copy of a node's datagram to a member. Does nothing if it is that node.
+/// Delivers a copy of a node's datagram to a member. Does nothing if it is that node. `Memory` if memory runs out.
 fn copy_to(
     world: &mut World,
     steps: &mut Vec<TailStep>,
@@ -70,7 +70,7 @@ fn copy_to(
     Ok(())
 }
 
-/// Offers a node's datagram, and delivers a copy of it to each other member, the sender first. `Memory` if memory runs out.
+/// States that a node's datagram was offered, and delivers a copy of it to each other member, the sender first. `Memory` if memory runs out.
 fn copy_to_all(
     world: &mut World,
     profile: &Profile,

@@ -13,7 +13,7 @@ use crate::step::TailStep;
 use norm_base::{Datagram, Memory, Moment, NodeId, Sent};
 use norm_world::World;
 
-/// Takes and notes a receiver's next hand-up, if there is one. `Memory` if memory runs out.
+/// Takes and notes a receiver's next hand-up, if there is one. `Memory` if memory runs out. Then the hand-up is gone.
 fn take(world: &mut World, steps: &mut Vec<TailStep>, node: NodeId) -> Result<(), Memory>
     requires { is_receiver world.old.p node ≡ true }
     ensures profile { world.new.p ≡ world.old.p }
@@ -28,7 +28,6 @@ fn take(world: &mut World, steps: &mut Vec<TailStep>, node: NodeId) -> Result<()
     Ok(())
 }
 
-/// Whether all hand-ups of a receiver were taken.
 fn are_taken(world: &World, node: NodeId) -> bool
     requires { is_receiver world.now.p node ≡ true }
     ensures { result ≡ true → AreTaken (receiver_of world.now node) }

@@ -5,7 +5,6 @@ ghost use Rattle.norm_base.specs.Members.{is_node, is_receiver, members_of, rece
 
 use norm_base::{NodeId, Profile};
 
-/// The sender's node.
 pub(crate) fn sender_node(profile: &Profile) -> NodeId
     ensures { result ≡ profile.now.sender }
 {

@@ -20,9 +20,9 @@ use std::alloc::Global;
 /// A tail that was made.
 #[derive(Drop)]
 pub struct TailEnd {
-    /// How many turns it took.
+    /// How many turns it took, the one in which the watermark ended included.
     pub turns: u64,
-    /// The most turns that it could take.
+    /// The most turns that it could take, by the profile and the window at its beginning.
     pub bound: u64,
     /// What was handed up and reported, in the order in which it came.
     pub steps: Vec<TailStep>,
@@ -31,8 +31,9 @@ pub struct TailEnd {
 /// Lets the nodes of a world go on over a network that loses nothing, until the oldest watermark is done. Turns are the profile's step apart, and
 /// the first comes a step after `last`, which no event of the world may pass. Each delivery to a receiver uses one of `draws`.
 ///
-/// In a turn the sender ticks. If its datagram ends the watermark, which only an expiry does, the turn ends there. Else a copy comes to each
-/// receiver. Then each receiver in order ticks after its hand-ups were taken, and a copy of its datagram comes to each other member.
+/// In a turn the sender ticks. If the tick ends the watermark, which only an expiry does, the turn ends there. Otherwise a copy of its datagram,
+/// if it gave one, comes to each receiver. Then each receiver in order ticks after its hand-ups were taken, and a copy of its datagram, if it gave
+/// one, comes to each other member, the sender first. The sender's news are taken after its tick and after each copy that comes to it.
 ///
 /// # Errors
 ///

@@ -11,7 +11,7 @@ use crate::step::TailStep;
 use norm_base::Memory;
 use norm_world::World;
 
-/// Notes the sender's next change, if there is one. `Memory` if memory runs out.
+/// Notes the sender's next change, if there is one. `Memory` if memory runs out. Then the change is gone.
 fn tell(world: &mut World, steps: &mut Vec<TailStep>) -> Result<(), Memory>
     requires { IsReady world.old }
     ensures ready { IsReady world.new }

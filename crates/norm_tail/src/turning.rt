@@ -37,14 +37,14 @@ fn tick_sender(
     Ok(sent)
 }
 
-/// Whether what became of a watermark is that it is open.
+/// Whether an outcome is that the watermark is open. Without an outcome no watermark has the number.
 fn says_open(outcome: Option<Outcome>) -> bool
     ensures { result ≡ option_map_or says_open outcome false }
 {
     matches!(outcome, Some(Outcome::Open { .. }))
 }
 
-/// Whether a watermark is open.
+/// Whether a watermark is open. False also if none has this number.
 fn is_open(world: &World, mark: u32) -> bool
     ensures { (w : Rules) → StandsFor world.now w → result ≡ is_open_mark w mark }
 {
@@ -78,7 +78,6 @@ fn turn(
     Ok(())
 }
 
-/// The moment a step later.
 fn later(now: Moment, profile: &Profile) -> Moment
     requires { now + profile.now.step < 2 ^ 64 }
     ensures { result ≡ now + profile.now.step }
@@ -86,7 +85,8 @@ fn later(now: Moment, profile: &Profile) -> Moment
     Moment(now.0 + u64::from(profile.step))
 }
 
-/// Does turns until a watermark is done, at most `bound` of them, the first a step after `last`. Returns how many. `Memory` if memory runs out.
+/// Does turns until a watermark is done, at most `bound` of them, a step apart, the first a step after `last`. Returns how many, 0 if it was done
+/// before. `Memory` if memory runs out.
 pub(crate) fn turns_until(
     world: &mut World,
     profile: &Profile,

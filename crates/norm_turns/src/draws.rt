@@ -8,12 +8,12 @@ use rand_core::SeedableRng;
 use rand_core::utils::NextWord;
 use rand_pcg::Lcg64Xsh32;
 
-/// The draws at the beginning of a run. Their seed is one more than the network's.
+/// The draws at the beginning of a run, from the profile's `chance`. All receivers of one profile begin with the same draws.
 #[tactic(auto, unfolding(norm_journal::specs::Draws::first_draws))]
 pub fn first_draws(profile: &Profile) -> Lcg64Xsh32
     ensures { result ≡ first_draws profile.now }
 {
-    // One more than the network's seed: with the same one the back-offs of receivers would follow what is lost.
+    // One more than the seed of the network by chance: with the same one the back-offs of receivers would follow what is lost.
     Lcg64Xsh32::seed_from_u64(u64::from(profile.chance) + 1)
 }
 

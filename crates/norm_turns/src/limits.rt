@@ -1,4 +1,4 @@
-//! Limits of a turn.
+//! The limit that ends the takes of a turn if the network always has a datagram ready.
 
 /// The most datagrams that one turn takes from the network.
 // Without a limit, a member that sends faster than we take would keep the turn from its hand-ups and its own datagram.

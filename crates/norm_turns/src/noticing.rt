@@ -7,7 +7,7 @@ use norm_base::Notice;
 use norm_order::Up;
 use norm_send_rules::{News, Outcome, Receipt, SendFault};
 
-/// What the line of an accepted command says.
+/// What the line of an accepted command says. A stream that was opened is an object without octets.
 fn receipt_notice(receipt: &Receipt) -> Notice
     ensures { result ≡ receipt_notice receipt.now }
 {
@@ -39,7 +39,7 @@ pub fn gave_notice(gave: &Result<Receipt, SendFault>) -> Notice
     }
 }
 
-/// Returns what the line of a hand-up says.
+/// Returns what the line of a hand-up says. The beginning of a stream is an object without octets. Its end and a loss say nothing that is counted.
 pub fn up_notice(up: &Up) -> Notice
     ensures { result ≡ up_notice up.now }
 {
@@ -55,7 +55,7 @@ pub fn up_notice(up: &Up) -> Notice
     }
 }
 
-/// What the line of a watermark's outcome says.
+/// What the line of a watermark's outcome says. A watermark that a restart ended is done, as a satisfied one is. An open one has no line.
 fn done_notice(mark: u32, outcome: &Outcome) -> Notice
     ensures { result ≡ done_notice mark outcome.now }
 {
@@ -72,7 +72,7 @@ fn done_notice(mark: u32, outcome: &Outcome) -> Notice
     }
 }
 
-/// Returns what the line of a change says that a sender reported.
+/// Returns what the line of a change says: that a receiver is past a position, or that a watermark ended.
 pub fn news_notice(news: &News) -> Notice
     ensures { result ≡ news_notice news.now }
 {
