@@ -22,7 +22,7 @@ use std::alloc::Global;
 use std::sync::Wait;
 use std::thread::Threads;
 
-/// A session that stopped between two turns.
+/// A session that stopped between two turns: what a caller needs to go on with its nodes, and what its summary would have said.
 #[derive(Drop)]
 pub struct Paused {
     pub journal: Journal,

@@ -30,7 +30,7 @@ use norm_world::World;
 use std::alloc::Global;
 use std::marker::Model;
 
-/// What the sender answers to a file.
+/// What the sender answers to a file. If a read fails there is no answer, and the run stops.
 #[derive(Drop)]
 pub(crate) enum FileGave {
     /// It was accepted. If a journal is kept, `job` has the octets that were read.
@@ -319,7 +319,7 @@ fn offer_file<D: Files>(
     }
 }
 
-/// The length of a symbol in octets.
+/// The length of a symbol in octets, which is also that of a read.
 fn symbol_len(profile: &Profile) -> u16
     ensures { 0 < result }
 {

@@ -31,7 +31,7 @@ pub struct Ended {
     pub whole: bool,
 }
 
-/// How a run of a script ended: its journal if it was kept, and whether everything was done.
+/// How a run of a script ended: its journal, or `None` if its sender is alone, and whether everything was done.
 #[derive(Drop)]
 struct Made {
     journal: Option<Journal>,

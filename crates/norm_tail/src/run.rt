@@ -17,7 +17,7 @@ use norm_world::World;
 use rand_pcg::Lcg64Xsh32;
 use std::alloc::Global;
 
-/// A tail that was made.
+/// How long a tail took, and what came of it. The nodes stay in the world that was lent.
 #[derive(Drop)]
 pub struct TailEnd {
     /// How many turns it took, the one in which the watermark ended included.
