@@ -81,7 +81,7 @@ impl Position {
         }
     }
 
-    /// Whether this symbol is of an earlier block than the other, or earlier in the same one.
+    /// Whether this symbol is of an earlier object than the other, or of an earlier block of the same object, or earlier in the same block.
     pub fn is_before(&self, other: &Position) -> bool
         ensures { result ≡ position_before self.now other.now }
     {

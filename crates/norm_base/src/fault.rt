@@ -5,7 +5,7 @@ ghost use Rattle.norm_base.specs.declared.fault.FabricFault.TheVariants as fabri
 
 use std::alloc::{AllocError, AllocFailed};
 
-/// There was no memory for the call. A call that returns this raised no count of faults.
+/// There was no memory for the call, or a count or an index of it would not fit its bits. A call that returns this raised no count of faults.
 #[derive(Clone, Copy, Debug, PartialEq, Eq)]
 pub struct Memory;
 

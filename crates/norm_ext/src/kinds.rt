@@ -85,7 +85,7 @@ pub enum Form {
 }
 
 impl Form {
-    /// Returns its code, from 1 to 3.
+    /// Returns the octet with which a request begins, from 1 to 3.
     pub fn number(self) -> u8
         ensures { result ≡ form_number self }
     {
@@ -105,7 +105,7 @@ impl Form {
     }
 }
 
-/// The bits of flags: six of INFO and DATA, and four (`WANT_`) of repair requests.
+/// The bits of flags: six of INFO and DATA, and four (`WANT_`) of repair requests. The two items of a range name all from the first to the second.
 pub mod flags {
     /// INFO and DATA: sent because it was requested, and not by itself.
     // These six: NORM_FLAG_ of RFC 5740 section 4.2.1.
@@ -125,7 +125,7 @@ pub mod flags {
     pub const WANT_SEGMENT: u8 = 0x01;
     /// A request for the whole blocks that its items name. For erasures the same as `WANT_SEGMENT`.
     pub const WANT_BLOCK: u8 = 0x02;
-    /// A request for the infos of the objects that its items name.
+    /// A request for the infos of the objects that its items name. For erasures nothing.
     pub const WANT_INFO: u8 = 0x04;
     /// A request for the whole objects that its items name, without their infos. For erasures nothing.
     pub const WANT_OBJECT: u8 = 0x08;

@@ -103,7 +103,7 @@ impl ReceiverRun {
         for _ in 0..self.receiver.ups() {
             self.hand_up(output, files)?;
         }
-        // As many were told as there were, so none is left.
+        // Never taken: the loop handed up as many as there were.
         if self.receiver.ups() > 0 {
             return Err(SessionFault::Memory);
         }

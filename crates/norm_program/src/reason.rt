@@ -153,7 +153,8 @@ impl Ending {
     }
 }
 
-/// Says on standard error why the program ended so. If the words were refused, also names the program and its version.
+/// Says on standard error why the program ended so, if [`has_reason`](Ending::has_reason) says that there is a reason to print, and nothing
+/// otherwise. If the words were refused, also names the program and its version.
 pub(crate) fn explain(rt: &impl Eprint, ending: &Ending, words: &[String]) {
     if ending.has_reason() {
         let reason = Reason { ending, words };

@@ -125,7 +125,7 @@ impl Parts {
         };
         let mut next = self.entering(naming.instance)?;
         next.take_in_at(index, said, now, draw)?;
-        // The only change, once nothing can fail any more.
+        // Last: whatever fails above leaves the receiver in the instance before.
         *self = next;
         Ok(())
     }

@@ -58,7 +58,8 @@ pub fn room()
     ensures { RoomLaws }
 {}
 
-/// Two datagrams of a sender are at least a gap apart. A tick ends at most one watermark, the oldest open one.
+/// Two datagrams of a sender are at least a gap apart, unless the second is sent at the last moment that 64 bits count. A tick ends at most one
+/// watermark, the oldest open one.
 #[tactic(auto, using(crate::proofs::MomentLemmas::tick_laws))]
 pub fn ticks()
     ensures { TickLaws }

@@ -92,7 +92,7 @@ impl Run {
         for _ in 0..self.world.receiver(node).ups() {
             self.hand_up(output, node)?;
         }
-        // As many were taken as there were, so none is left.
+        // Never taken: the loop took as many as there were.
         if self.world.receiver(node).ups() > 0 {
             return Err(SessionFault::Memory);
         }

@@ -21,7 +21,6 @@ use norm_turns::{SessionFault, first_draws};
 use norm_world::World;
 use std::alloc::Global;
 
-/// Which nodes the network is started for: the sender alone, or all members.
 fn local_of(profile: &Profile, alone: bool) -> Local
     ensures { result ≡ local_of alone profile.now }
 {
@@ -42,7 +41,7 @@ fn begun_journal(alloc: Global, alone: bool) -> Result<KeptJournal, Memory>
     Ok(journal)
 }
 
-/// Starts the network with all members, or with the sender alone.
+/// Starts the network. Call it right after [`Run::begun`], whose journal says already that it started.
 fn start_network<F: Fabric>(
     script: &Script,
     alone: bool,

@@ -47,7 +47,7 @@ fn take_all(world: &mut World, steps: &mut Vec<TailStep>, node: NodeId) -> Resul
     for _ in 0..world.receiver(node).ups() {
         take(world, steps, node)?;
     }
-    // As many were taken as there were, so none is left.
+    // Never taken: the loop took as many as there were.
     if !are_taken(world, node) {
         return Err(Memory);
     }

@@ -18,7 +18,7 @@ pub(crate) struct Member {
     pub(crate) socket: UdpSocket,
 }
 
-/// Opens a member's own socket, bound to its address, with a large receive buffer.
+/// Opens a member's own socket, bound to its address, and asks for a large receive buffer, which the system need not give.
 pub(crate) fn open_own<R: Net>(
     rt: &R,
     profile: &Profile,

@@ -46,7 +46,7 @@ fn at<R: Net>(rt: &R, address: SocketAddr) -> Result<UdpSocket, SocketCause> {
     }
 }
 
-/// Opens a socket at this address, with a large receive buffer.
+/// Opens a socket at this address, and asks for a receive buffer of [`RECEIVE_BUFFER`] octets, which the system need not give.
 pub(crate) fn bind<R: Net>(rt: &R, address: SocketAddr) -> Result<UdpSocket, SocketCause> {
     let socket = at(rt, address)?;
     ask_for_room(&socket);

@@ -3,8 +3,8 @@
 use std::cell::Cell;
 
 /// What the sink and the network of a node count together: octets and objects by the lines (a stream is one object), repairs by the
-/// datagrams, and how many of the listed members are past the oldest open watermark. Lend it to `WatchedFabric::of` and
-/// `WatchedSink::of`, and then to `end_progress`.
+/// datagrams, and how many of the listed members are past the oldest open watermark, or all of them if none is open. Lend it to
+/// `WatchedFabric::of` and `WatchedSink::of`, and then to `end_progress`.
 // Cells, because the sink and the network both count here, and each holds it by a shared loan.
 #[derive(Drop)]
 pub struct Tally {

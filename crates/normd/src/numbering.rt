@@ -70,7 +70,7 @@ struct Asked {
     instance: Option<u32>,
 }
 
-/// `None` if the words ask for anything else, or are no command.
+/// Returns what the words of a `send` ask for. `None` if they are no command, or another one.
 fn asked_by(alloc: Global, words: &[String]) -> Result<Option<Asked>, Memory> {
     match node_task_of(alloc, words)? {
         Some(NodeTask::Send { profile, instance }) => Ok(Some(Asked {

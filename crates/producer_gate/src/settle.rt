@@ -30,7 +30,6 @@ pub(crate) fn push<R: Wait>(ring: &Ring, rt: &R, pass: &mut Own, command: Submit
     }
 }
 
-// The seat of a producer whose pass knows nothing of it yet.
 fn seated(pass: Own, producer: u32) -> Seat
     requires { (pass.me.1 ≡ []) × (view pass ≡ Submits producer []) }
     ensures { result ≡ new_seat pass.table_id producer }

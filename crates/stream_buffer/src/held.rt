@@ -107,7 +107,7 @@ impl HeldStream {
         self.buffer.segments()
     }
 
-    /// Does nothing. Its contract says that the segments have room, and that 24 bits number the blocks.
+    /// Does nothing. Its contract says that the segments that were not given up have room, and that 24 bits number the blocks of all.
     pub fn fits(&self)
         ensures room { closed_segments self.now.buffer ≤ (self.now.buffer.first + self.now.buffer.blocks) * self.now.buffer.cut.b }
         ensures few { closed_segments self.now.buffer ≤ 16777216 * self.now.buffer.cut.b }

@@ -204,7 +204,8 @@ impl Window {
         last_of(entry.last_cut(self.dropped + place as u32), self.last)
     }
 
-    /// How many segments of the last entry, a stream, are closed, given up or not. They have room, and 24 bits number their blocks.
+    /// How many segments of the last entry, a stream, are closed, given up or not. 0 if the last entry is an object, or there is none. Those that were
+    /// not given up have room in the stream's ring, and 24 bits number the blocks of all.
     pub fn segments(&self) -> u32
         ensures exact { (s : SenderState) (parts : List Part) → Stands self.now s → EndsIn parts s → result ≡ (shape_of self.now.p (Streamed parts)).closed }
         ensures room { (s : SenderState) (parts : List Part) → Stands self.now s → EndsIn parts s
