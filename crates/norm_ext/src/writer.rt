@@ -20,9 +20,9 @@ use crate::pushing::{push_16, push_name};
 use norm_base::Datagram;
 use std::marker::Model;
 
-// `places::REQUEST` in 16 bits, as a request's length has.
+// These two in 16 bits, as a request's length has.
 const FRONT: u16 = places::REQUEST as u16;
-// `places::ITEM` in 16 bits.
+
 const ITEM: u16 = places::ITEM as u16;
 
 /// Appends requests to a datagram.

@@ -47,7 +47,6 @@ pub(crate) fn find_last(words: &Words, place: &mut Place, count: usize, mark: u6
     Seen::Unknown
 }
 
-// A reader at a seat that is at rest.
 fn reader_at(words: Arc<Words, Global>, place: Place) -> BoardReader
     requires place { IsAt (arc_value words).shared.table_id place × IsReader place.me.0 }
     requires fresh { known_in place.me.0 ≡ [] }

@@ -71,7 +71,7 @@ fn count_of(names: &[(u32, u64)], producer: u32) -> usize
     names.iter().filter(|e| e.0 == producer).count()
 }
 
-// Takes a seat in, and answers how many of its commands were not pulled.
+/// Takes a seat in, and returns how many of its commands were not pulled.
 fn left_behind(ring: &Ring, pull: &mut Own, names: &[(u32, u64)], seat: Seat) -> u32
     requires ring { IsPassOf ring.now pull.old × IsPulling (view pull.old) × (seat.gate ≡ pull.old.table_id) }
     requires names { names.now ≡ map named (pulled_in (view pull.old)) }

@@ -40,7 +40,7 @@ pub struct StreamBuf {
     b: u8,
     /// How many encoding symbols a block has, source and parity.
     max_n: u8,
-    /// How many blocks the ring has room for. For more, the oldest are given up.
+    /// How many blocks the ring has room for. For more, the oldest are given up if they may go.
     blocks: u16,
     /// The first block that was not given up. It never falls.
     first: u32,
