@@ -9,8 +9,8 @@ pub fn sums()
 {}
 
 /// The product is commutative and associative, has the neutral 1, and distributes over sums.
-// Proof: a linear function is known by its values at 1, 2, 4, .. 128. So three laws are one computed test each over these units; the product
-// distributes because it is linear.
+// Proof: a linear function is known by its values at 1, 2, 4, .. 128. So three laws are one computed test each over these units.
+// Proof: the product distributes because it is linear.
 #[tactic(auto, using(crate::proofs::LawsHold::product_laws))]
 pub fn products()
     ensures { ProductLaws }

@@ -64,7 +64,8 @@ pub fn inv(a: u8) -> u8
     power_of(255 - logarithm_of(a))
 }
 
-/// Adds `c * src` to `dst`, octet by octet. Both are equally long. It goes by 64 octets, then by sixteen, and takes no memory.
+/// Adds `c * src` to `dst`, octet by octet. Both are equally long. It goes by 64 octets, then by sixteen, then takes the rest at once. It takes no
+/// memory.
 pub fn add_scaled(dst: &mut [u8], src: &[u8], c: u8)
     requires { length dst.old ≡ length src.now }
     ensures { EachIndex dst.new (λ i.

@@ -512,8 +512,8 @@ impl Collection {
 
     /// Adds the requests of a NACK to the open round, as far as the window has what they ask for. Ignores an item whose object id stands for no
     /// index, and a range if that is so of one of its ends.
-    // Proof: for a request that comes now, the order as it came (as_it_came) is the order as it stands. Marks then decide every test of the
-    // rules.
+    // Proof: for a request that comes now, the order as it came (as_it_came) is the order as it stands.
+    // Proof: marks then decide every test of the rules.
     pub fn add(&mut self, profile: &Profile, requests: Requests<'_>)
         ensures added { HasAdded (map (named profile.now (known_of self.old)) requests.entry) self.old self.new }
         ensures planned { AllByRecursion IsPlanned self.old.objects }

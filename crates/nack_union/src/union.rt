@@ -46,8 +46,8 @@ pub struct Union {
     collection: Collection,
 }
 
-// Proof: it stands for what it reads of a state (UnionReads), with what the open round was asked for. So a step of the sender needs no second
-// relation beside it.
+// Proof: it stands for what it reads of a state (UnionReads), with what the open round was asked for.
+// Proof: so a step of the sender needs no second relation beside it.
 impl Model for Union {
     ghost use Rattle.nack_union.specs.UnionState.{UnionState};
 

@@ -14,8 +14,8 @@ pub(crate) struct Waiting {
     heap: BinaryHeap<WaitingCopy>,
 }
 
-// Proof: clauses see the copies in the order of takes. std says that a call permutes what the heap holds. So the sum of every function over it
-// stays, and only one list in that order has these sums (one_in_turn).
+// Proof: clauses see the copies in the order of takes. std says that a call permutes what the heap holds.
+// Proof: so the sum of every function over it stays, and only one list in that order has these sums (one_in_turn).
 impl Model for Waiting {
     ghost use Rattle.std.specs.Prelude.{◌-◌};
     ghost use Rattle.std.specs.BinaryHeap.{heap_items, heap_len, heap_capacity, IsHeap};

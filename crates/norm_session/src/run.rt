@@ -18,8 +18,8 @@ use std::marker::Model;
 ///    [`command`](Run::command). Then come [`tick_sender`](Run::tick_sender) and the offer, [`take_all`](Run::take_all) and
 ///    [`serve_all`](Run::serve_all). After the command, the sender's tick and each take, [`tell_all`](Run::tell_all) reports the sender's news.
 /// 3. [`summarize`](Run::summarize), which ends the run.
-// Proof: a function's clause is said of every context (Context), from one stage of a turn to another. So a run keeps nothing of what it was begun
-// over, and the clause of a turn is that of its functions, one after the other.
+// Proof: a function's clause is said of every context (Context), from one stage of a turn to another.
+// Proof: so a run keeps nothing of what it was begun over, and the clause of a turn is that of its functions, one after the other.
 #[derive(Drop)]
 pub struct Run {
     pub(crate) alloc: Global,

@@ -157,8 +157,8 @@ impl Reader {
     }
 
     /// Shows the lines that end in a piece of the input, and keeps the rest of the piece.
-    // Proof: Shows speaks of every input that may follow, so no list of lines is cut at an index. shows-on joins two pieces, leaves-behind carries
-    // a fault back.
+    // Proof: Shows speaks of every input that may follow, so no list of lines is cut at an index.
+    // Proof: shows-on joins two pieces, leaves-behind carries a fault back.
     fn show_piece<K: Sink>(
         &mut self,
         alloc: Global,

@@ -49,8 +49,8 @@ pub struct StreamBuf {
     ended: bool,
 }
 
-// Proof: it is related to a stream's parts, of which it keeps the segments from its first kept block on (StandsFor). Each call says what it stands
-// for afterwards.
+// Proof: it is related to a stream's parts, of which it keeps the segments from its first kept block on (StandsFor).
+// Proof: each call says what it stands for afterwards.
 impl Model for StreamBuf {
     ghost use Rattle.stream_buffer.specs.StreamState.{StreamState};
     ghost use Rattle.stream_buffer.specs.StreamSound.{stream_view, StreamSound};

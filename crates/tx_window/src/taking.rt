@@ -180,8 +180,8 @@ impl Window {
             return index;
         };
         let (len, last) = end_octets(&mut self.ring, begun, self.filled, index);
-        // Proof: `join_begun` moves the object, and is lent only the fields that it needs. If a value of its type were owned here, each further
-        // statement on a window of so many fields would be dear.
+        // Proof: `join_begun` moves the object, and is lent only the fields that it needs.
+        // Proof: if a value of its type were owned here, each further statement on a window of so many fields would be dear.
         let forgotten = join_begun(
             &mut self.held,
             &mut self.begun,

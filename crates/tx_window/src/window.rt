@@ -71,8 +71,8 @@ pub struct Window {
     pub(crate) codes: CodeTable,
 }
 
-// Proof: it stands for what it reads of a state (WindowReads) and not for the state. Whatever else a rule changes, the same proof holds, and who
-// stands above names no field of it.
+// Proof: it stands for what it reads of a state (WindowReads) and not for the state.
+// Proof: whatever else a rule changes, the same proof holds, and who stands above names no field of it.
 impl Model for Window {
     ghost use Rattle.tx_window.specs.WindowState.{WindowState};
     ghost use Rattle.tx_window.specs.WindowSound.{window_view, WindowSound};
