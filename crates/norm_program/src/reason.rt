@@ -47,7 +47,8 @@ fn say_extra<W: fmt::Write>(word: &str, others: &[String], f: &mut fmt::Formatte
     }
 }
 
-/// Says why words are refused, of which `word` is the first. Looks at the others only for `show`: of any other command it says all that it takes.
+/// Says why words are refused, of which `word` is the first. Looks at the others only for `show`: of any other command it says all that it takes,
+/// and of any other word that it is unknown.
 fn say_first<W: fmt::Write>(word: &str, others: &[String], f: &mut fmt::Formatter<W>) -> fmt::Result
     ensures { DisplaysOnOk W.write_str_gives f.old result (Some (words_reason (word.now ∷ map string_bytes others.now))) f.new }
 {
