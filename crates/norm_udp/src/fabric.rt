@@ -191,8 +191,8 @@ impl<R: Net + Wait + Clock + Drop> UdpFabric<R> {
         look_through(&mut self.open, &mut self.sieve, &mut self.buffer, into)
     }
 
-    /// Looks until a datagram is there, and at most until this moment in microseconds of the clock or [`MOST_LOOKS`] times. If none came, it notes that.
-    /// If the moment is over already, it reads the clock once and does not look.
+    /// Looks until a datagram is there, and at most until this moment in microseconds of the clock or [`MOST_LOOKS`] times. If none came, it notes
+    /// that. If the moment is over already, it reads the clock once and does not look.
     fn look_until(
         &mut self,
         until: u64,
