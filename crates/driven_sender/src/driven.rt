@@ -35,7 +35,7 @@ impl Driven {
         Ok(Driven { sender })
     }
 
-    /// Hands the sender a datagram.
+    /// Hands the sender a datagram, of any octets. Takes no memory.
     pub fn deliver(&mut self, bytes: &[u8], now: Moment) {
         self.sender.deliver(bytes, now);
     }
@@ -58,12 +58,12 @@ impl Driven {
         self.sender.mark(None)
     }
 
-    /// Begins another instance.
+    /// Begins another instance. Nothing changes if its id is refused.
     pub fn restart(&mut self, instance: InstanceId) -> Result<Receipt, SendFault> {
         self.sender.restart(instance)
     }
 
-    /// Takes the sender's next news, if there are any.
+    /// Returns the sender's next change to report. Each is returned once. `None` if there is none.
     pub fn news(&mut self) -> Option<News> {
         self.sender.news()
     }

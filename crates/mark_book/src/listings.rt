@@ -105,7 +105,7 @@ impl Listings {
         forget_all(&mut self.past);
     }
 
-    /// Removes a node from the members, if it is one. The others keep their order.
+    /// Removes a node from the members, or does nothing if it is none. The others keep their order, so each after it moves by one.
     pub fn strike(&mut self, node: NodeId)
         ensures left { self.new ≡ filter (λ l. not (l.node == node)) self.old }
         ensures one { length self.old ≤ length self.new + 1 }

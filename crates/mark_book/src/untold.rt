@@ -16,7 +16,7 @@ pub fn put_node(nodes: &mut Vec<NodeId>, node: NodeId)
             return;
         }
         if node < *other {
-            // It does not fail: the book took room for each receiver, and a node stands here once.
+            // It does not fail: the clause says that the list has room for one more node.
             nodes.insert(place, node).unwrap();
             return;
         }

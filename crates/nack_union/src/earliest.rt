@@ -13,7 +13,6 @@ use norm_ext::flags::{WANT_BLOCK, WANT_INFO, WANT_OBJECT, WANT_SEGMENT};
 use norm_ext::items::{ends_of, has_flag, position_of, split_item, split_pair};
 use norm_ext::{Form, Item, Request};
 
-/// Returns the earlier of two points.
 fn nearer(a: Point, b: Point) -> Point
     ensures { lesser (Some a) (Some b) ≡ Some result }
 {

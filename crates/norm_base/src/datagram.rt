@@ -53,7 +53,7 @@ impl Datagram {
         self.bytes.as_slice()
     }
 
-    /// Returns how many octets may still be pushed.
+    /// Returns how many octets [`push`](Datagram::push) may still append before there are 1,500.
     pub fn room(&self) -> usize
         ensures room { result ≡ datagram_room - length self.now }
         ensures most { length self.now ≤ datagram_room }

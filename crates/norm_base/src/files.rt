@@ -23,8 +23,8 @@ pub trait Files {
             IsErrOf result FileFault.Absent ↔ IsNone (content_of files name.now)) }
         ensures cause { Counts (fault_count self.old) (fault_count self.new) (file_failed result) };
 
-    /// Reads at least one octet from `offset` on into a prefix of the buffer and returns how many.
-    /// `offset` is below the file's length.
+    /// Reads octets from `offset` on, which is below the file's length, into a prefix of the buffer. Returns how many: at least one, and perhaps
+    /// fewer than have room. `Absent` if there is no such name.
     fn read_at(&mut self, name: &str, offset: u64, buf: &mut [u8]) -> Result<usize, FileFault>
         requires room { 0 < length buf.old }
         requires within { IfSome (contents self.old) (λ files.

@@ -62,7 +62,7 @@ pub enum CommandMsg<'a> {
         head: CmdHead,
         /// 4 for congestion control, 7 for an application.
         sub_type: u8,
-        /// The length of the header in words.
+        /// The length of the header in words of 32 bits.
         words: u8,
         /// All octets after the sub-type.
         rest: &'a [u8],

@@ -12,7 +12,7 @@ use norm_ext::{read_16, read_32};
 use std::marker::Model;
 
 /// Iterates over the node ids of a list. They are numbers, since some may be no members.
-// Whole numbers: the walk takes four octets at a time, and a rest would not have them.
+// `list` has whole numbers: the walk takes four octets at a time, and would read past the end of a rest.
 #[derive(Debug, Drop)]
 pub struct Nodes<'a> {
     list: &'a [u8],

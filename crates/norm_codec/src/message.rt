@@ -22,7 +22,7 @@ pub enum Message<'a> {
     Report {
         source: NodeId,
         sequence: u16,
-        /// The length of the header in words.
+        /// The length of the header in words of 32 bits.
         words: u8,
         /// All octets after the common header.
         rest: &'a [u8],

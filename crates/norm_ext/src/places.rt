@@ -11,7 +11,7 @@ pub const NODE: usize = 4;
 // RFC 5740 section 4.2.1: an object transport id has 16 bits.
 pub const OBJECT: usize = 2;
 
-/// The offset of the header's length, in words.
+/// The offset of the header's length, which counts words of 32 bits.
 // From here to `COMMON_WORDS`: the common header of RFC 5740 section 4.1.
 pub const WORDS_AT: usize = 1;
 /// The offset of the sequence number, of 16 bits.

@@ -20,7 +20,7 @@ use crate::pushing::{push_16, push_name};
 use norm_base::Datagram;
 use std::marker::Model;
 
-// These two in 16 bits, as a request's length has.
+// This and `ITEM` have 16 bits, as the length of a request has (RFC 5740 section 4.3.1).
 const FRONT: u16 = places::REQUEST as u16;
 
 const ITEM: u16 = places::ITEM as u16;

@@ -209,7 +209,6 @@ fn enqueue_reason(fault: &EnqueueFault) -> Option<Reason>
     }
 }
 
-/// Every refusal of a strike has a reason.
 fn strike_reason(fault: &StrikeFault) -> Reason
     ensures { Some (result.0.now, result.1) ≡ reason_of (SendFault.Strike fault.now) }
 {

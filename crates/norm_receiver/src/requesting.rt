@@ -14,7 +14,8 @@ use norm_ext::flags::{WANT_BLOCK, WANT_INFO, WANT_OBJECT, WANT_SEGMENT};
 use norm_ext::items::item_of;
 use norm_ext::{Form, RequestWriter};
 
-/// What a receiver needs. A NACK has one item, or one range, for each; those of one form and with the same flags may share a repair request.
+/// What a receiver needs. A NACK has one item, or one range, for each need that it has room for. Needs that follow each other share a repair
+/// request if their form and flags are the same.
 #[derive(Clone, Copy, Debug, PartialEq, Eq)]
 pub enum Need {
     /// An object of which nothing is known, and its info.

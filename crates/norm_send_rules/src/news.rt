@@ -16,7 +16,7 @@ pub enum Outcome {
     Cut,
 }
 
-/// A change that was not reported yet.
+/// A change that a sender reports once.
 #[derive(Clone, Copy, Debug, PartialEq, Eq)]
 pub enum News {
     /// This member is now listed past `at`.

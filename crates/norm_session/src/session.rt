@@ -96,7 +96,8 @@ pub fn run_session<
 ///
 /// `Write`, `Fabric` or `Files` if a call of the output, the network or the files failed; `Absent` if a command's file is not there; or
 /// `Memory`, also if the board has no room for an outcome or a count does not fit 64 bits.
-// No journal is kept, since nobody would read it and it would grow with each datagram. The clause says that there is one.
+// No journal is kept, since nobody would read it and it would grow with each datagram. The clause says only that some journal fits what was
+// offered, taken and written.
 pub fn run_send<
     R: Threads + Wait + Sync,
     K: Sink,

@@ -59,7 +59,7 @@ fn put_item(line: &mut Line, by: u8, item: Item) -> Result<(), AllocError>
     )
 }
 
-/// Adds a colon and the items of a request, separated by plus signs.
+/// Adds a colon and the items of a request, separated by plus signs. Octets after the last whole item are not shown.
 fn put_items(line: &mut Line, items: &[u8]) -> Result<(), AllocError>
     ensures { OnOk result (line.new ≡ with_piece 58 line.old (joined 43 (map item_word (items_named items.now)))) }
 {

@@ -83,7 +83,7 @@ impl Listing {
         );
     }
 
-    /// Strikes a member, which is then no longer listed.
+    /// Forgets a struck member's listing, so that it is not counted. Does nothing if it was listed past nothing.
     pub fn strike(&mut self, node: NodeId) {
         take_out(&mut self.members, node.number());
     }

@@ -97,8 +97,8 @@ impl ObjectBuf {
         })
     }
 
-    /// Appends a symbol of the object. A source symbol has its own length, and a parity symbol `e` octets. Parity is made anew at each call. It takes
-    /// no memory.
+    /// Appends a symbol of the object. It has `e` octets, except that the object's last source symbol may have less. Parity is made anew at each
+    /// call. It takes no memory.
     pub fn symbol(&self, block: u32, symbol: u8, out: &mut Datagram)
         requires block { block < blocks self.now.cut }
         requires symbol { symbol < encoding_symbols self.now.cut block }

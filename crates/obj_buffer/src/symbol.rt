@@ -31,7 +31,7 @@ fn range_of<'a>(front: &'a [u8], back: &'a [u8], start: usize, len: usize) -> (&
     )
 }
 
-/// Appends a source symbol at its own length. Only the last one of an object may have less than `e` octets.
+/// Appends a source symbol without its padding. Only the last one of an object may have less than `e` octets.
 fn push_source(plan: &Plan, front: &[u8], back: &[u8], block: u32, symbol: u8, out: &mut Datagram)
     requires object { IsSome plan.now.l }
     requires block { block < blocks plan.now }
@@ -81,8 +81,8 @@ fn push_parity(
     out.push(parity);
 }
 
-/// Appends a symbol of an object. A source symbol has its own length, and a parity symbol `e` octets. Parity is made anew at each call. It takes no
-/// memory.
+/// Appends a symbol of an object. It has `e` octets, except that the object's last source symbol may have less. Parity is made anew at each call.
+/// It takes no memory.
 ///
 /// `front` followed by `back` is the object's octets, padded with zeros to whole symbols. `front` is whole symbols.
 // Proof: it holds for every object whose octets the two pieces are. Callers bring that fact, and no ghost value is needed.

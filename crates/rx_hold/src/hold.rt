@@ -230,7 +230,7 @@ impl Hold {
         self.front.end(index)
     }
 
-    /// Whether an object, or the rest of a stream, was lost in this instance.
+    /// Whether an object, or the rest of a stream, was lost since the hold was made or cleared. A receiver makes one for each instance.
     pub fn has_lost(&self) -> bool
         ensures { (s : Holding) → StandsFor self.now s → lost_nothing s ≡ not result }
     {

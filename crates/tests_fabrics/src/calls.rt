@@ -244,7 +244,7 @@ impl<F: Fabric> Networks<F> {
         Ok(all)
     }
 
-    /// Makes these steps and compares the answers, a blank, and how many calls of each network failed so far, with `wanted`.
+    /// Makes these steps and compares the answers, a blank, and how many calls of each network failed since it was made, with `wanted`.
     ///
     /// # Errors
     ///

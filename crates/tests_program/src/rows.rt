@@ -11,7 +11,7 @@ use std::alloc::Global;
 use std::sync::Wait;
 use std::thread::Threads;
 
-/// What the lines of a row have said so far.
+/// What the lines of a row say, from its first line up to the one that was read last.
 #[derive(Drop)]
 struct Row {
     call: Call,
