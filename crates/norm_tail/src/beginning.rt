@@ -41,7 +41,7 @@ pub(crate) fn symbols(world: &World) -> u64
     world.sender().repairable()
 }
 
-/// How many flushes were counted since another watermark became the oldest, or a round made a want.
+/// How many flushes were counted since another watermark became the oldest, a round made a want, or the instance began.
 fn flushes(world: &World) -> u32
     ensures { (w : Rules) → StandsFor world.now w → result ≡ w.sender.flushes }
 {

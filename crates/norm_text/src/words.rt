@@ -1,4 +1,4 @@
-//! Words that several printed lines share. `norm_journal` prints them.
+//! Words that several printed lines share. `norm_journal` and `replay` print them.
 
 ghost use Rattle.std.specs.Prelude.{◌≡◌};
 ghost use Rattle.norm_text.specs.Words.{kind_word};

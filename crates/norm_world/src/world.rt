@@ -262,7 +262,7 @@ impl World {
     }
 
     /// States that a node's datagram was offered to the network. It keeps nothing and does nothing.
-    // Nothing calls it: its contract says that an offer is an event after which the same world stands.
+    // `norm_tail` calls it for its contract alone: an offer is an event after which the same world stands.
     // The network and the journal have the octets. Kept here they would grow with the session, and the call could run out of memory.
     pub fn offered(&self, from: NodeId, bytes: &[u8])
         ensures { IsEvent self.now self.now (Offered from bytes.now) (λ answer. answer ≡ Silent) }
