@@ -55,7 +55,7 @@ impl Offers {
         self.row.piece(at as usize)
     }
 
-    /// Returns the index of these octets if they are the latest offer with their name. It compares them with this one alone.
+    /// Returns the index of these octets if they are the latest offer with their name. It looks at no earlier offer.
     pub(crate) fn find(&self, octets: &[u8]) -> Option<u32>
         ensures found { IfSome result (λ at. slice_get self.now at ≡ Some octets.now) }
         ensures latest { IfNone result ((at : ℕ) → ¬ IsLatest self.now octets.now at) }

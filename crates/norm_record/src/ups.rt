@@ -153,7 +153,7 @@ impl Ups {
         &self.kept[at as usize]
     }
 
-    /// Returns the index of this hand-up if it is the latest with its name. It compares it with the latest alone, octet by octet.
+    /// Returns the index of this hand-up if it is the latest with its name. It looks at no earlier one.
     pub(crate) fn find(&self, hand_up: &HandUp) -> Option<u32>
         ensures found { IfSome result (λ at. slice_get self.now at ≡ Some hand_up.now) }
         ensures latest { IfNone result ((at : ℕ) → ¬ IsLatestUp self.now hand_up.now at) }
