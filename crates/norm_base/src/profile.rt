@@ -34,7 +34,7 @@ pub struct Profile {
     pub auto: u8,
     /// The most objects and streams that the sender keeps.
     pub window: u16,
-    /// The most octets that the sender keeps, its streams' buffers counted, and that one object has.
+    /// The most octets that the sender keeps, and that each receiver holds, streams with their whole buffers. So also the most of one object.
     pub octets: u32,
     /// The blocks of a stream's buffer, at the sender and at each receiver.
     pub blocks: u16,
