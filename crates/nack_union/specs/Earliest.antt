@@ -2,9 +2,8 @@
 -- due.
 use Rattle.std.specs.Prelude.{ℕ, List, fold, map, flat_map, Bool, true, false, Option, None, Some}
 use Rattle.norm_base.specs.Settings.{Settings}
-use Rattle.fec_plan.specs.Points.{Point, point_before, position_before}
-use Rattle.fec_plan.specs.declared.position.Position.{Position}
-use Rattle.norm_ext.specs.Asking.{Span, Named, item_named, item_span, pairs}
+use Rattle.fec_plan.specs.Points.{Point, point_before}
+use Rattle.norm_ext.specs.Asking.{Span, Named, is_proper, item_named, item_span, pairs}
 use Rattle.norm_ext.specs.declared.head.Item.{Item}
 use Rattle.norm_send_rules.specs.Closing.{gives_something, begins_at, counts_from}
 
@@ -42,12 +41,10 @@ items_spans p known items = flat_map item_span (map (item_named p known) items)
 abbrev pub pairs_spans : Settings → ℕ → List Item → List Span
 pairs_spans p known items = pairs (map (item_named p known) items)
 
--- where a range begins that is not empty
-abbrev pub range_begin : Option Position → Option Position → Option Position
-range_begin (Some first) (Some last) = elim (position_before last first) [ true ↦ None | false ↦ Some first ]
-range_begin _ _ = None
+-- a point, where something is given
+abbrev pub least_where : Bool → Option Point → Option Point
+least_where gives least = elim gives [ true ↦ least | false ↦ None ]
 
--- the nearer of a point and that from which a position counts, where there are any
-abbrev pub lesser_at : ℕ → Option Point → Option Position → Option Point
-lesser_at flags least (Some at) = lesser least (Some (counts_from flags at))
-lesser_at flags least None = least
+-- the nearer of a point and that from which a range counts that is not empty
+abbrev pub lesser_span : ℕ → Option Point → Span → Option Point
+lesser_span flags least s = elim (is_proper s) [ true ↦ lesser least (Some (counts_from flags s.first)) | false ↦ least ]

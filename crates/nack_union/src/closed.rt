@@ -15,8 +15,8 @@ pub fn all_symbols(plan: &Plan) -> u64
     plan.symbol_number(last, 0) + u64::from(plan.source_len(last))
 }
 
-/// Returns a number of first blocks of which all source symbols are closed, if `closed` of the object's are. If blocks differ in length, there
-/// may be more such blocks.
+/// Returns a number of first blocks of which all source symbols are closed, if `closed` of the object's are. If blocks differ in length, there may
+/// be more such blocks.
 pub fn whole_blocks(plan: &Plan, closed: u64) -> u32
     ensures whole { (block : ℕ) → block < result → is_full (shape_closed plan.now closed) block ≡ true }
     ensures few { blocks plan.now ≤ most_blocks }

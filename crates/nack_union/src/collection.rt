@@ -1,6 +1,6 @@
 //! The window of a [`Union`](crate::Union). It keeps no profile: calls that need one take it. The union calls it.
 
-ghost use Rattle.std.specs.Prelude.{◌≡◌, ◌<◌, ◌≤◌, ◌+◌, ◌-◌, ◌^◌, ◌∷◌, ◌++◌, [], length, IfOk, IsErr, MatchOption, None, Some, false, ℕ, List, nat_lt, position, slice_get, drop, take, not, map, min, max};
+ghost use Rattle.std.specs.Prelude.{◌≡◌, ◌<◌, ◌≤◌, ◌+◌, ◌-◌, ◌^◌, ◌∷◌, ◌++◌, [], length, IfOk, IsErr, MatchOption, None, Some, false, ℕ, List, nat_lt, position, slice_get, drop, take, not, map, min, max, filter};
 ghost use Rattle.norm_base.specs.Settings.{Settings};
 ghost use Rattle.fec_plan.specs.Partition.{IsSound};
 ghost use Rattle.norm_order.specs.Entries.{Entry};
@@ -27,17 +27,17 @@ ghost use Rattle.norm_ext.specs.RequestView.{request_of};
 ghost use Rattle.norm_ext.specs.Asking.{span, is_proper, named};
 ghost use Rattle.std.specs.Bool.{MatchBool};
 ghost use Rattle.nack_union.specs.Rounds.{new_wants, wants_closed};
-ghost use Rattle.nack_union.specs.Earliest.{is_before_window, earliest_with, items_spans, pairs_spans};
+ghost use Rattle.nack_union.specs.Earliest.{is_before_window, earliest, earliest_with, firsts, least_with, items_spans, pairs_spans};
 ghost use Rattle.nack_union.specs.Collected.{Collects};
 ghost use Rattle.nack_union.specs.CollectionSound.{AreQuiet, wanting};
 
 use crate::asking::ask_range;
-use crate::earliest::{earliest_of, is_early, lesser};
+use crate::earliest::{gives_something, is_early, least_where, lesser, lesser_from, lesser_span};
 use crate::marks::{Marks, Named};
 use crate::slots::{slot_of, want_of};
 use fec_plan::{Plan, Point, Position};
 use norm_base::{Memory, Profile};
-use norm_ext::flags::{WANT_BLOCK, WANT_SEGMENT};
+use norm_ext::flags::WANT_SEGMENT;
 use norm_ext::items::{ends_of, has_flag, position_of, split_item, split_pair};
 use norm_ext::{Form, Request, Requests};
 use norm_send_rules::Want;
@@ -84,8 +84,8 @@ impl Model for Collection {
     ghost invariant = { CollectionSound };
 }
 
-/// Returns the list index of the first object of which something is wanted. `None` if there is
-/// none. The search begins with `from`: nothing is wanted before.
+/// Returns the list index of the first object of which something is wanted. `None` if there is none. The search begins with `from`: nothing is
+/// wanted before.
 fn first_wanted(objects: &[Marks], from: usize) -> Option<usize>
     requires { AreQuiet from objects.now }
     ensures { result ≡ position (λ m. nat_lt 0 (length m.wants)) objects.now }
@@ -410,66 +410,105 @@ impl Collection {
         }
     }
 
-    /// Asks for what items name. Ignores an item whose object id stands for no index.
-    fn ask_items(&mut self, profile: &Profile, known: u32, flags: u8, items: &[u8])
-        ensures { HasPart (items_part flags (items_spans profile.now known (items_named items.now))) self.old self.new }
+    /// Asks for what items name. Ignores an item whose object id stands for no index. Returns the first point from which the others count, or
+    /// `None` if there is no other.
+    // Proof: the least point is a fold, so the loop's invariant is short.
+    fn ask_items(&mut self, profile: &Profile, known: u32, flags: u8, items: &[u8]) -> Option<Point>
+        ensures asked { HasPart (items_part flags (items_spans profile.now known (items_named items.now))) self.old self.new }
+        ensures least { result ≡ least_with None (firsts flags (items_spans profile.now known (items_named items.now))) }
     {
         // Proof: what is kept is looked at, and with it that it is sound.
         let _ = &self.objects;
+        let mut least = None;
         let mut rest = items;
         // Proof: the label names the loop for its invariant.
         'items: while let Some((item, behind)) = split_item(rest) {
             if let Some(at) = position_of(profile, known, item) {
                 self.ask_item(flags, at);
+                least = lesser_from(flags, least, at);
             }
             rest = behind;
         }
+        least
     }
 
-    /// Asks for what pairs of items name. Ignores a pair if one of its object ids stands for no index.
-    fn ask_ranges(&mut self, profile: &Profile, known: u32, flags: u8, items: &[u8])
-        ensures { HasPart (ranges_part flags (pairs_spans profile.now known (items_named items.now))) self.old self.new }
+    /// Asks for what pairs of items name. Ignores a pair if one of its object ids stands for no index. Returns the first point from which the
+    /// others count, except those that end before they begin. `None` if none is left.
+    // Proof: as at `ask_items`.
+    fn ask_ranges(
+        &mut self,
+        profile: &Profile,
+        known: u32,
+        flags: u8,
+        items: &[u8],
+    ) -> Option<Point>
+        ensures asked { HasPart (ranges_part flags (pairs_spans profile.now known (items_named items.now))) self.old self.new }
+        ensures least { result ≡ least_with None (firsts flags (filter is_proper (pairs_spans profile.now known (items_named items.now)))) }
     {
         // Proof: what is kept is looked at, and with it that it is sound.
         let _ = &self.objects;
+        let mut least = None;
         let mut rest = items;
         // Proof: the label names the loop for its invariant.
         'pairs: while let Some((first, last, behind)) = split_pair(rest) {
             if let Some(ends) = ends_of(profile, known, first, last) {
                 self.ask_pair(flags, ends.0, ends.1);
+                least = lesser_span(flags, least, ends.0, ends.1);
             }
             rest = behind;
         }
+        least
     }
 
-    /// Counts blocks for as many symbols as items say. Ignores an item whose object id stands for no index.
-    fn ask_counts(&mut self, profile: &Profile, known: u32, items: &[u8])
-        ensures { HasPart (counts_part (items_spans profile.now known (items_named items.now))) self.old self.new }
+    /// Counts blocks for as many symbols as items say. Ignores an item whose object id stands for no index. Returns the first point from which the
+    /// others count, or `None` if there is no other.
+    fn ask_counts(
+        &mut self,
+        profile: &Profile,
+        known: u32,
+        flags: u8,
+        items: &[u8],
+    ) -> Option<Point>
+        ensures asked { HasPart (counts_part (items_spans profile.now known (items_named items.now))) self.old self.new }
+        ensures least { result ≡ least_with None (firsts flags (items_spans profile.now known (items_named items.now))) }
     {
         // Proof: what is kept is looked at, and with it that it is sound.
         let _ = &self.objects;
+        let mut least = None;
         let mut rest = items;
         // Proof: the label names the loop for its invariant.
         'items: while let Some((item, behind)) = split_item(rest) {
             if let Some(at) = position_of(profile, known, item) {
                 self.count_block(at);
+                least = lesser_from(flags, least, at);
             }
             rest = behind;
         }
+        least
     }
 
-    /// Asks for what a request asks for. Erasures count blocks if SEGMENT or BLOCK is set, and else ask for nothing.
-    fn ask_request(&mut self, profile: &Profile, known: u32, request: &Request<'_>)
-        ensures { HasPart (request_part (named profile.now known (request_of request.now))) self.old self.new }
+    /// Asks for what a request asks for. Erasures count blocks if SEGMENT or BLOCK is set, and else ask for nothing. Returns the first point from
+    /// which the request counts, or `None` if it asks for nothing.
+    fn ask_request(&mut self, profile: &Profile, known: u32, request: &Request<'_>) -> Option<Point>
+        ensures asked { HasPart (request_part (named profile.now known (request_of request.now))) self.old self.new }
+        ensures earliest { result ≡ earliest (named profile.now known (request_of request.now)) }
     {
         let flags = request.flags;
+        let gives = gives_something(request);
         match request.form {
-            Form::Items => self.ask_items(profile, known, flags, request.items),
-            Form::Ranges => self.ask_ranges(profile, known, flags, request.items),
+            Form::Items => {
+                let least = self.ask_items(profile, known, flags, request.items);
+                least_where(gives, least)
+            }
+            Form::Ranges => {
+                let least = self.ask_ranges(profile, known, flags, request.items);
+                least_where(gives, least)
+            }
             Form::Erasures => {
-                if has_flag(flags, WANT_SEGMENT) || has_flag(flags, WANT_BLOCK) {
-                    self.ask_counts(profile, known, request.items);
+                if !gives {
+                    return None;
                 }
+                self.ask_counts(profile, known, flags, request.items)
             }
         }
     }
@@ -482,8 +521,8 @@ impl Collection {
         let mut earliest = self.earliest;
         // Proof: the label names the loop for its invariant.
         'requests: for request in requests {
-            self.ask_request(profile, known, &request);
-            earliest = lesser(earliest, earliest_of(profile, known, &request));
+            let least = self.ask_request(profile, known, &request);
+            earliest = lesser(earliest, least);
         }
         self.count_from(earliest);
     }
@@ -554,9 +593,9 @@ impl Collection {
         Some(want_of(self.first + place as u32, slot))
     }
 
-    /// Closes the open round: what it asked for is wanted, and the next round begins empty (RFC 5740 section 5.4). Of a block that
-    /// was counted, as many symbols are wanted as the count says, at most its number of source symbols: its lowest parity symbols that were never
-    /// sent, or all its closed source symbols if too few are left.
+    /// Closes the open round: what it asked for is wanted, and the next round begins empty (RFC 5740 section 5.4). Of a block that was counted, as
+    /// many symbols are wanted as the count says, at most its number of source symbols: its lowest parity symbols that were never sent, or all its
+    /// closed source symbols if too few are left.
     // Proof: each object's slots come first. all_closed lifts that to the listed wants, and closed_range leads from low .. high to all.
     pub fn close_round(&mut self) -> Closed
         ensures exact { self.new ≡ closed_union self.old }

@@ -228,8 +228,7 @@ impl Coverage {
         self.insert_part(BLOCK * behind + 1, to);
     }
 
-    /// Asks for the closed source symbols whose slots lie in `from..to`, and notes if the range takes in all
-    /// blocks that have room.
+    /// Asks for the closed source symbols whose slots lie in `from..to`, and notes if the range takes in all blocks that have room.
     pub fn insert_sources(&mut self, from: usize, to: usize)
         ensures members { (slot : ℕ) → is_member nat_lt slot self.new.members ≡ (is_member nat_lt slot self.old.members || (is_source_slot self.old.shape slot && in_run from to slot)) }
         ensures shape { self.new.shape ≡ self.old.shape }

@@ -107,8 +107,8 @@ impl Union {
         Ok(())
     }
 
-    /// Sets how many segments of the last object, a stream, are closed. `index` is the stream's. It takes no memory. The open round does not ask for
-    /// those that become closed.
+    /// Sets how many segments of the last object, a stream, are closed. `index` is the stream's. It takes no memory. The open round does not ask
+    /// for those that become closed.
     pub fn grow(&mut self, index: u32, segments: u32)
         requires index { index + 1 ≡ self.old.kept.first + length self.old.kept.objects }
         requires last { OfLast (MayGrow self.old.p segments) self.old.kept }
@@ -164,8 +164,8 @@ impl Union {
         self.collection.known()
     }
 
-    /// Adds the requests of a NACK to the open round, or to a new one, as far as the window has what they ask for. Ignores an item whose object
-    /// id stands for no index, and a range if that is so of one of its ends.
+    /// Adds the requests of a NACK to the open round, or to a new one, as far as the window has what they ask for. Ignores an item whose object id
+    /// stands for no index, and a range if that is so of one of its ends.
     pub fn add(&mut self, requests: Requests<'_>)
         ensures stands { (s : SenderState) (now : ℕ) → Stands self.old s → Stands self.new (joined_round self.old.p s now requests.entry) }
         ensures profile { self.new.p ≡ self.old.p }
@@ -189,9 +189,9 @@ impl Union {
         self.collection.next()
     }
 
-    /// Closes the open round: what it asked for is wanted, and the next round begins empty (RFC 5740 section 5.4). Of a block that
-    /// was counted, as many symbols are wanted as the count says, at most its number of source symbols: its lowest parity symbols that were never
-    /// sent, or all its closed source symbols if too few are left.
+    /// Closes the open round: what it asked for is wanted, and the next round begins empty (RFC 5740 section 5.4). Of a block that was counted, as
+    /// many symbols are wanted as the count says, at most its number of source symbols: its lowest parity symbols that were never sent, or all its
+    /// closed source symbols if too few are left.
     pub fn close_round(&mut self) -> Closed
         ensures stands { (r : Round) (s : SenderState) → s.round ≡ Some r → Stands self.old s → Stands self.new (round_closed self.old.p r s) }
         ensures answer { (r : Round) (s : SenderState) → s.round ≡ Some r → Stands self.old s

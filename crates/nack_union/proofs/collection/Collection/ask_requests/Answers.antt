@@ -16,9 +16,9 @@ requests-preserved c = record {
       c.requests.invariant.asked u
       (subst (λ (rs : List Request). HasPart (requests_part (map (named c.args.profile.now c.args.known) rs)) c.requests.self u)
       (sym (request_front c.requests.request-iterator (request_of c.in-Some.request) c.next.new.self c.in-Some.ensures.steps.0 c.in-Some.ensures.steps.1))
-      (part_then _ _ c.requests.self c.ask_request.new.self u c.ask_request.ensures more));
+      (part_then _ _ c.requests.self c.ask_request-least.new.self u c.ask_request-least.ensures.asked more));
   least =
-      ap (λ (o : Option Point). earliest_with o (map (named c.args.profile.now c.args.known) c.next.new.self)) (c.lesser-earliest.ensures ∙ ap (lesser c.requests.earliest) c.earliest_of.ensures)
+      ap (λ (o : Option Point). earliest_with o (map (named c.args.profile.now c.args.known) c.next.new.self)) (c.lesser-earliest.ensures ∙ ap (lesser c.requests.earliest) c.ask_request-least.ensures.earliest)
       ∙ ap (λ (rs : List Request). earliest_with c.requests.earliest (map (named c.args.profile.now c.args.known) rs))
       (sym (request_front c.requests.request-iterator (request_of c.in-Some.request) c.next.new.self c.in-Some.ensures.steps.0 c.in-Some.ensures.steps.1))
       ∙ c.requests.invariant.least;
