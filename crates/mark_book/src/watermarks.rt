@@ -140,7 +140,8 @@ impl Watermarks {
         self.still_open = 0;
     }
 
-    /// Returns the first watermark whose outcome is to be reported, and marks it as reported. `None` if there is none.
+    /// Takes out the first outcome to report: returns its watermark as it was before. Call it until it returns `None`. The cost does not grow with the
+    /// watermarks before the first one that is open or was not reported.
     pub fn tell_first(&mut self) -> Option<Watermark>
         ensures first { result ≡ find (λ k. k.untold) self.old }
         ensures told { self.new ≡ told_first self.old }

@@ -50,7 +50,8 @@ impl Model for Coverage {
     ghost invariant = { IsSoundCoverage };
 }
 
-/// Puts the slots in `from..to` of an object's closed source symbols into a set. All of them are of the first `room` blocks.
+/// Puts the slots in `from..to` of an object's closed source symbols into a set, block by block. The cost grows with the number of blocks that the
+/// range touches, and not with `to` beyond the first `room` blocks.
 fn insert_sources(set: &mut Mask, plan: &Plan, closed: u64, room: usize, from: usize, to: usize)
     requires size { slots room ≤ set.old.size }
     requires few { room ≤ most_blocks }

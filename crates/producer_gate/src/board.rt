@@ -142,7 +142,8 @@ impl Board {
         }
     }
 
-    /// Changes nothing. Its contract says that a reader saw and learned of nothing except what this board published.
+    /// Changes nothing: a caller has no need of it except for its contract, which says that all that a reader saw or learned of was published by this
+    /// board. It never waits.
     pub fn hear(&mut self, reader: &mut BoardReader)
         requires { reader.old.board ≡ self.old.id }
         ensures published { IsPrefix reader.old.known self.old.entries }
