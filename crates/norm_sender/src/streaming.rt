@@ -66,8 +66,8 @@ impl Parts {
         }
     }
 
-    /// Lets receivers ask for all segments of the last object, a stream that is open or was just ended, that are closed in the window. `index` is the
-    /// stream's. Call it after each change that closed segments. Takes no memory.
+    /// Lets receivers ask for all closed segments of the window's last object. That is a stream with this index, which is open or was just ended.
+    /// Call it after each change that may close a segment. Takes no memory.
     fn grow(&mut self, index: u32)
         requires { IsGrowing (kept_of self.old) index }
         ensures rest { self.new ≡ record self.old { union = self.new.union } }
