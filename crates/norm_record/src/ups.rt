@@ -1,4 +1,4 @@
-//! Hand-ups. One that equals the latest with its instance, part, index and offset is not kept again.
+//! The hand-ups that a journal records. One that equals the latest with its instance, part, index and offset is not kept again.
 
 ghost use Rattle.std.specs.Prelude.{◌≡◌, ◌<◌, ◌++◌, ◌∷◌, [], ℕ, length, slice_get, Some, OnOk, OnErr, IfOk, IfSome, IfNone};
 ghost use Rattle.std.specs.Bool.{Decides};

@@ -32,8 +32,8 @@ use std::marker::Model;
 /// [`take_up`](World::take_up) until it returns `None`. The command of a file may come in pieces: [`begin_file`](World::begin_file), then
 /// [`file_piece`](World::file_piece) until all octets are there, then [`end_file`](World::end_file), or at any time
 /// [`leave_file`](World::leave_file). From the first of them to the last, no other call that changes the sender may come.
-// The receivers lie in the order of their ids, one for each node of the profile. `place` goes by that; with a gap a datagram would go to another
-// node.
+// The receivers lie in the order of their ids, one for each receiver of the profile. The function `place` computes an index from an id; with a gap,
+// a datagram would go to another node.
 #[derive(Debug, Drop)]
 pub struct World {
     profile: Profile,

@@ -1,4 +1,5 @@
-//! Entries of the board, and the two 64-bit words that keep each of them.
+//! Entries of the board on which the outcomes of watermarks are published, and the two 64-bit words that keep each of them. [`outcome_of`] reads
+//! what [`word_of`] wrote, so change both together.
 ghost use Rattle.std.specs.Prelude.{◌≡◌};
 ghost use Rattle.producer_gate.specs.Entries.{code_of, outcome_in};
 

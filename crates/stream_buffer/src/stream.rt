@@ -341,7 +341,8 @@ impl StreamBuf {
     {
         let row = self.rows.row(number);
         let len = PLACE + usize::from(u16::from_be_bytes([row[0], row[1]]));
-        // The lesser of the two is always `len`: `seal` wrote it, and it is at most what the symbol buffer has after its header.
+        // The lesser of the two is always `len`: `seal` wrote the segment's length into the header, and a segment has at most the octets that the
+        // symbol buffer has after its header.
         out.push(row.split_at(len.min(row.len())).0);
     }
 

@@ -36,7 +36,7 @@ use stream_buffer::HeldStream;
 use tx_object::{Held, Ring};
 
 /// An entry of the window, with one set of calls for an object and a stream.
-// What the window asks of an object and of a stream is said here once, of one entry at a time.
+// An enum, because the window keeps both kinds in one list in the transport order: what goes for room is always a prefix of that list.
 #[derive(Debug, Drop)]
 pub enum HeldEntry {
     /// A data object or a file, which lies in the window's ring.
