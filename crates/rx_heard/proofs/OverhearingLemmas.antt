@@ -10,7 +10,8 @@ use Rattle.norm_ext.specs.Requests.{Request, RequestItem}
 use Rattle.norm_ext.specs.declared.head.Item.{Item}
 use Rattle.norm_ext.specs.declared.kinds.Form.{Form}
 use Rattle.norm_ext.specs.declared.kinds.Form.TheVariants as form
-use Rattle.rx_heard.specs.Overhearing.{widened, with_spans, count_at, items_spans, pairs_spans}
+use Rattle.norm_receive_rules.specs.Heard.{Heard, asked_infos}
+use Rattle.rx_heard.specs.Overhearing.{widened, with_spans, with_named, naming, count_at, items_spans, pairs_spans}
 use Rattle.rx_heard.specs.declared.overhearing.Width.{Width}
 use Rattle.rx_heard.specs.declared.overhearing.Width.TheVariants as width
 
@@ -111,6 +112,17 @@ all_widths old a b new r first second third =
 
     objects : List Span
     objects = where_flag r.flags object_flag (map object_span (named_spans r))
+
+-- a request that was read into a buffer, and from there
+pub from_buffer : (old : Heard) (r : Named) (spans symbols infos : List Span) → spans ≡ with_spans width.Symbols [] (named_spans r)
+    → symbols ≡ old.symbols ++ asked_spans (naming r.flags spans) → infos ≡ old.infos ++ asked_infos (naming r.flags spans)
+    → record old { symbols = symbols; infos = infos } ≡ with_named old r
+from_buffer old r spans symbols infos is first second =
+    ap (λ (s : List Span). record old { symbols = s; infos = infos }) (first ∙ ap (λ (t : List Span). old.symbols ++ asked_spans (naming r.flags t)) same)
+    ∙ ap (λ (s : List Span). record old { symbols = old.symbols ++ asked_spans r; infos = s }) (second ∙ ap (λ (t : List Span). old.infos ++ asked_infos (naming r.flags t)) same)
+  where
+    same : spans ≡ named_spans r
+    same = is ∙ map-id (named_spans r)
 
 -- the first of some requests, and those behind it
 pub request_front : (rs : List Request) (r : Request) (rest : List Request) → Some r ≡ slice_get rs 0 → rest ≡ drop 1 rs → rs ≡ r ∷ rest

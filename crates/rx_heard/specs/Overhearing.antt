@@ -1,8 +1,10 @@
 -- What requests ask for, in the words of the code.
 use Rattle.std.specs.Prelude.{ℕ, List, ◌++◌, map, flat_map}
 use Rattle.norm_base.specs.Settings.{Settings}
-use Rattle.norm_ext.specs.Asking.{Span, Count, item_named, item_span, pairs, block_span, object_span}
+use Rattle.norm_ext.specs.Asking.{Span, Named, Count, item_named, item_span, pairs, block_span, object_span, asked_spans}
 use Rattle.norm_ext.specs.declared.head.Item.{Item}
+use Rattle.norm_ext.specs.declared.kinds.Form.TheVariants as form
+use Rattle.norm_receive_rules.specs.Heard.{Heard, asked_infos}
 use Rattle.fec_plan.specs.Points.{point_of}
 use Rattle.rx_heard.specs.declared.overhearing.Width.{Width}
 use Rattle.rx_heard.specs.declared.overhearing.Width.TheVariants as width
@@ -31,3 +33,11 @@ count_at s = record { of = point_of s.first; lacking = s.first.symbol }
 -- these counts behind others
 abbrev pub with_counts : List Count → List Span → List Count
 with_counts old spans = old ++ map count_at spans
+
+-- items that name these spans, with these flags
+abbrev pub naming : ℕ → List Span → Named
+naming flags spans = record { form = form.Items; flags = flags; spans = spans }
+
+-- the spans that a request asks for, behind others, but not its counts
+abbrev pub with_named : Heard → Named → Heard
+with_named asked r = record asked { symbols = asked.symbols ++ asked_spans r; infos = asked.infos ++ asked_infos r }

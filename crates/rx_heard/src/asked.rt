@@ -8,12 +8,15 @@ use std::alloc::Global;
 use std::marker::Model;
 
 /// What requests ask for, in their order: source symbols and infos as spans, and counts for blocks.
+///
+/// `named` is a buffer for the spans of a request that asks for them by several flags. The next such request overwrites it.
 #[derive(Debug, Drop)]
 pub struct Asked {
     alloc: Global,
     pub(crate) symbols: Vec<Span>,
     pub(crate) infos: Vec<Span>,
     pub(crate) counts: Vec<Count>,
+    pub(crate) named: Vec<Span>,
 }
 
 impl Model for Asked {
@@ -34,6 +37,7 @@ impl Asked {
             symbols: Vec::new(alloc),
             infos: Vec::new(alloc),
             counts: Vec::new(alloc),
+            named: Vec::new(alloc),
         }
     }
 

@@ -8,7 +8,7 @@ ghost use Rattle.norm_ext.specs.RequestView.{request_of};
 ghost use Rattle.norm_ext.specs.Requests.{items_named};
 ghost use Rattle.norm_receive_rules.specs.Heard.{asked_infos};
 ghost use Rattle.norm_receive_rules.specs.Overhearing.{asked_also, asked_all, heard_whole};
-ghost use Rattle.rx_heard.specs.Overhearing.{widened, with_spans, with_counts, items_spans, pairs_spans};
+ghost use Rattle.rx_heard.specs.Overhearing.{widened, with_spans, with_counts, with_named, naming, items_spans, pairs_spans};
 
 use crate::asked::Asked;
 use crate::heard::{Count, Heard, Span};
@@ -247,7 +247,96 @@ fn hear_lacking(
     }
 }
 
+/// Whether the flags of a request have at most one of SEGMENT, BLOCK, INFO and OBJECT.
+// Both ways of reading give the same, so it needs no clause.
+fn is_single(flags: u8) -> bool {
+    let known = flags & (WANT_SEGMENT | WANT_BLOCK | WANT_INFO | WANT_OBJECT);
+    known.count_ones() <= 1
+}
+
+/// Appends these spans, each one widened.
+fn note_named(spans: &mut Vec<Span>, width: Width, named: &[Span]) -> Result<(), Memory>
+    ensures { IfOk result (λ _. spans.new.items ≡ with_spans width spans.old.items named.now) }
+{
+    let mut rest = named;
+    // Proof: the label names the loop for its invariant.
+    'noting: while let Some((span, behind)) = rest.split_first() {
+        spans.push(widened(width, span.first, span.last))?;
+        rest = behind;
+    }
+    Ok(())
+}
+
+/// Appends these spans if a request's flags have this one. `kind` is as at [`hear_where`].
+fn note_where(
+    spans: &mut Vec<Span>,
+    flags: u8,
+    kind: (u8, Width),
+    named: &[Span],
+) -> Result<(), Memory>
+    requires { 0 < kind.0 }
+    ensures { IfOk result (λ _. spans.new.items ≡ spans.old.items ++ (where_flag flags kind.0 (map (widened kind.1) named.now))) }
+{
+    if !has_flag(flags, kind.0) {
+        return Ok(());
+    }
+    note_named(spans, kind.1, named)
+}
+
+/// Appends the spans of source symbols that a request of these flags asks for, if it names `named`.
+fn note_symbols(spans: &mut Vec<Span>, flags: u8, named: &[Span]) -> Result<(), Memory>
+    ensures { IfOk result (λ _. spans.new.items ≡ spans.old.items ++ (asked_spans (naming flags named.now))) }
+{
+    note_where(spans, flags, (WANT_SEGMENT, Width::Symbols), named)?;
+    note_where(spans, flags, (WANT_BLOCK, Width::Blocks), named)?;
+    note_where(spans, flags, (WANT_OBJECT, Width::Objects), named)?;
+    Ok(())
+}
+
+/// Appends the infos that a request of these flags asks for, as spans of whole objects, if it names `named`.
+fn note_infos(spans: &mut Vec<Span>, flags: u8, named: &[Span]) -> Result<(), Memory>
+    ensures { IfOk result (λ _. spans.new.items ≡ spans.old.items ++ (asked_infos (naming flags named.now))) }
+{
+    note_where(spans, flags, (WANT_INFO, Width::Objects), named)
+}
+
 impl Asked {
+    /// Reads the spans of a request of any flags. Its items are read once, into the buffer, and copied from there for each flag. If memory runs
+    /// out, some of them may have been read.
+    fn read_once(
+        &mut self,
+        profile: &Profile,
+        known: u32,
+        request: &Request<'_>,
+    ) -> Result<(), Memory>
+        ensures { IfOk result (λ _. self.new ≡ with_named self.old (named profile.now known (request_of request.now))) }
+    {
+        let flags = request.flags;
+        self.named.clear();
+        hear_named(&mut self.named, profile, known, Width::Symbols, request)?;
+        note_symbols(&mut self.symbols, flags, self.named.as_slice())?;
+        note_infos(&mut self.infos, flags, self.named.as_slice())?;
+        Ok(())
+    }
+
+    /// Reads the spans of a request. If memory runs out, some of them may have been read.
+    // To read an item is to find which index its object id stands for, so another flag should not cost another reading. With a single flag the
+    // buffer would cost a copy and save nothing.
+    fn read_spans(
+        &mut self,
+        profile: &Profile,
+        known: u32,
+        request: &Request<'_>,
+    ) -> Result<(), Memory>
+        ensures { IfOk result (λ _. self.new ≡ with_named self.old (named profile.now known (request_of request.now))) }
+    {
+        if !is_single(request.flags) {
+            return self.read_once(profile, known, request);
+        }
+        hear_symbols(&mut self.symbols, profile, known, request)?;
+        hear_infos(&mut self.infos, profile, known, request)
+    }
+
     /// Reads a request. If memory runs out, some of it may have been read.
     fn read_request(
         &mut self,
@@ -257,8 +346,7 @@ impl Asked {
     ) -> Result<(), Memory>
         ensures { IfOk result (λ _. self.new ≡ asked_also self.old (named profile.now known (request_of request.now))) }
     {
-        hear_symbols(&mut self.symbols, profile, known, request)?;
-        hear_infos(&mut self.infos, profile, known, request)?;
+        self.read_spans(profile, known, request)?;
         hear_lacking(&mut self.counts, profile, known, request)
     }
 
