@@ -17,3 +17,4 @@ pub mod Pausing
 pub mod Telling
 pub mod Handing
 pub mod Laws
+pub mod Lending

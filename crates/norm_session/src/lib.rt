@@ -10,6 +10,7 @@ mod ending;
 mod handing;
 pub mod laws;
 mod left;
+mod lent;
 mod noting;
 mod parts;
 mod pausing;
@@ -25,6 +26,7 @@ mod telling;
 mod turning;
 
 pub use crate::arrivals::{Arrivals, Arrived};
+pub use crate::lent::Lent;
 pub use crate::parts::Parts;
 pub use crate::pausing::{Paused, run_until};
 pub use crate::run::Run;

@@ -200,6 +200,7 @@ fn run_pulled<R: Wait, K: Sink, F: Fabric, D: Files, C: Clock>(
         (counted (K.fault_count output.new) (F.fault_count fabric.new) (D.fault_count files.new)) }
 {
     let mut arrivals = Pulled { rt, ring, pull };
+    let mut lent = crate::lent::Lent::of(output, fabric, files, clock);
     run_turns(
         rt,
         alloc,
@@ -208,10 +209,7 @@ fn run_pulled<R: Wait, K: Sink, F: Fabric, D: Files, C: Clock>(
         until,
         &mut arrivals,
         board,
-        output,
-        fabric,
-        files,
-        clock,
+        &mut lent,
     )
 }
 

@@ -6,12 +6,14 @@ ghost use Rattle.norm_base.specs.Network.{Network};
 ghost use Rattle.norm_turns.specs.Causes.{HasCause, WriteCause, counted};
 ghost use Rattle.norm_session.specs.Context.{Context};
 ghost use Rattle.norm_session.specs.Finishing.{HasEnded, TurnedScript};
+ghost use Rattle.norm_session.specs.Lending.{failures, names, spanned};
 ghost use Rattle.norm_script.specs.Scripts.{CanRun};
 ghost use Rattle.norm_session.specs.Session.{RunsSession, RunsSender, RunsKept, StopsSession, StopsSender, StopsScript};
 ghost use Rattle.norm_session.specs.Stopping.{Stopped};
 ghost use Rattle.norm_session.specs.Turning.{AtLast, span};
 
 use crate::arrivals::Arrivals;
+use crate::lent::Lent;
 use crate::producing::run_produced;
 use crate::run::Run;
 use crate::turning::turns_of;
@@ -142,36 +144,22 @@ pub(crate) fn run_turns<R: Wait, A: Arrivals, K: Sink, F: Fabric, D: Files, C: C
     until: u32,
     arrivals: &mut A,
     board: &mut Board,
-    output: &mut K,
-    fabric: &mut F,
-    files: &mut D,
-    clock: &mut C,
+    lent: &mut Lent<'_, K, F, D, C>,
 ) -> Result<Run, SessionFault>
     requires script { CanRun script.now }
     requires turn { 1 ≤ until }
-    ensures goes { IfOk result (λ run. TurnedScript alone script.now (D.contents files.old) until run
-        (span (F.told fabric.old) (F.told fabric.new) (K.pieces output.old) (K.pieces output.new) (C.moments clock.old) (C.moments clock.new) board.old board.new)) }
-    ensures stops { IfErr result (λ fault. StopsScript alone fault script.now (D.contents files.old)
-        (span (F.told fabric.old) (F.told fabric.new) (K.pieces output.old) (K.pieces output.new) (C.moments clock.old) (C.moments clock.new) board.old board.new)) }
-    ensures files { D.contents files.new ≡ D.contents files.old }
-    ensures cause { HasCause result (counted (K.fault_count output.old) (F.fault_count fabric.old) (D.fault_count files.old))
-        (counted (K.fault_count output.new) (F.fault_count fabric.new) (D.fault_count files.new)) }
+    ensures goes { IfOk result (λ run. TurnedScript alone script.now (D.contents lent.old.files.now) until run
+        (spanned K.Sink F.Fabric C.Clock lent.old lent.new board.old board.new)) }
+    ensures stops { IfErr result (λ fault. StopsScript alone fault script.now (D.contents lent.old.files.now)
+        (spanned K.Sink F.Fabric C.Clock lent.old lent.new board.old board.new)) }
+    ensures files { D.contents lent.new.files.now ≡ D.contents lent.old.files.now }
+    ensures lent { names lent.new ≡ names lent.old }
+    ensures cause { HasCause result (failures K.Sink F.Fabric D.Files lent.old) (failures K.Sink F.Fabric D.Files lent.new) }
 {
     let mut datagram = Datagram::new(alloc)?;
-    let mut run = Run::start(alloc, script, alone, fabric)?;
+    let mut run = Run::start(alloc, script, alone, lent.fabric)?;
     // Proof: no `?` here, since an exit that drops a run is dear.
-    let turned = run.turns(
-        rt,
-        script,
-        until,
-        arrivals,
-        board,
-        output,
-        fabric,
-        files,
-        clock,
-        &mut datagram,
-    );
+    let turned = run.turns(rt, script, until, arrivals, board, lent, &mut datagram);
     turned.and(Ok(run))
 }
 

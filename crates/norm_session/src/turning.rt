@@ -9,12 +9,14 @@ ghost use Rattle.norm_send_rules.specs.Ticking.{is_idle};
 ghost use Rattle.norm_send_rules.specs.Watermarks.{open_watermarks};
 ghost use Rattle.norm_session.specs.Context.{Context, judged_of, with_posted};
 ghost use Rattle.norm_session.specs.Left.{lines_at};
+ghost use Rattle.norm_session.specs.Lending.{failures, names, spanned};
 ghost use Rattle.norm_session.specs.SoFar.{HasAll, At};
 ghost use Rattle.norm_session.specs.Stopping.{Stopped};
-ghost use Rattle.norm_session.specs.Turning.{BeginsTurn, StopsBeginning, OpensTurn, StopsOpening, TakesTurn, StopsTurn, TakesTurns, StopsTurns, span};
+ghost use Rattle.norm_session.specs.Turning.{BeginsTurn, StopsBeginning, OpensTurn, StopsOpening, TakesTurn, StopsTurn, TakesTurns, StopsTurns};
 ghost use Rattle.norm_world.specs.WorldKept.{StandsFor};
 
 use crate::arrivals::Arrivals;
+use crate::lent::Lent;
 use crate::run::{Run, sender_node};
 use norm_base::{Clock, Datagram, Fabric, Files, Profile, Sink};
 use norm_script::Script;
@@ -236,22 +238,27 @@ impl Run {
         script: &Script,
         arrivals: &mut A,
         board: &mut Board,
-        output: &mut K,
-        fabric: &mut F,
-        files: &mut D,
-        clock: &mut C,
+        lent: &mut Lent<'_, K, F, D, C>,
         datagram: &mut Datagram,
     ) -> Result<(), SessionFault>
-        ensures goes { OnOk result (TakesTurn script.now (D.contents files.old) self.old self.new
-            (span (F.told fabric.old) (F.told fabric.new) (K.pieces output.old) (K.pieces output.new) (C.moments clock.old) (C.moments clock.new) board.old board.new)) }
-        ensures stops { IfErr result (λ fault. StopsTurn script.now (D.contents files.old) self.old fault
-            (span (F.told fabric.old) (F.told fabric.new) (K.pieces output.old) (K.pieces output.new) (C.moments clock.old) (C.moments clock.new) board.old board.new)) }
-        ensures same { D.contents files.new ≡ D.contents files.old }
-        ensures cause { HasCause result (counted (K.fault_count output.old) (F.fault_count fabric.old) (D.fault_count files.old))
-            (counted (K.fault_count output.new) (F.fault_count fabric.new) (D.fault_count files.new)) }
+        ensures goes { OnOk result (TakesTurn script.now (D.contents lent.old.files.now) self.old self.new
+            (spanned K.Sink F.Fabric C.Clock lent.old lent.new board.old board.new)) }
+        ensures stops { IfErr result (λ fault. StopsTurn script.now (D.contents lent.old.files.now) self.old fault
+            (spanned K.Sink F.Fabric C.Clock lent.old lent.new board.old board.new)) }
+        ensures same { D.contents lent.new.files.now ≡ D.contents lent.old.files.now }
+        ensures lent { names lent.new ≡ names lent.old }
+        ensures cause { HasCause result (failures K.Sink F.Fabric D.Files lent.old) (failures K.Sink F.Fabric D.Files lent.new) }
     {
-        self.open_turn(rt, script, arrivals, board, output, files, clock)?;
-        self.exchange(fabric, board, output, datagram)?;
+        self.open_turn(
+            rt,
+            script,
+            arrivals,
+            board,
+            lent.output,
+            lent.files,
+            lent.clock,
+        )?;
+        self.exchange(lent.fabric, board, lent.output, datagram)?;
         Ok(())
     }
 
@@ -268,28 +275,23 @@ impl Run {
         until: u32,
         arrivals: &mut A,
         board: &mut Board,
-        output: &mut K,
-        fabric: &mut F,
-        files: &mut D,
-        clock: &mut C,
+        lent: &mut Lent<'_, K, F, D, C>,
         datagram: &mut Datagram,
     ) -> Result<(), SessionFault>
         requires { 1 ≤ until }
-        ensures goes { OnOk result (TakesTurns script.now (D.contents files.old) until self.old self.new
-            (span (F.told fabric.old) (F.told fabric.new) (K.pieces output.old) (K.pieces output.new) (C.moments clock.old) (C.moments clock.new) board.old board.new)) }
-        ensures stops { IfErr result (λ fault. StopsTurns script.now (D.contents files.old) self.old fault
-            (span (F.told fabric.old) (F.told fabric.new) (K.pieces output.old) (K.pieces output.new) (C.moments clock.old) (C.moments clock.new) board.old board.new)) }
-        ensures same { D.contents files.new ≡ D.contents files.old }
-        ensures cause { HasCause result (counted (K.fault_count output.old) (F.fault_count fabric.old) (D.fault_count files.old))
-            (counted (K.fault_count output.new) (F.fault_count fabric.new) (D.fault_count files.new)) }
+        ensures goes { OnOk result (TakesTurns script.now (D.contents lent.old.files.now) until self.old self.new
+            (spanned K.Sink F.Fabric C.Clock lent.old lent.new board.old board.new)) }
+        ensures stops { IfErr result (λ fault. StopsTurns script.now (D.contents lent.old.files.now) self.old fault
+            (spanned K.Sink F.Fabric C.Clock lent.old lent.new board.old board.new)) }
+        ensures same { D.contents lent.new.files.now ≡ D.contents lent.old.files.now }
+        ensures lent { names lent.new ≡ names lent.old }
+        ensures cause { HasCause result (failures K.Sink F.Fabric D.Files lent.old) (failures K.Sink F.Fabric D.Files lent.new) }
     {
         for _ in 0..last_turn(&script.profile, until) {
             if self.is_done(script) {
                 return Ok(());
             }
-            self.turn(
-                rt, script, arrivals, board, output, fabric, files, clock, datagram,
-            )?;
+            self.turn(rt, script, arrivals, board, lent, datagram)?;
         }
         Ok(())
     }

@@ -2,16 +2,17 @@ use Rattle.std.proofs.Common.{◌≡◌, ◌≤◌, refl, ap, ◌∙◌, subst, 
 use Rattle.std.specs.Prelude.{min}
 use Rattle.std.proofs.lemmas.Result.{err_from_is_err_and}
 use Rattle.norm_script.specs.Commands.{Commands}
-use Rattle.norm_session.specs.Turning.{span, TakesTurn, StopsTurn}
+use Rattle.norm_session.specs.Lending.{spanned}
+use Rattle.norm_session.specs.Turning.{TakesTurn, StopsTurn}
 use Rattle.norm_turns.proofs.FaultLemmas.{at_fault}
 use Rattle.norm_session.proofs.TurnsLemmas.{has_not_turned, has_turned_on, turns_stop, turns_done, turns_spent}
 use Rattle.norm_session.proofs.run.Run.turns.Goals as goal
 
 pub loop-init : goal.loop-init
 loop-init g c = record {
-  turned = has_not_turned c.args.script.now (g.D.Files.contents c.args.files.now) c.args.self.now
-      (span (g.F.Fabric.told c.args.fabric.now) (g.F.Fabric.told c.args.fabric.now) (g.K.Sink.pieces c.args.output.now) (g.K.Sink.pieces c.args.output.now)
-      (g.C.Clock.moments c.args.clock.now) (g.C.Clock.moments c.args.clock.now) c.args.board.now c.args.board.now) refl refl refl refl;
+  turned = has_not_turned c.args.script.now (g.D.Files.contents c.args.lent.now.files.now) c.args.self.now
+      (spanned g.K.Sink g.F.Fabric g.C.Clock c.args.lent.now c.args.lent.now c.args.board.now c.args.board.now) refl refl refl refl;
+  same_parts = refl;
   within = search rules;
   same = refl;
   counts = refl;
@@ -19,7 +20,7 @@ loop-init g c = record {
 
 pub returns-then-is_done-clause-goes : goal.returns-then-is_done-clause-goes
 returns-then-is_done-clause-goes g c =
-    turns_done c.args.script.now (g.D.Files.contents c.args.files.now) c.args.until c.args.self.now c.loop.self _ c.loop.counter c.is_done.result
+    turns_done c.args.script.now (g.D.Files.contents c.args.lent.now.files.now) c.args.until c.args.self.now c.loop.self _ c.loop.counter c.is_done.result
     c.loop.invariant.turned
     (subst (λ n. c.loop.counter ≤ n) (c.last_turn-end.ensures.value ∙ ap (λ (s : Commands). min c.args.until s.profile.turns) c.script.view_is) c.loop.invariant.within)
     c.is_done.ensures c.if-is_done.true
@@ -29,19 +30,18 @@ returns-in_err-turn-clause-stops g c =
     let exit = err_from_is_err_and c.from_residual.result c.from_residual.ensures.1 in
     let e = c.in_err-turn.field-0.0 in
     at_fault _ c.from_residual.result exit.0 e exit.1 exit.2
-    (turns_stop c.args.script.now (g.D.Files.contents c.args.files.now) c.args.self.now c.loop.self _ _ c.loop.counter c.is_done.result e
+    (turns_stop c.args.script.now (g.D.Files.contents c.args.lent.now.files.now) c.args.self.now c.loop.self _ _ c.loop.counter c.is_done.result e
     c.loop.invariant.turned c.is_done.ensures c.if-is_done.false refl refl refl refl
     (subst (λ f. StopsTurn c.args.script.now f c.loop.self e
-    (span (g.F.Fabric.told c.loop.fabric) (g.F.Fabric.told c.turn.new.fabric) (g.K.Sink.pieces c.loop.output) (g.K.Sink.pieces c.turn.new.output)
-    (g.C.Clock.moments c.loop.clock) (g.C.Clock.moments c.turn.new.clock) c.loop.board c.turn.new.board)) c.loop.invariant.same c.in_err-turn.ensures.stops))
+    (spanned g.K.Sink g.F.Fabric g.C.Clock c.loop.lent c.turn.new.lent c.loop.board c.turn.new.board)) c.loop.invariant.same c.in_err-turn.ensures.stops))
 
 pub loop-preserved : goal.loop-preserved
 loop-preserved g c = record {
-  turned = has_turned_on c.args.script.now (g.D.Files.contents c.args.files.now) c.args.self.now c.loop.self c.turn.new.self _ _ c.loop.counter
+  turned = has_turned_on c.args.script.now (g.D.Files.contents c.args.lent.now.files.now) c.args.self.now c.loop.self c.turn.new.self _ _ c.loop.counter
       c.is_done.result c.loop.invariant.turned c.is_done.ensures c.if-is_done.false refl refl refl refl
       (subst (λ f. TakesTurn c.args.script.now f c.loop.self c.turn.new.self
-      (span (g.F.Fabric.told c.loop.fabric) (g.F.Fabric.told c.turn.new.fabric) (g.K.Sink.pieces c.loop.output) (g.K.Sink.pieces c.turn.new.output)
-      (g.C.Clock.moments c.loop.clock) (g.C.Clock.moments c.turn.new.clock) c.loop.board c.turn.new.board)) c.loop.invariant.same c.in_ok-turn.ensures.goes);
+      (spanned g.K.Sink g.F.Fabric g.C.Clock c.loop.lent c.turn.new.lent c.loop.board c.turn.new.board)) c.loop.invariant.same c.in_ok-turn.ensures.goes);
+  same_parts = c.in_ok-turn.ensures.lent ∙ c.loop.invariant.same_parts;
   within = search rules;
   same = c.in_ok-turn.ensures.same ∙ c.loop.invariant.same;
   counts = c.in_ok-turn.ensures.cause ∙ c.loop.invariant.counts;
@@ -52,5 +52,5 @@ returns-clause-goes g c =
     let past : c.last_turn-end.result ≤ c.loop.counter = search rules in
     let all : c.loop.counter ≡ c.last_turn-end.result = omega (arith, past, c.loop.invariant.within) in
     let last = c.last_turn-end.ensures.value ∙ ap (λ (s : Commands). min c.args.until s.profile.turns) c.script.view_is in
-    turns_spent c.args.script.now (g.D.Files.contents c.args.files.now) c.args.until c.args.self.now c.loop.self _ c.loop.counter c.loop.invariant.turned
+    turns_spent c.args.script.now (g.D.Files.contents c.args.lent.now.files.now) c.args.until c.args.self.now c.loop.self _ c.loop.counter c.loop.invariant.turned
     (all ∙ last) (subst (λ n. 1 ≤ n) last c.last_turn-end.ensures.least)

@@ -1,16 +1,14 @@
 use Rattle.std.proofs.Common.{◌≡◌, ◌≤◌}
-use Rattle.norm_turns.specs.Causes.{counted}
-use Rattle.norm_session.specs.Turning.{span}
+use Rattle.norm_session.specs.Lending.{failures, names, spanned}
 use Rattle.norm_session.proofs.TurnsLemmas.{HasTurned}
 use Rattle.norm_session.proofs.run.Run.turns.Given as goal
 
 abbrev pub invariant-loop : goal.invariant-loop
 invariant-loop g l = record {
-  turned : HasTurned l.script (g.D.Files.contents l.initial.files) l.initial.self l.self
-      (span (g.F.Fabric.told l.initial.fabric) (g.F.Fabric.told l.fabric) (g.K.Sink.pieces l.initial.output) (g.K.Sink.pieces l.output)
-      (g.C.Clock.moments l.initial.clock) (g.C.Clock.moments l.clock) l.initial.board l.board) l.counter;
+  turned : HasTurned l.script (g.D.Files.contents l.initial.lent.files.now) l.initial.self l.self
+      (spanned g.K.Sink g.F.Fabric g.C.Clock l.initial.lent l.lent l.initial.board l.board) l.counter;
+  same_parts : names l.lent ≡ names l.initial.lent;
   within : l.counter ≤ l.end;
-  same : g.D.Files.contents l.files ≡ g.D.Files.contents l.initial.files;
-  counts : counted (g.K.Sink.fault_count l.output) (g.F.Fabric.fault_count l.fabric) (g.D.Files.fault_count l.files)
-      ≡ counted (g.K.Sink.fault_count l.initial.output) (g.F.Fabric.fault_count l.initial.fabric) (g.D.Files.fault_count l.initial.files);
+  same : g.D.Files.contents l.lent.files.now ≡ g.D.Files.contents l.initial.lent.files.now;
+  counts : failures g.K.Sink g.F.Fabric g.D.Files l.lent ≡ failures g.K.Sink g.F.Fabric g.D.Files l.initial.lent;
 }
