@@ -4,6 +4,7 @@
 
 mod draws;
 mod fault;
+pub mod laws;
 mod limits;
 mod moments;
 mod noticing;
