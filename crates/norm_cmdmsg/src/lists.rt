@@ -52,7 +52,6 @@ pub fn names(list: &[u8], node: NodeId) -> bool
     false
 }
 
-/// Splits off the first node id. Returns `None` if the list is empty.
 fn cut_node(list: &[u8]) -> Option<(u32, &[u8])>
     requires { length list.now % node_size ≡ 0 }
     ensures { MatchOption result
@@ -109,7 +108,6 @@ pub fn objects_of(list: &[u8]) -> Objects<'_>
     Objects { list }
 }
 
-/// Splits off the first object transport id. Returns `None` if the list is empty.
 fn cut_object(list: &[u8]) -> Option<(u16, &[u8])>
     requires { length list.now % object_size ≡ 0 }
     ensures { MatchOption result

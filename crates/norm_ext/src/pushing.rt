@@ -32,7 +32,6 @@ pub fn push_32(n: u32, out: &mut Datagram)
     out.push(&octets);
 }
 
-/// Appends a node id, in four octets.
 pub fn push_node(node: NodeId, out: &mut Datagram)
     requires { length out.old + 4 ≤ datagram_room }
     ensures { out.new ≡ out.old ++ big_bytes 4 node }
@@ -40,7 +39,6 @@ pub fn push_node(node: NodeId, out: &mut Datagram)
     push_32(node.number(), out);
 }
 
-/// Appends an instance id, in two octets.
 pub fn push_instance(instance: InstanceId, out: &mut Datagram)
     requires { length out.old + 2 ≤ datagram_room }
     ensures { out.new ≡ out.old ++ big_bytes 2 instance }

@@ -32,7 +32,7 @@ use std::thread::Threads;
 const USAGE: &[u8] =
     b"usage: normd session | show | generate N | send PROFILE | recv PROFILE NODE | hub PROFILE\n";
 
-/// Runs `session`, `show` or `generate` and returns the ending; what each ending says is in `EndsTask`. The files keep their contents.
+/// Runs `session`, `show` or `generate`, and writes what it has to say to the output. Only `session` calls the network, the files and the clock.
 fn end_task<R: Threads + Wait + Sync, S: Source, K: Sink, F: Fabric, D: Files, C: Clock>(
     rt: &R,
     alloc: Global,

@@ -64,7 +64,8 @@ impl Parts {
         self.numbers = self.numbers.backing_off(&self.profile, now, draw);
     }
 
-    /// Does what a message says of the object with this index, and starts a back-off if something is needed then.
+    /// Does what a message says of the object with this index, and then what [`may_need`](Parts::may_need) does. If memory runs out, no back-off
+    /// starts.
     fn take_in_at(
         &mut self,
         index: u32,

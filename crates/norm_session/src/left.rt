@@ -35,7 +35,7 @@ fn is_of(lines: &[Line], producer: u32, place: usize) -> bool
 }
 
 impl Left {
-    /// All lines of a script, as none was pulled yet. `Memory` if memory runs out.
+    /// All lines of a script, whatever their producer. `Memory` if memory runs out; [`take`](Left::take) needs none.
     pub(crate) fn all(alloc: Global, lines: &[Line]) -> Result<Left, Memory>
         ensures { IfOk result (λ left. lines_at lines.now left ≡ lines.now) }
     {

@@ -16,7 +16,6 @@ pub struct Lent<'a, K, F, D, C> {
 }
 
 impl<'a, K, F, D, C> Lent<'a, K, F, D, C> {
-    /// Lends the four objects, all for the same lifetime.
     // Proof: a struct that is made where the lifetimes of more than two of its references differ cannot be lent to a call.
     pub fn of(
         output: &'a mut K,

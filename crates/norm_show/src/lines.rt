@@ -45,7 +45,8 @@ fn data_text(alloc: Global, msg: &DataMsg<'_>) -> Result<Vec<u8>, AllocError>
     line.end()
 }
 
-/// Returns the beginning of a command's line, with room for a list of this many octets.
+/// Returns the beginning of a command's line. `list` is how many octets its list has in the message: a guess of the room for it. If its numbers are
+/// long, the line takes more memory as it grows.
 fn begin_command(
     alloc: Global,
     name: &[u8],

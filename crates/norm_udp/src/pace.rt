@@ -38,9 +38,9 @@ pub(crate) enum Pause {
 pub(crate) struct Pace {
     /// Microseconds between a sender's datagrams. 0 at any other node, which notes no moment of an offer.
     pub gap: u64,
-    /// When a sender offered last since then.
+    /// When a sender offered last. `None` if it offered nothing since the last answer that nothing is there.
     pub offered: Option<u64>,
-    /// Whether anything was offered or taken since then.
+    /// Whether anything was offered or taken since that answer.
     pub busy: bool,
     /// When it last answered that nothing is there after it had been busy.
     pub last: Option<u64>,

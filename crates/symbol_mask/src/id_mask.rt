@@ -40,7 +40,6 @@ impl IdMask {
         self.words[usize::from(id) / 64] >> (id % 64) & 1 == 1
     }
 
-    /// Adds the id, if it is not there.
     pub fn insert(&mut self, id: u8)
         ensures { self.new ≡ with_member nat_lt id self.old }
     {
