@@ -62,6 +62,7 @@ fn alone(event: Event, words: &mut Words<'_>) -> Option<Event> {
 }
 
 /// Reads the event that begins with this word. Returns `None` if the words spell no event.
+// The README lists these words, and tests and `checks/nodes.py` write them. A word that changes here has to change there too.
 fn event_of(word: &str, words: &mut Words<'_>) -> Option<Event> {
     match word {
         "set" => alone(set(words)?, words),
