@@ -68,7 +68,7 @@ pub struct StreamPart<'a> {
     /// How many octets the segment has, as the payload says.
     pub len: u16,
     pub msg_start: u16,
-    /// The offset of the segment in the stream.
+    /// How many octets of the stream come before the segment, as the payload says.
     pub offset: u32,
     /// The `len` octets after the eight of the three fields before.
     pub octets: &'a [u8],

@@ -266,7 +266,7 @@ impl<R: Net + Wait + Clock + Drop> UdpFabric<R> {
         self.open.send(&self.rt, &self.senders, from, bytes)
     }
 
-    /// Takes the next datagram, at once or after a pause. Fails if a thread failed to send one.
+    /// Takes the next datagram, at once or after a pause. Fails if a receive failed, or if a thread failed to send a datagram.
     fn find(&mut self, into: &mut Datagram) -> Result<Option<Located>, SocketCause>
         requires { into.old ≡ [] }
         ensures none { IfOk result (λ node. IfNone node (into.new ≡ [])) }

@@ -124,7 +124,7 @@ impl ObjectBuf {
         self.plan
     }
 
-    /// Returns the object's transmission information (RFC 5510 section 5.2.4).
+    /// Returns what EXT_FTI says of the object (RFC 5510 section 5.2.4). It never changes.
     pub fn fti(&self) -> Fti
         ensures { result ≡ fti_of self.now }
     {
