@@ -4,6 +4,7 @@ ghost use Rattle.std.specs.Prelude.{◌≡◌, ◌≤◌, ◌-◌, map, length, 
 ghost use Rattle.norm_base.specs.Keys.{row_of, keys, key_named, place_of_word};
 
 /// A key of a profile. The field of `Profile` with the same name says what it is for.
+// The order matters: a variant's number is its index in `KEYS`. A new key needs an item there, a row in `row` and a field of `Profile`.
 #[derive(Clone, Copy, Debug, PartialEq, Eq)]
 pub enum Key {
     Instance,
