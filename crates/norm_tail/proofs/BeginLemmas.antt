@@ -1,71 +1,31 @@
 -- Whether a tail may begin.
-use Rattle.std.proofs.Common.{◌≡◌, ℕ, ◌+◌, ◌*◌, ◌<◌, ◌≤◌, ◌⊎◌, inl, inr, [], ◌∷◌, Bool, true, false, Option, None, Some, refl, sym, ap, ◌∙◌, arith}
-use Rattle.std.specs.Prelude.{◌==◌, ◌||◌, not, nat_lt, is_none, is_some, option_map}
-use Rattle.std.proofs.lemmas.Bool.{cases_lt}
-use Rattle.std.proofs.lemmas.Bool.Decides.{Decides-ltb}
+use Rattle.std.proofs.Common.{◌≡◌, ℕ, ◌+◌, ◌*◌, ◌≤◌, Bool, true, false, Option, None, Some, refl, sym, ap, arith}
+use Rattle.std.specs.Prelude.{not, is_none, is_some, option_map}
 use Rattle.std.proofs.lemmas.Nat.{mul-le}
 use Rattle.mark_book.specs.Answers.{open_watermark}
 use Rattle.mark_book.specs.declared.watermark.OpenWatermark.{OpenWatermark}
 use Rattle.norm_base.specs.Settings.{Settings, InRange}
-use Rattle.norm_order.specs.First.{first_where}
-use Rattle.norm_send_rules.specs.Repairable.{repairable, streams}
+use Rattle.norm_send_rules.specs.Repairable.{repairable}
 use Rattle.norm_send_rules.specs.SenderState.{SenderState, Watermark}
-use Rattle.norm_send_rules.specs.Watermarks.{oldest}
-use Rattle.norm_safety.specs.Tail.{NoRequest, Mode, Streams, Step, Pace, Flushes, drops, tail_fault, most_counted, sent_twice}
+use Rattle.norm_safety.specs.Recovery.{IsPaced}
+use Rattle.norm_safety.specs.Tail.{tail_fault}
+use Rattle.norm_safety.proofs.TailLemmas.{tail_laws}
 
--- more symbols than a round trip has microseconds are slow
-pub many_are_slow : (grtt symbols gap step : ℕ) → 1 ≤ gap → grtt < symbols → nat_lt grtt (2 * (symbols + 1) * (gap + step)) ≡ true
-many_are_slow grtt symbols gap step some lt =
-    let one = mul-le (2 * (symbols + 1)) 1 (2 * (symbols + 1)) (gap + step) (omega arith) (omega (arith, some)) in
-    (Decides-ltb grtt (2 * (symbols + 1) * (gap + step))).1 (omega (arith, lt, one))
+-- a tail that is not refused is paced
+pub may_begin : (p : Settings) (s : SenderState) → tail_fault p s ≡ None → IsPaced p s
+may_begin p s none = ((tail_laws.accepted p s).0 none).paced
 
--- no fault applies
-pub record MayBegin (p : Settings) (s : SenderState) : Type 0 where
-  pub is_open : is_none (oldest s) ≡ false
-  pub step : 1 ≤ p.step
-  pub symbols : nat_lt p.grtt (sent_twice p s) ≡ false
+-- there are not so many symbols
+pub few_symbols : (p : Settings) (s : SenderState) → InRange p → IsPaced p s → repairable p s ≤ 10000000
+few_symbols p s range paced =
+    let gap = range.gap.0 in
+    let most = range.grtt.1 in
+    let twice = paced.twice in
+    let one = mul-le (2 * (repairable p s + 1)) 1 (2 * (repairable p s + 1)) (p.gap + p.step) (omega arith) (omega (arith, gap)) in
+    omega (arith, one, twice, most)
 
 clash : {X : Type 0} (x : X) → Some x ≡ None → ⊥
 clash x e = cc
-
-pub may_begin : (p : Settings) (s : SenderState) → tail_fault p s ≡ None → MayBegin p s
-unfolding first_where
-may_begin p s none = go (is_none (oldest s)) (drops p) (nat_lt 0 (streams s)) (p.step == 0) (nat_lt p.gap p.step) (nat_lt p.grtt (sent_twice p s)) refl refl refl none
-  where
-    some : (n : ℕ) → (n == 0) ≡ false → 1 ≤ n
-    some n e = grind (arith, e)
-
-    go : (a b c d e f : Bool) → is_none (oldest s) ≡ a → (p.step == 0) ≡ d → nat_lt p.grtt (sent_twice p s) ≡ f
-        → first_where (
-        (a, NoRequest)
-        ∷ (b, Mode)
-        ∷ (c, Streams (streams s))
-        ∷ (d || e, Step p.step)
-        ∷ (f, Pace (repairable p s))
-        ∷ (nat_lt most_counted (s.flushes + 2 * p.k), Flushes s.flushes)
-        ∷ []
-        ) ≡ None → MayBegin p s
-    go true b c d e f is zero_is slow none = absurd (clash NoRequest none)
-    go false true c d e f is zero_is slow none = absurd (clash Mode none)
-    go false false true d e f is zero_is slow none = absurd (clash (Streams (streams s)) none)
-    go false false false true e f is zero_is slow none = absurd (clash (Step p.step) none)
-    go false false false false true f is zero_is slow none = absurd (clash (Step p.step) none)
-    go false false false false false true is zero_is slow none = absurd (clash (Pace (repairable p s)) none)
-    go false false false false false false is zero_is slow none = record { is_open = is; step = some p.step zero_is; symbols = slow }
-
--- there are not so many symbols
-pub few_symbols : (p : Settings) (s : SenderState) → InRange p → MayBegin p s → repairable p s ≤ 10000000
-few_symbols p s range may = go (cases_lt p.grtt (repairable p s))
-  where
-    no : nat_lt p.grtt (sent_twice p s) ≡ true → ⊥
-    no e = clash_bool (sym may.symbols ∙ e)
-      where
-        clash_bool : false ≡ true → ⊥
-        clash_bool e = cc
-
-    go : (p.grtt < repairable p s) ⊎ (repairable p s ≤ p.grtt) → repairable p s ≤ 10000000
-    go (inl more) = absurd (no (many_are_slow p.grtt (repairable p s) p.gap p.step range.gap.0 more))
-    go (inr le) = let most = range.grtt.1 in omega (arith, le, most)
 
 -- the oldest watermark has a number
 pub none_open : (o : Option Watermark) → option_map (λ (m : Watermark). m.mark) o ≡ None → is_none o ≡ true

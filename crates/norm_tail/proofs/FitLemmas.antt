@@ -25,7 +25,7 @@ tails_fit p k w last range stands early = record {
   fits = λ none.
       let may = may_begin p w.sender none in
       let time = most_time (repairable p w.sender) p.k p.grtt (few_symbols p w.sender range may) range.k.1 range.grtt.1 in
-      let up = round_up (tail_time p w.sender) p.step may.step in
+      let up = round_up (tail_time p w.sender) p.step may.goes_on in
       let step = range.step.1 in
       omega (arith, early, time, up, step);
 }

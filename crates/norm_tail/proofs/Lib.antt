@@ -2,6 +2,6 @@ mod ExtendLemmas
 mod CourseLemmas
 mod PassLemmas
 mod TurnLemmas
-pub mod BeginLemmas
+mod BeginLemmas
 pub mod FitLemmas
 mod RunLemmas

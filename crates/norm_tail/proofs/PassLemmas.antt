@@ -19,7 +19,7 @@ use Rattle.norm_tail.specs.SoFar.{Context, At, Stopped, HasGiven, copy_unless}
 use Rattle.norm_tail.specs.Steps.{words_of}
 use Rattle.norm_safety.specs.Tail.{Course, comes, tells, copy_comes, others_than, given_by, passes_on, serves}
 use Rattle.norm_tail.specs.declared.step.TailStep.{TailStep}
-use Rattle.norm_tail.proofs.ExtendLemmas.{Extends, stopped_later, copies_extend, all_extend}
+use Rattle.norm_tail.proofs.ExtendLemmas.{stopped_later, copies_extend, all_extend}
 use Rattle.norm_world.proofs.ReceiverEvents.{no_sender}
 use Rattle.norm_world.specs.WorldKept.{WorldKept}
 
@@ -135,10 +135,6 @@ one_copy p draws now octets from c node nodes = go (not (node == from))
         ≡ fold (copy_comes p draws now octets) (elim b as (λ _. Course) [ true ↦ copy_comes p draws now octets c node | false ↦ c ]) (others_in from nodes)
     go true = refl
     go false = refl
-
-unless_extends : (p : Settings) (draws : ℕ → ℕ) (now : ℕ) (octets : List ℕ) (from : ℕ) (nodes : List ℕ) (c : Course)
-    → Extends c (fold (copy_comes p draws now octets) c nodes)
-unless_extends p draws now octets from nodes c = copies_extend p draws now octets nodes c
 
 -- the next member's copy
 next_copy : (x : Context) (p : Settings) (now : ℕ) (octets : List ℕ) (from place node : ℕ) (c : Course) → p ≡ x.p

@@ -1,16 +1,15 @@
 -- A whole tail.
-use Rattle.std.proofs.Common.{◌≡◌, ℕ, ◌+◌, ◌*◌, List, [], true, None, Some, Result, Err, refl, sym, ap, ◌∙◌, subst}
+use Rattle.std.proofs.Common.{◌≡◌, ℕ, ◌+◌, ◌*◌, List, [], ◌∷◌, Bool, true, false, Some, Result, Err, refl, sym, ap, ◌∙◌, subst}
 use Rattle.std.specs.Prelude.{IfErr, is_none, option_map}
 use Rattle.std.specs.Int.{div_ceil}
 use Rattle.rand_pcg.specs.Lcg.{Lcg}
 use Rattle.norm_base.specs.Settings.{Settings}
 use Rattle.norm_order.specs.First.{first_where}
 use Rattle.norm_safety.specs.World.{World}
-use Rattle.norm_send_rules.specs.Repairable.{repairable, streams}
+use Rattle.norm_send_rules.specs.Repairable.{repairable}
 use Rattle.norm_send_rules.specs.SenderState.{SenderState, Watermark}
 use Rattle.norm_send_rules.specs.Watermarks.{oldest}
-use Rattle.norm_tail.specs.Beginning.{refusal_of, refused_by, fault_by}
-use Rattle.norm_tail.specs.Ending.{tail_in, IsTail, BreaksOff, Ends}
+use Rattle.norm_tail.specs.Ending.{tail_in, IsTail, Ends}
 use Rattle.norm_safety.specs.Recovery.{IsOldest}
 use Rattle.norm_tail.specs.SoFar.{Context, At, Stopped}
 use Rattle.norm_tail.specs.Steps.{words_of}
@@ -18,16 +17,12 @@ use Rattle.norm_safety.specs.Tail.{course_from, Tail, NoRequest, tail_until, tai
 use Rattle.norm_tail.specs.declared.fault.TailFault.{TailFault}
 use Rattle.norm_tail.specs.declared.fault.TailFault.TheVariants as fault
 use Rattle.norm_tail.specs.declared.step.TailStep.{TailStep}
-use Rattle.norm_tail.proofs.ExtendLemmas.{stopped_later, stopped_here, until_extends}
 use Rattle.norm_world.specs.WorldKept.{WorldKept, StandsFor}
 
 -- ---- want of memory
 
 pub at_memory : {T : Type 0} (P : TailFault → Type 0) (r : Result T TailFault) (why : TailFault) → r ≡ Err why → why ≡ fault.Memory → P fault.Memory → IfErr r P
 at_memory P r why is same h = subst (λ s. IfErr s P) (sym is) (subst P (sym same) h)
-
-pub memory_refuses_none : {T : Type 0} (r : Result T TailFault) (why : TailFault) → r ≡ Err why → why ≡ fault.Memory → refused_by r ≡ None
-memory_refuses_none r why is same = ap refused_by is ∙ ap refusal_of same
 
 -- ---- a tail begins
 
@@ -40,13 +35,6 @@ first_tail last w = record { turns = 0; last = last; course = course_from w }
 pub begins : (p : Settings) (g : Lcg) (w : World) (k : WorldKept) → k.p ≡ p → StandsFor k w → At (over p g w) (course_from w) k [] g
 begins p g w k same stands = record { profile = same; led = refl; stands = stands; answered = refl; drawn = refl }
 
--- before anything happened
-pub breaks_at_first : (p : Settings) (g : Lcg) (last : ℕ) (k : WorldKept) → k.p ≡ p → BreaksOff p g last k k
-breaks_at_first p g last k same w mark st oldest =
-    stopped_later (over p g w) (course_from w) (tail_in p g last w mark).course k
-    (stopped_here (over p g w) (course_from w) k [] g (begins p g w k same st))
-    (until_extends p (words_of g) (tail_bound p w.sender) mark (first_tail last w))
-
 some_same : {X : Type 0} (x y : X) → Some x ≡ Some y → x ≡ y
 some_same x y e = cc
 
@@ -58,11 +46,14 @@ pub bound_is : (p q : Settings) (w : World) (many bound : ℕ) → q ≡ p → m
 bound_is p q w many bound same counts is =
     is ∙ ap (λ n. div_ceil ((n + 1) * (4 * p.k + 10) * p.grtt) p.step) (counts ∙ ap (λ (r : Settings). repairable r w.sender) same)
 
+first_here : {X : Type 0} (b : Bool) (x : X) (rows : List (Bool × X)) → b ≡ true → Some x ≡ first_where ((b, x) ∷ rows)
+unfolding first_where
+first_here true x rows e = refl
+first_here false x rows e = absurd (cc)
+
 -- no watermark is open
 pub closed_refuses : (p : Settings) (s : SenderState) → is_none (oldest s) ≡ true → Some NoRequest ≡ tail_fault p s
-unfolding first_where
-closed_refuses p s is =
-    sym (ap (λ b. fault_by p b (streams s) (repairable p s) s.flushes) is)
+closed_refuses p s is = first_here (is_none (oldest s)) NoRequest _ is
 
 -- ---- it ends
 

@@ -1,8 +1,7 @@
 -- Whether a tail may begin.
-use Rattle.std.specs.Prelude.{◌≡◌, ◌+◌, ◌*◌, ◌<◌, ◌≤◌, ◌^◌, ◌==◌, ◌||◌, ℕ, nat_lt, Bool, [], ◌∷◌, Option, None, Some, Result, Ok, Err}
+use Rattle.std.specs.Prelude.{◌≡◌, ◌+◌, ◌*◌, ◌<◌, ◌≤◌, ◌^◌, ℕ, Option, None, Some, Result, Ok, Err}
 use Rattle.norm_base.specs.Settings.{Settings, InRange}
-use Rattle.norm_order.specs.First.{first_where}
-use Rattle.norm_safety.specs.Tail.{TailRefusal, NoRequest, Mode, Streams, Step, Pace, Flushes, drops, most_counted, tail_fault, tail_bound}
+use Rattle.norm_safety.specs.Tail.{TailRefusal, NoRequest, Mode, Streams, Step, Pace, Flushes, tail_fault, tail_bound}
 use Rattle.norm_safety.specs.World.{World}
 use Rattle.norm_tail.specs.declared.fault.TailFault.{TailFault}
 use Rattle.norm_tail.specs.declared.fault.TailFault.TheVariants as fault
@@ -22,19 +21,6 @@ refusal_of fault.Memory = None
 abbrev pub refused_by : {T : Type 0} → Result T TailFault → Option TailRefusal
 refused_by (Ok value) = None
 refused_by (Err fault) = refusal_of fault
-
--- The table of `tail_fault`, by what it reads of a sender: whether no watermark is open, how many streams, infos and symbols the window has,
--- and how many flushes were counted.
-abbrev pub fault_by : Settings → Bool → (streams symbols flushes : ℕ) → Option TailRefusal
-fault_by p closed streams symbols flushes = first_where (
-    (closed, NoRequest)
-    ∷ (drops p, Mode)
-    ∷ (nat_lt 0 streams, Streams streams)
-    ∷ (p.step == 0 || nat_lt p.gap p.step, Step p.step)
-    ∷ (nat_lt p.grtt (2 * (symbols + 1) * (p.gap + p.step)), Pace symbols)
-    ∷ (nat_lt most_counted (flushes + 2 * p.k), Flushes flushes)
-    ∷ []
-    )
 
 -- A tail may be begun after a moment: in some world that the nodes stand for, its last moment has 64 bits, unless a fault applies.
 pub record CanTail (p : Settings) (k : WorldKept) (last : ℕ) : Type 0 where

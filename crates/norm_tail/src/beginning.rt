@@ -5,10 +5,10 @@ ghost use Rattle.std.specs.Int.{div_ceil};
 ghost use Rattle.norm_base.specs.Settings.{InRange};
 ghost use Rattle.norm_safety.specs.Tail.{drops, most_counted, tail_fault};
 ghost use Rattle.norm_safety.specs.World.{World as Rules};
-ghost use Rattle.norm_send_rules.specs.Repairable.{repairable, streams};
-ghost use Rattle.norm_send_rules.specs.SenderState.{Watermark};
+ghost use Rattle.norm_send_rules.specs.Repairable.{repairable, streams as streams_in};
+ghost use Rattle.norm_send_rules.specs.SenderState.{SenderState, Watermark};
 ghost use Rattle.norm_send_rules.specs.Watermarks.{oldest};
-ghost use Rattle.norm_tail.specs.Beginning.{refusal_of, fault_by};
+ghost use Rattle.norm_tail.specs.Beginning.{refusal_of};
 ghost use Rattle.norm_world.specs.WorldKept.{StandsFor};
 
 use crate::fault::TailFault;
@@ -29,7 +29,7 @@ pub(crate) fn oldest_mark(world: &World) -> Option<u32>
 
 /// How many streams are enqueued and not wholly dropped, closed ones included.
 fn streams(world: &World) -> u32
-    ensures { (w : Rules) → StandsFor world.now w → result ≡ streams w.sender }
+    ensures { (w : Rules) → StandsFor world.now w → result ≡ streams_in w.sender }
 {
     world.sender().window().streams()
 }
@@ -90,7 +90,8 @@ fn first_fault(
     symbols: u64,
     flushes: u32,
 ) -> Option<TailFault>
-    ensures { option_and_then refusal_of result ≡ fault_by profile.now closed streams symbols flushes }
+    ensures { (s : SenderState) → closed ≡ is_none (oldest s) → streams ≡ streams_in s → symbols ≡ repairable profile.now s → flushes ≡ s.flushes
+        → option_and_then refusal_of result ≡ tail_fault profile.now s }
 {
     if closed {
         return Some(TailFault::NoRequest);

@@ -6,7 +6,7 @@ ghost use Rattle.norm_tail.specs.declared.fault.TailFault.TheVariants as fault;
 use norm_base::Memory;
 
 /// Why no tail began, or, after `Memory`, why it may have broken off. Without `Memory`, nothing happened.
-#[derive(Clone, Copy, Debug, PartialEq, Eq)]
+#[derive(Clone, Copy, PartialEq, Eq)]
 pub enum TailFault {
     /// No watermark is open, so there is none to wait for.
     NoRequest,

@@ -62,6 +62,7 @@ pub fn run_tail(
         return Err(fault);
     }
     let Some(mark) = oldest_mark(world) else {
+        // Never: one is open, since no fault applies.
         return Err(TailFault::NoRequest);
     };
     hold_range(profile);

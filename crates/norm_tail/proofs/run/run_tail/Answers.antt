@@ -28,7 +28,7 @@ bound_of-bound-requires-clause-symbols c =
 pub bound_of-bound-requires-clause-step : goal.bound_of-bound-requires-clause-step
 bound_of-bound-requires-clause-step c =
     let can = c.requires.fits in
-    (may_begin c.args.profile.now can.world.sender (sym (c.in_default.ensures can.world can.stands))).step
+    (may_begin c.args.profile.now can.world.sender (sym (c.in_default.ensures can.world can.stands))).goes_on
 
 pub returns-in_err-turns-clause-memory : goal.returns-in_err-turns-clause-memory
 returns-in_err-turns-clause-memory c =
