@@ -1,4 +1,5 @@
-//! Tests of senders and receivers that the rows of `replay` leave out: files in pieces, and more objects than there are transport ids.
+//! Tests of senders and receivers that the rows of `replay` leave out: files in pieces, and more objects than there are transport ids. Tests
+//! of tails.
 #![tactic(auto)]
 
 #[cfg(test)]
@@ -7,3 +8,5 @@ mod files;
 mod jobs;
 #[cfg(test)]
 mod spelled;
+#[cfg(test)]
+mod tails;
