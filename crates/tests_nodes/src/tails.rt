@@ -99,11 +99,12 @@ struct Row {
 }
 
 /// The profile of all rows: two receivers, and 6 encoded symbols of an object with 4 source symbols.
-const KEYS: [(Key, u32); 7] = [
+const KEYS: [(Key, u32); 8] = [
     (Key::Receivers, 2),
     (Key::E, 64),
     (Key::B, 4),
     (Key::MaxN, 6),
+    (Key::Octets, 4096),
     (Key::Gap, 250),
     (Key::Step, 250),
     (Key::K, 0),
