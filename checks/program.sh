@@ -1,5 +1,5 @@
 #!/bin/sh
-# Runs the built program at the statuses 0 to 9, and compares what it writes on standard output and standard error. What a session has to
+# Runs the built program at each status, and compares what it writes on standard output and standard error. What a session has to
 # write is worked out by hand, or was printed by another program that was written from the rules alone (checks/sessions).
 # It is run after `rt ci`, which leaves the program; the first row that differs is named, and ends it with status 1.
 cd "$(dirname "$0")/.." || exit 1
@@ -151,6 +151,7 @@ words "$send_takes" send one --instance -1
 words "$send_takes" send one --instance 65536
 words "$send_takes" send one --instance 1 --instance=1
 words "$send_takes" send one --port 1
+words "$send_takes" send one --tail 1
 words "$hub_takes" hub --help
 words "$hub_takes" hub one --instance 1
 words "$recv_takes" recv profile
@@ -158,7 +159,7 @@ words "$recv_takes" recv profile 0
 words "$recv_takes" recv profile 02
 words "$recv_takes" recv profile 4294967295
 words "$recv_takes" recv profile 2 --instance 1
-session_takes='session takes --chance N, from 0 to 4294967295, and --turns N, from 1 to 4000000, each at most once, and no other word'
+session_takes='session takes --chance N, from 0 to 4294967295, --turns N and --tail T, from 1 to 4000000, each at most once, and no other word'
 words "$session_takes" session now
 words "$session_takes" session --help
 words "$session_takes" session --turns 0
@@ -167,6 +168,10 @@ words "$session_takes" session --chance 4294967296
 words "$session_takes" session --chance 01
 words "$session_takes" session --chance
 words "$session_takes" session --turns 1 --turns=2
+words "$session_takes" session --tail 0
+words "$session_takes" session --tail 4000001
+words "$session_takes" session --tail 05
+words "$session_takes" session --tail 1 --tail=1
 words "$session_takes" session --loss 1
 generate_takes='generate takes one word, a number from 0 to 4294967295'
 words "$generate_takes" generate
@@ -216,6 +221,24 @@ row 'a session of one turn' 8 'enq 1 1 1 0 data 1\nup 2 1 0 data 1 - 61\nend obj
 sed 's/^set chance 3684811790$/set chance 1/' checks/sessions/file-over-loss.in >"$scratch/in"
 grep -qx 'set chance 1' "$scratch/in" || { echo 'program: file-over-loss has another chance'; exit 1; }
 row 'a session with the chance of its words' 0 "$(cat checks/sessions/file-over-loss.out)\n" session --turns=1000000 --chance=3684811790
+
+# A tail: after its turn nothing is lost any more. What is said of a refusal has the numbers that decide.
+tails() {
+    printf '%b' "$3" >"$scratch/in"
+    reason=$2
+    row "a tail after turn $5 of the script $3" "$1" "$4" session --tail "$5"
+}
+marked='enq 1 1 7 0 data 1\nup 2 7 0 data 1 - 01\nmark 1 2 7 1 0 0 0\n'
+open='end objects 1 octets 1 handed 1 lost 0 satisfied 0 expired 0 cut 0\n'
+tails 0 '' "${set}set gap 100\nset step 100\n1 data 01\n1 mark\n" "${marked}past 2 7 0 0 0\ndone 1 satisfied\nend objects 1 octets 1 handed 1 lost 0 satisfied 1 expired 0 cut 0\ntail 200 5200\n" 2
+tails 0 '' "${set}1 data 68656c6c6f\n" 'enq 1 1 7 0 data 5\nup 2 7 0 data 5 - 68656c6c6f\nend objects 1 octets 5 handed 1 lost 0 satisfied 0 expired 0 cut 0\n' 5
+tails 12 'after turn 1 a command was not pulled yet, or waits\n' "${set}1 data 01\n1 mark\n" "enq 1 1 7 0 data 1\nup 2 7 0 data 1 - 01\n${open}tail refused waiting\n" 1
+tails 12 'after turn 2 no watermark is open, and the session is not whole\n' "${set}set gap 3000\n1 data 01\n1 data 02\n" 'enq 1 1 7 0 data 1\nup 2 7 0 data 1 - 01\nenq 1 2 7 1 data 1\nend objects 2 octets 2 handed 1 lost 0 satisfied 0 expired 0 cut 0\ntail refused no-request\n' 2
+tails 12 'the mode of the profile is drop, and a tail wants hold\n' "${set}set mode drop\n1 data 01\n1 mark\n" "$marked${open}tail refused mode\n" 2
+tails 12 'the number of streams in the window is 1, and a tail wants none\n' "${set}1 open\n1 write 41\n1 mark\n" 'enq 1 1 7 0 open\nenq 1 2 7 0 write 1 0\nmark 1 3 7 1 0 0 0\nup 2 7 0 open\nup 2 7 0 bytes 0 1 41\nend objects 1 octets 1 handed 0 lost 0 satisfied 0 expired 0 cut 0\ntail refused streams\n' 3
+tails 12 'the step of 251 microseconds is not from 1 to the gap of 250\n' "${set}set gap 250\nset step 251\n1 data 01\n1 mark\n" "$marked${open}tail refused step\n" 2
+tails 12 'the number of infos and symbols in the window is 1: with one more, sent twice, a gap of 100 and a step of 50 apart, they take longer than the grtt of 599 microseconds\n' "${set}set grtt 599\nset gap 100\nset step 50\n1 data 01\n1 mark\n" "$marked${open}tail refused pace\n" 2
+tails 12 'the number of flushes that were counted is 1: with twice the k of 8 it is above 15\n' "${set}set gap 250\nset step 250\nset k 8\n1 data 01\n1 mark\n" "$marked${open}tail refused flushes\n" 2
 
 # 300 commands of three producers to 16 receivers, where one copy in ten is lost, some come twice and some late: each of the 270 objects is
 # handed up by all, and each of the 30 watermarks is satisfied. The script is that of `norm_script/specs/Generated` for 42, which the program

@@ -29,7 +29,7 @@ LINES = {
 }
 COUNTS = ('objects', 'octets', 'handed', 'lost', 'satisfied', 'expired', 'cut')
 # What may stand behind the summary, or in its place where a fault came.
-LAST = re.compile(r'turns spent|fault (?:read|fabric|files)|absent \S+')
+LAST = re.compile(rf'turns spent|tail {NUMBER} {NUMBER}|tail refused [a-z-]+|fault (?:read|fabric|files)|absent \S+')
 REFUSED = re.compile('refused (?:line [0-9]+|profile)|usage: .*')
 
 Position = tuple[int, int, int]

@@ -8,10 +8,11 @@ use Rattle.norm_args.specs.declared.tasks.Options.{Options}
 use Rattle.norm_args.specs.declared.tasks.Task.{Task}
 use Rattle.norm_args.specs.declared.tasks.Task.TheVariants.{Session, Show, Generate}
 
--- what an option gives is one of its key's values
+-- what an option gives is one of its key's values; a tail begins after a turn
 pub record FitsOptions (o : Options) : Type 0 where
   pub chance : IfSome o.chance (IsValue key.Chance)
   pub turns : IfSome o.turns (IsValue key.Turns)
+  pub tail : IfSome o.tail (IsValue key.Turns)
 
 abbrev pub FitsTask : Task → Type 0
 FitsTask (Session options) = FitsOptions options

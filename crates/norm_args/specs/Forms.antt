@@ -10,9 +10,10 @@ option_named name = record (new_rule name) { long = Some name }
 abbrev pub word_named : List ℕ → Rule
 word_named name = record (new_rule name) { required = true }
 
--- session [--chance N] [--turns N]
+-- session [--chance N] [--turns N] [--tail T]
 abbrev pub session_form : App
-session_form = with_rule (with_rule (new_app (codes "session")) (option_named (codes "chance"))) (option_named (codes "turns"))
+session_form =
+    with_rule (with_rule (with_rule (new_app (codes "session")) (option_named (codes "chance"))) (option_named (codes "turns"))) (option_named (codes "tail"))
 
 -- show
 abbrev pub show_form : App

@@ -16,14 +16,16 @@ abbrev pub value_given : Key → Option (List ℕ) → Option (Option ℕ)
 value_given key None = Some None
 value_given key (Some word) = option_map Some (number_within (row_of key).least (row_of key).greatest word)
 
-abbrev pub options_with : Option (Option ℕ) → Option (Option ℕ) → Option Options
-options_with None turns = None
-options_with (Some chance) None = None
-options_with (Some chance) (Some turns) = Some (record { chance = chance; turns = turns })
+abbrev pub options_with : (chance turns tail : Option (Option ℕ)) → Option Options
+options_with None turns tail = None
+options_with (Some chance) None tail = None
+options_with (Some chance) (Some turns) None = None
+options_with (Some chance) (Some turns) (Some tail) = Some (record { chance = chance; turns = turns; tail = tail })
 
--- the options of a session
+-- the options of a session; a tail begins after a turn, and so its number is one of the key `turns`
 abbrev pub options_in : List Row → Option Options
 options_in rows = options_with (value_given key.Chance (first_of (codes "chance") rows)) (value_given key.Turns (first_of (codes "turns") rows))
+    (value_given key.Turns (first_of (codes "tail") rows))
 
 abbrev pub session_in : List (List ℕ) → Option Task
 session_in words = option_and_then (λ rows. option_map task.Session (options_in rows)) (found_in session_form words)

@@ -11,14 +11,18 @@ use clap::{Arg, ArgMatches, Command, Error};
 use norm_base::Memory;
 use std::alloc::{AllocError, Global};
 
-/// `session [--chance N] [--turns N]`.
+/// `session [--chance N] [--turns N] [--tail T]`.
 pub(crate) fn session_form<'a>(alloc: Global) -> Result<Command<'a>, AllocError>
     ensures { IfOk result (λ command. app_of command ≡ session_form) }
 {
     // Texts to `clap`: numbers are read as in a script, because `clap` would take `+5` and `007`.
     let chance = Arg::new(alloc, "chance").long("chance");
     let turns = Arg::new(alloc, "turns").long("turns");
-    let command = Command::new(alloc, "session").arg(chance)?.arg(turns)?;
+    let tail = Arg::new(alloc, "tail").long("tail");
+    let command = Command::new(alloc, "session")
+        .arg(chance)?
+        .arg(turns)?
+        .arg(tail)?;
     Ok(command)
 }
 

@@ -13,13 +13,15 @@ use norm_base::{Key, Memory};
 use norm_script::number_within;
 use std::alloc::Global;
 
-/// The options of a session. Each one that is given overrides a key of the script.
+/// The options of a session. `chance` and `turns` override keys of the script.
 #[derive(Clone, Copy, Debug)]
 pub struct Options {
     /// The seed of the draws of the network and of the receivers.
     pub chance: Option<u32>,
     /// The most turns of the run.
     pub turns: Option<u32>,
+    /// The turn after which the network loses nothing any more.
+    pub tail: Option<u32>,
 }
 
 /// What the program is asked to do, if not to run a node.
@@ -53,16 +55,28 @@ pub(crate) fn word_in<'a>(matches: &ArgMatches<'a>, name: &str) -> Option<&'a st
     matches.get_str(name)
 }
 
-/// `None` if either is.
-fn options_with(chance: Option<Option<u32>>, turns: Option<Option<u32>>) -> Option<Options>
+/// `None` if one is.
+fn options_with(
+    chance: Option<Option<u32>>,
+    turns: Option<Option<u32>>,
+    tail: Option<Option<u32>>,
+) -> Option<Options>
     requires chance { IfSome chance (λ given. IfSome given (IsValue Key.Chance)) }
     requires turns { IfSome turns (λ given. IfSome given (IsValue Key.Turns)) }
-    ensures value { result ≡ options_with chance turns }
+    requires tail { IfSome tail (λ given. IfSome given (IsValue Key.Turns)) }
+    ensures value { result ≡ options_with chance turns tail }
     ensures fits { IfSome result FitsOptions }
 {
     match chance {
         Some(chance) => match turns {
-            Some(turns) => Some(Options { chance, turns }),
+            Some(turns) => match tail {
+                Some(tail) => Some(Options {
+                    chance,
+                    turns,
+                    tail,
+                }),
+                None => None,
+            },
             None => None,
         },
         None => None,
@@ -76,7 +90,9 @@ fn options_in(matches: &ArgMatches<'_>) -> Option<Options>
 {
     let chance = value_given(Key::Chance, word_in(matches, "chance"));
     let turns = value_given(Key::Turns, word_in(matches, "turns"));
-    options_with(chance, turns)
+    // A tail begins after a turn, so its number is one of the key `turns`.
+    let tail = value_given(Key::Turns, word_in(matches, "tail"));
+    options_with(chance, turns, tail)
 }
 
 /// The number that a script is made of. `None` if its word is not a number of 32 bits.

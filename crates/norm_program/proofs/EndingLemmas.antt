@@ -52,11 +52,11 @@ text_ended (Ok script) a text i j u w r s k t input quiet h = h
 text_ended (Err ending) a text i j u w r s k t input quiet h = text_ends ending a text i j u w r s k t input quiet h
 
 -- of a session that was run, up to when this was written
-abbrev Ran : Bool → Commands → List Event → Bool → (c d : Called) → (u v : Pieces) → Type 0
+abbrev pub Ran : Bool → Commands → List Event → Bool → (c d : Called) → (u v : Pieces) → Type 0
 Ran alone script journal whole c d u v = RunsScript alone script c.files journal whole (span c.network d.network u v c.moments d.moments)
 
 -- of one that a fault stopped
-abbrev Stopped : Bool → SessionFault → Commands → (c d : Called) → (u v : Pieces) → Type 0
+abbrev pub Stopped : Bool → SessionFault → Commands → (c d : Called) → (u v : Pieces) → Type 0
 Stopped alone stop script c d u v = StopsScript alone stop script c.files (span c.network d.network u v c.moments d.moments)
 
 -- which calls of it failed
@@ -105,7 +105,7 @@ stopped_session stop a script i j u v w r s k t c d p stops =
     record { text = p.text; script = script; input = p.input; read = p.read; session = stops }
 
 -- what was written when a fault stopped the session is what was written at last
-stopped_last : (stop : SessionFault) (a : Asked) (script : Commands) (i j : Option (List ℕ)) (u v w : Pieces)
+pub stopped_last : (stop : SessionFault) (a : Asked) (script : Commands) (i j : Option (List ℕ)) (u v w : Pieces)
     (r s k t : ℕ) (c d : Called) → Prepared a script i j → Stopped (is_alone a) stop script c d u v → w ≡ v
     → StoppedSession a stop (outside i u r k c) (outside j w s t d) w
 stopped_last stop a script i j u v w r s k t c d p stops is =

@@ -9,6 +9,7 @@ use Rattle.norm_args.specs.NodeTasks.{node_task_of}
 use Rattle.norm_args.specs.Tasks.{task_of}
 use Rattle.norm_args.specs.declared.node_tasks.NodeTask.{NodeTask}
 use Rattle.norm_args.specs.declared.node_tasks.NodeTask.TheVariants.{Send, Receive, Hub}
+use Rattle.norm_args.specs.declared.tasks.Options.{Options}
 use Rattle.norm_args.specs.declared.tasks.Task.{Task}
 use Rattle.norm_args.specs.declared.tasks.Task.TheVariants.{Session, Show, Generate}
 use Rattle.norm_program.specs.Asked.{Asked, Members, Sender, with_instance}
@@ -18,9 +19,10 @@ use Rattle.norm_program.specs.GenerateEnds.{GenerateEnds}
 use Rattle.norm_program.specs.Laws.{NoneFailed, NamesAbsent, FourIsOfReads, FiveIsOfWrites, SixIsOfTheNetwork, SevenIsOfFiles}
 use Rattle.norm_program.specs.NodeEnds.{EndsUnloaded, EndsUnder, EndsBroken, BrokenReceiver, BrokenHub, EndsReceiver, EndsHub, EndsSender}
 use Rattle.norm_program.specs.ShowEnds.{ShowEnds}
+use Rattle.norm_program.specs.TailEnds.{EndsTails, EndsBeside}
 use Rattle.norm_program.specs.StatusOf.{status_of}
 use Rattle.norm_program.specs.declared.status.Ending.{Ending}
-use Rattle.norm_program.specs.declared.status.Ending.TheVariants.{Done, Datagram, Memory, Refused, Line, Profile, Read, Write, Fabric, Files, Absent, Spent}
+use Rattle.norm_program.specs.declared.status.Ending.TheVariants.{Done, Datagram, Memory, Refused, Line, Profile, Read, Write, Fabric, Files, Absent, Spent, Tailed, TailRefused}
 
 -- what an ending shows of the counts of failed calls, and of the line of a file that is not there
 abbrev Shows : Ending → Outside → Outside → Type 0
@@ -44,6 +46,24 @@ script_shows a Files before after h = h.cause
 script_shows a (Absent name) before after h = (h.unsaid, h.output)
 script_shows a Spent before after h = tt
 script_shows a _ before after h = absurd h
+
+tails_shows : (options : Options) (until : ℕ) (ending : Ending) (before after : Outside) → EndsTails options until ending before after → Shows ending before after
+tails_shows options until Done before after h = tt
+tails_shows options until (Tailed turns bound) before after h = tt
+tails_shows options until (TailRefused why) before after h = tt
+tails_shows options until Memory before after h = tt
+tails_shows options until (Refused refusal) before after h = tt
+tails_shows options until Read before after h = h.cause
+tails_shows options until Write before after h = h.cause
+tails_shows options until Fabric before after h = h.cause
+tails_shows options until Files before after h = h.cause
+tails_shows options until (Absent name) before after h = (h.unsaid, h.output)
+tails_shows options until _ before after h = absurd h
+
+session_shows : (tail : Option ℕ) (options : Options) (ending : Ending) (before after : Outside) → EndsBeside tail options ending before after
+    → Shows ending before after
+session_shows None options ending before after h = script_shows (Members options) ending before after h
+session_shows (Some until) options ending before after h = tails_shows options until ending before after h
 
 show_shows : (ending : Ending) (before after : Outside) → ShowEnds ending before after → Shows ending before after
 show_shows Done before after h = tt
@@ -95,7 +115,7 @@ under_shows path Ends ending before after each (inr h) = each h.0 h.2
 -- ---- what the ending of a call shows
 
 task_shows : (task : Task) (ending : Ending) (before after : Outside) → EndsTask task ending before after → Shows ending before after
-task_shows (Session options) ending before after h = script_shows (Members options) ending before after h
+task_shows (Session options) ending before after h = session_shows options.tail options ending before after h
 task_shows Show ending before after h = show_shows ending before after h
 task_shows (Generate m) ending before after h = generate_shows m ending before after h
 

@@ -4,4 +4,6 @@ pub mod EndingLemmas
 pub mod AskedLemmas
 pub mod NodeLemmas
 pub mod CommandLemmas
+pub mod TailLemmas
+pub mod TailEndLemmas
 pub mod LawLemmas

@@ -5,8 +5,10 @@ use Rattle.norm_base.specs.Told.{Pieces}
 use Rattle.norm_journal.specs.Jobs.{Told}
 use Rattle.norm_journal.specs.declared.event.Event.{Event}
 use Rattle.norm_script.specs.Commands.{Commands}
+use Rattle.norm_session.specs.Pausing.{PausesSession}
 use Rattle.norm_session.specs.Session as session
 use Rattle.norm_session.specs.Turning as turning
+use Rattle.norm_session.specs.declared.pausing.Paused.{Paused}
 use Rattle.norm_turns.specs.declared.fault.SessionFault.{SessionFault}
 use Rattle.producer_gate.specs.Boards.{BoardState}
 
@@ -22,6 +24,11 @@ span before after unwritten written unasked asked =
 abbrev pub RunsScript : Bool → Commands → Told → List Event → Bool → Span → Type 0
 RunsScript alone script files journal whole o =
     (unposted : BoardState) × (posted : BoardState) × session.RunsScript alone script files journal whole (o unposted posted)
+
+-- a session was run as far as a turn, or to its end if that is before
+abbrev pub PausesScript : Commands → Told → ℕ → Paused → Span → Type 0
+PausesScript script files until paused o =
+    (unposted : BoardState) × (posted : BoardState) × PausesSession script files until paused (o unposted posted)
 
 -- a fault stopped such a run
 abbrev pub StopsScript : Bool → SessionFault → Commands → Told → Span → Type 0

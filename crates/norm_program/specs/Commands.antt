@@ -7,12 +7,12 @@ use Rattle.norm_args.specs.declared.node_tasks.NodeTask.{NodeTask}
 use Rattle.norm_args.specs.declared.node_tasks.NodeTask.TheVariants.{Send, Receive, Hub}
 use Rattle.norm_args.specs.declared.tasks.Task.{Task}
 use Rattle.norm_args.specs.declared.tasks.Task.TheVariants.{Session, Show, Generate}
-use Rattle.norm_program.specs.Asked.{Members}
-use Rattle.norm_program.specs.Ends.{Outside, RefusedWords, EndsScript}
+use Rattle.norm_program.specs.Ends.{Outside, RefusedWords}
 use Rattle.norm_program.specs.GenerateEnds.{GenerateEnds}
 use Rattle.norm_program.specs.NodeEnds.{EndsUnder, EndsSender, EndsReceiver, EndsHub}
 use Rattle.norm_program.specs.ShowEnds.{ShowEnds}
 use Rattle.norm_program.specs.StatusOf.{status_of}
+use Rattle.norm_program.specs.TailEnds.{EndsSession}
 use Rattle.norm_program.specs.declared.words.WordsFault.{WordsFault}
 use Rattle.norm_program.specs.declared.words.WordsFault.TheVariants.{NotText, Memory as NoMemory}
 use Rattle.norm_program.specs.declared.status.Ending.{Ending}
@@ -27,7 +27,7 @@ EndsNode (Some (Hub path)) ending before after = EndsUnder path EndsHub ending b
 
 -- what was asked for ended so
 abbrev pub EndsTask : Task → Ending → Outside → Outside → Type 0
-EndsTask (Session options) ending before after = EndsScript (Members options) ending before after
+EndsTask (Session options) ending before after = EndsSession options ending before after
 EndsTask Show ending before after = ShowEnds ending before after
 EndsTask (Generate n) ending before after = GenerateEnds n ending before after
 

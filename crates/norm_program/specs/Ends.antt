@@ -203,11 +203,17 @@ pub record Prepared (a : Asked) (script : Commands) (before after : Option (List
   pub input : IsInput text before after
   pub read : IsAsked a text script
 
--- What ends the program before a session: a read failed, a line has no meaning, or there was no memory. Nothing of the session was
--- called.
+-- what each ending before a session says: a line has no meaning, a read failed, or there was no memory
+abbrev pub EndsUnrun : Asked → Ending → Outside → Outside → Type 0
+EndsUnrun a (Refused refusal) before after = RefusedLine a before after refusal
+EndsUnrun a Read before after = FailedRead before after
+EndsUnrun a Memory before after = WantedMemory a before after
+EndsUnrun a _ before after = ⊥
+
+-- What ends the program before a session. Nothing of the session was called.
 abbrev pub EndsEarly : Asked → Ending → (input left : Option (List ℕ)) → (unwritten written : Pieces) → (reads read_faults writes write_faults : ℕ) → Type 0
 EndsEarly a ending input left unwritten written reads read_faults writes write_faults =
-    (called : Called) → EndsScript a ending (outside input unwritten reads writes called) (outside left written read_faults write_faults called)
+    (called : Called) → EndsUnrun a ending (outside input unwritten reads writes called) (outside left written read_faults write_faults called)
 
 -- how a read of the whole input failed
 abbrev pub IsReadEnding : Ending → (before after : ℕ) → (unwritten written : Pieces) → (old new : ℕ) → Type 0

@@ -3,6 +3,8 @@ pub mod Reasons
 pub mod Asked
 pub mod Boarded
 pub mod Ends
+pub mod TailEnds
+pub mod Tailing
 pub mod Lending
 pub mod ShowEnds
 pub mod GenerateEnds

@@ -5,13 +5,16 @@ use Rattle.std.specs.Fmt.{decimal}
 use Rattle.norm_script.specs.Sentences.{refusal_text}
 use Rattle.norm_show.specs.Sentences.{sentence_of_none}
 use Rattle.norm_program.specs.declared.status.Ending.{Ending}
-use Rattle.norm_program.specs.declared.status.Ending.TheVariants.{Memory, Words, Refused, Line, Profile}
+use Rattle.norm_program.specs.declared.status.Ending.TheVariants.{Memory, Words, Refused, Line, Profile, TailRefused}
+use Rattle.norm_program.specs.declared.status.NoTail.{NoTail}
+use Rattle.norm_program.specs.declared.status.NoTail.TheVariants.{Waiting, NoRequest, Mode, Streams, Step, Pace, Flushes}
 use Rattle.norm_program.specs.declared.status.ProfileFault.{ProfileFault}
 use Rattle.norm_program.specs.declared.status.ProfileFault.TheVariants.{Document, Node}
 
 -- what the commands take that do not stand alone
 abbrev pub session_takes : List ℕ
-session_takes = codes "session takes --chance N, from 0 to 4294967295, and --turns N, from 1 to 4000000, each at most once, and no other word"
+session_takes =
+    codes "session takes --chance N, from 0 to 4294967295, --turns N and --tail T, from 1 to 4000000, each at most once, and no other word"
 
 abbrev pub generate_takes : List ℕ
 generate_takes = codes "generate takes one word, a number from 0 to 4294967295"
@@ -51,6 +54,27 @@ abbrev pub profile_reason : ProfileFault → Option (List ℕ)
 profile_reason (Document why) = None
 profile_reason (Node node first last) = Some (node_reason node first last)
 
+-- why a tail is too slow
+abbrev pub pace_reason : (symbols gap step grtt : ℕ) → List ℕ
+pace_reason symbols gap step grtt =
+    codes "the number of infos and symbols in the window is " ++ (decimal symbols ++ (codes ": with one more, sent twice, a gap of " ++ (decimal gap
+    ++ (codes " and a step of " ++ (decimal step ++ (codes " apart, they take longer than the grtt of " ++ (decimal grtt ++ codes " microseconds")))))))
+
+-- more flushes were counted than a tail allows
+abbrev pub flushes_reason : (count k : ℕ) → List ℕ
+flushes_reason count k =
+    codes "the number of flushes that were counted is " ++ (decimal count ++ (codes ": with twice the k of " ++ (decimal k ++ codes " it is above 15")))
+
+-- why there is no tail
+abbrev pub no_tail_reason : NoTail → List ℕ
+no_tail_reason (Waiting turn) = codes "after turn " ++ (decimal turn ++ codes " a command was not pulled yet, or waits")
+no_tail_reason (NoRequest turn) = codes "after turn " ++ (decimal turn ++ codes " no watermark is open, and the session is not whole")
+no_tail_reason Mode = codes "the mode of the profile is drop, and a tail wants hold"
+no_tail_reason (Streams count) = codes "the number of streams in the window is " ++ (decimal count ++ codes ", and a tail wants none")
+no_tail_reason (Step step gap) = codes "the step of " ++ (decimal step ++ (codes " microseconds is not from 1 to the gap of " ++ decimal gap))
+no_tail_reason (Pace symbols gap step grtt) = pace_reason symbols gap step grtt
+no_tail_reason (Flushes count k) = flushes_reason count k
+
 -- an ending has a reason of its own, beside what the objects of the outside keep
 abbrev pub has_reason : Ending → Bool
 has_reason Memory = true
@@ -58,6 +82,7 @@ has_reason Words = true
 has_reason (Refused refusal) = true
 has_reason (Line n why) = true
 has_reason (Profile why) = true
+has_reason (TailRefused why) = true
 has_reason _ = false
 
 -- what it is, where that is named
@@ -67,4 +92,5 @@ reason_of Words words = Some (words_reason words)
 reason_of (Refused refusal) words = Some (refusal_text refusal)
 reason_of (Line n why) words = Some (codes "line " ++ (decimal n ++ (codes ": " ++ sentence_of_none why)))
 reason_of (Profile why) words = profile_reason why
+reason_of (TailRefused why) words = Some (no_tail_reason why)
 reason_of _ words = Some []

@@ -1,6 +1,6 @@
 use Rattle.std.specs.Prelude.{ℕ}
 use Rattle.norm_program.specs.declared.status.Ending.{Ending}
-use Rattle.norm_program.specs.declared.status.Ending.TheVariants.{Done, Datagram, Memory, Words, Refused, Line, Profile, Read, Write, Fabric, Files, Absent, Spent}
+use Rattle.norm_program.specs.declared.status.Ending.TheVariants.{Done, Datagram, Memory, Words, Refused, Line, Profile, Read, Write, Fabric, Files, Absent, Spent, Tailed, TailRefused}
 
 -- the exit status of an ending; a line without meaning has the same whoever refuses it, and so has a profile that is refused
 abbrev pub status_of : Ending → ℕ
@@ -17,3 +17,5 @@ status_of Files = 7
 status_of (Absent name) = 7
 status_of Spent = 8
 status_of Datagram = 9
+status_of (Tailed turns bound) = 0
+status_of (TailRefused why) = 12

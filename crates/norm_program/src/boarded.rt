@@ -1,15 +1,15 @@
 //! Runs a script as the program does: with a board of its own that has one reader, and with producers that nothing holds up (`Through`).
-//! `session` calls [`run_session`], and `send` calls [`run_send`].
+//! `session` calls [`run_session`], with a tail [`run_until`], and `send` calls [`run_send`].
 
-ghost use Rattle.std.specs.Prelude.{◌≡◌, List, IfOk, IfErr, true, false};
+ghost use Rattle.std.specs.Prelude.{◌≡◌, ◌≤◌, List, IfOk, IfErr, true, false};
 ghost use Rattle.norm_journal.specs.declared.event.Event.{Event};
-ghost use Rattle.norm_program.specs.Boarded.{RunsScript, StopsScript, span};
+ghost use Rattle.norm_program.specs.Boarded.{PausesScript, RunsScript, StopsScript, span};
 ghost use Rattle.norm_turns.specs.Causes.{HasCause, counted};
 ghost use Rattle.norm_script.specs.Scripts.{CanRun};
 
 use norm_base::{Clock, Fabric, Files, Memory, Sink};
 use norm_script::Script;
-use norm_session::Ended;
+use norm_session::{Ended, Paused};
 use norm_turns::SessionFault;
 use producer_gate::{Board, Through};
 use std::alloc::Global;
@@ -47,6 +47,36 @@ pub(crate) fn run_session<R: Threads + Wait + Sync, K: Sink, F: Fabric, D: Files
     };
     norm_session::run_session(
         rt, alloc, script, &Through, &mut board, output, fabric, files, clock,
+    )
+}
+
+/// Runs a script's session up to turn `until` at the latest, without its summary. If memory runs out for the board, nothing is called.
+pub(crate) fn run_until<R: Threads + Wait + Sync, K: Sink, F: Fabric, D: Files, C: Clock>(
+    rt: &R,
+    alloc: Global,
+    script: &Script,
+    until: u32,
+    output: &mut K,
+    fabric: &mut F,
+    files: &mut D,
+    clock: &mut C,
+) -> Result<Paused, SessionFault>
+    requires script { CanRun script.now }
+    requires turn { 1 ≤ until }
+    ensures run { IfOk result (λ paused. PausesScript script.now (D.contents files.old) until paused
+        (span (F.told fabric.old) (F.told fabric.new) (K.pieces output.old) (K.pieces output.new) (C.moments clock.old) (C.moments clock.new))) }
+    ensures stops { IfErr result (λ fault. StopsScript false fault script.now (D.contents files.old)
+        (span (F.told fabric.old) (F.told fabric.new) (K.pieces output.old) (K.pieces output.new) (C.moments clock.old) (C.moments clock.new))) }
+    ensures files { D.contents files.new ≡ D.contents files.old }
+    ensures cause { HasCause result (counted (K.fault_count output.old) (F.fault_count fabric.old) (D.fault_count files.old))
+        (counted (K.fault_count output.new) (F.fault_count fabric.new) (D.fault_count files.new)) }
+{
+    let mut board = match board_of(alloc) {
+        Ok(board) => board,
+        Err(Memory) => return Err(SessionFault::Memory),
+    };
+    norm_session::run_until(
+        rt, alloc, script, &Through, &mut board, until, output, fabric, files, clock,
     )
 }
 

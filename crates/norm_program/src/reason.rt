@@ -4,11 +4,11 @@
 ghost use Rattle.std.specs.Prelude.{◌≡◌, ◌∷◌, Some, map, string_bytes, Ok, Err, MatchResult};
 ghost use Rattle.std.specs.Fmt.{DisplaysOnOk};
 ghost use Rattle.std.specs.Process.{exit_status};
-ghost use Rattle.norm_program.specs.Reasons.{extra_reason, words_reason, node_reason, profile_reason, has_reason, reason_of};
+ghost use Rattle.norm_program.specs.Reasons.{extra_reason, words_reason, node_reason, profile_reason, pace_reason, flushes_reason, no_tail_reason, has_reason, reason_of};
 ghost use Rattle.norm_program.specs.StatusOf.{status_of};
 ghost use Rattle.norm_program.specs.declared.status.Ending.TheVariants as ending;
 
-use crate::status::{Ending, ProfileFault};
+use crate::status::{Ending, NoTail, ProfileFault};
 use norm_base::Memory;
 use std::fmt;
 use std::process::ExitCode;
@@ -18,7 +18,7 @@ const VERSION: &str = "normd 0.1.0";
 
 // Why words are refused is not kept, so each of these says all that its command takes. The bounds are those of `chance` and `turns`.
 const SESSION_TAKES: &str =
-    "session takes --chance N, from 0 to 4294967295, and --turns N, from 1 to 4000000, each at most once, and no other word";
+    "session takes --chance N, from 0 to 4294967295, --turns N and --tail T, from 1 to 4000000, each at most once, and no other word";
 
 // The bounds are those of 32 bits, of which `generate` takes every number.
 const GENERATE_TAKES: &str = "generate takes one word, a number from 0 to 4294967295";
@@ -108,6 +108,64 @@ fn say_profile<W: fmt::Write>(why: &ProfileFault, f: &mut fmt::Formatter<W>) -> 
     }
 }
 
+/// Says why a tail is too slow.
+fn say_pace<W: fmt::Write>(
+    symbols: u64,
+    gap: u32,
+    step: u32,
+    grtt: u32,
+    f: &mut fmt::Formatter<W>,
+) -> fmt::Result
+    ensures { DisplaysOnOk W.write_str_gives f.old result (Some (pace_reason symbols gap step grtt)) f.new }
+{
+    write!(
+        f,
+        "the number of infos and symbols in the window is {symbols}: with one more, sent twice, a gap of {gap} and a step of {step} apart, they take longer than the grtt of {grtt} microseconds"
+    )
+}
+
+/// Says that too many flushes were counted for a tail.
+fn say_flushes<W: fmt::Write>(count: u32, k: u32, f: &mut fmt::Formatter<W>) -> fmt::Result
+    ensures { DisplaysOnOk W.write_str_gives f.old result (Some (flushes_reason count k)) f.new }
+{
+    write!(
+        f,
+        "the number of flushes that were counted is {count}: with twice the k of {k} it is above 15"
+    )
+}
+
+/// Says why there is no tail.
+fn say_no_tail<W: fmt::Write>(why: &NoTail, f: &mut fmt::Formatter<W>) -> fmt::Result
+    ensures { DisplaysOnOk W.write_str_gives f.old result (Some (no_tail_reason why.now)) f.new }
+{
+    match why {
+        NoTail::Waiting { turn } => write!(
+            f,
+            "after turn {turn} a command was not pulled yet, or waits"
+        ),
+        NoTail::NoRequest { turn } => write!(
+            f,
+            "after turn {turn} no watermark is open, and the session is not whole"
+        ),
+        NoTail::Mode => f.write_str("the mode of the profile is drop, and a tail wants hold"),
+        NoTail::Streams { count } => write!(
+            f,
+            "the number of streams in the window is {count}, and a tail wants none"
+        ),
+        NoTail::Step { step, gap } => write!(
+            f,
+            "the step of {step} microseconds is not from 1 to the gap of {gap}"
+        ),
+        NoTail::Pace {
+            symbols,
+            gap,
+            step,
+            grtt,
+        } => say_pace(*symbols, *gap, *step, *grtt, f),
+        NoTail::Flushes { count, k } => say_flushes(*count, *k, f),
+    }
+}
+
 /// Prints why the program ended so after these words. Prints nothing if the ending has no reason of its own.
 #[derive(Drop)]
 pub(crate) struct Reason<'a> {
@@ -126,6 +184,7 @@ impl fmt::Display for Reason<'_> {
             Ending::Refused { refusal } => write!(f, "{refusal}"),
             Ending::Line { number, why } => write!(f, "line {number}: {why}"),
             Ending::Profile { why } => say_profile(why, f),
+            Ending::TailRefused { why } => say_no_tail(why, f),
             Ending::Done
             | Ending::Datagram
             | Ending::Read
@@ -133,7 +192,8 @@ impl fmt::Display for Reason<'_> {
             | Ending::Fabric
             | Ending::Files
             | Ending::Absent { .. }
-            | Ending::Spent => Ok(()),
+            | Ending::Spent
+            | Ending::Tailed { .. } => Ok(()),
         }
     }
 }
@@ -150,6 +210,7 @@ impl Ending {
                 | Ending::Refused { .. }
                 | Ending::Line { .. }
                 | Ending::Profile { .. }
+                | Ending::TailRefused { .. }
         )
     }
 }

@@ -3,16 +3,18 @@
 
 ghost use Rattle.std.specs.Prelude.{◌≡◌, Ok, IfOk, IfErr, OnOk};
 ghost use Rattle.norm_program.specs.Asked.{Members, profile_with, script_asked, script_with};
-ghost use Rattle.norm_program.specs.Ends.{Prepared, IsTextEnding, EndsEarly, EndsScript};
+ghost use Rattle.norm_program.specs.Ends.{Prepared, IsTextEnding, EndsEarly};
 ghost use Rattle.norm_program.specs.Lending.{GivesBack};
+ghost use Rattle.norm_program.specs.TailEnds.{EndsSession};
 ghost use Rattle.norm_script.specs.Scripts.{CanRun};
 ghost use Rattle.norm_args.specs.Fits.{FitsOptions};
 
-use crate::boarded::run_session;
+use crate::boarded::{run_session, run_until};
 use crate::input::read_input;
 use crate::last_line::{end_session, refused_line, say, stop_session};
 use crate::lent::Lent;
 use crate::status::Ending;
+use crate::tail::end_tails;
 use norm_args::Options;
 use norm_base::{Clock, Fabric, Files, Memory, Profile, Sink, Source};
 use norm_script::{Script, read};
@@ -90,7 +92,7 @@ fn prepare<S: Source, K: Sink>(
     read_text(alloc, &text, options, output)
 }
 
-/// Runs a session with these options and returns the ending; what each ending says is in `EndsScript`. The files keep their contents. Only the
+/// Runs a session with these options and returns the ending; what each ending says is in `EndsSession`. The files keep their contents. Only the
 /// session itself gets the runtime.
 pub(crate) fn run_input<
     R: Threads + Wait + Sync,
@@ -101,23 +103,38 @@ pub(crate) fn run_input<
     C: Clock,
 >(rt: &R, alloc: Global, options: Options, lent: &mut Lent<'_, S, K, F, D, C>) -> Ending
     requires { FitsOptions options }
-    ensures ends { GivesBack S.Source K.Sink F.Fabric D.Files C.Clock (EndsScript (Members options) result) lent.old lent.new }
+    ensures ends { GivesBack S.Source K.Sink F.Fabric D.Files C.Clock (EndsSession options result) lent.old lent.new }
     ensures files { D.contents lent.new.files.now ≡ D.contents lent.old.files.now }
 {
     let script = match prepare(alloc, options, lent.input, lent.output) {
         Ok(script) => script,
         Err(ending) => return ending,
     };
-    match run_session(
+    let Some(until) = options.tail else {
+        match run_session(
+            rt,
+            alloc,
+            &script,
+            lent.output,
+            lent.fabric,
+            lent.files,
+            lent.clock,
+        ) {
+            Ok(ended) => return end_session(ended.whole, lent.output),
+            Err(fault) => return stop_session(alloc, fault, lent.output),
+        }
+    };
+    match run_until(
         rt,
         alloc,
         &script,
+        until,
         lent.output,
         lent.fabric,
         lent.files,
         lent.clock,
     ) {
-        Ok(ended) => end_session(ended.whole, lent.output),
+        Ok(paused) => end_tails(alloc, &script.profile, paused, lent.output),
         Err(fault) => stop_session(alloc, fault, lent.output),
     }
 }

@@ -13,7 +13,7 @@ use std::alloc::AllocError;
 use std::marker::Model;
 use std::process::ExitCode;
 
-/// An exit status of the program, from 0 to 9. [`Ending::status`] makes it.
+/// An exit status of the program, 0 to 9 or 12. [`Ending::status`] makes it.
 #[derive(Clone, Copy, Debug, PartialEq, Eq)]
 pub struct Status(u8);
 
@@ -24,7 +24,7 @@ impl Model for Status {
 
     ghost view = { λ s. s.0 };
 
-    ghost invariant = { λ s. s.0 ≤ 9 };
+    ghost invariant = { λ s. s.0 ≤ 12 };
 
     ghost inverse = { λ n. record { 0 = n } };
 }
@@ -53,6 +53,43 @@ pub enum ProfileFault {
     Document { why: ProfileRefusal },
     /// The node is not one of the receivers, whose ids are `first` to `last`.
     Node { node: NodeId, first: u32, last: u32 },
+}
+
+/// Why a session made no tail.
+#[derive(Clone, Copy, Debug, PartialEq, Eq)]
+pub enum NoTail {
+    /// After this turn a command was not pulled yet, or waits.
+    Waiting {
+        turn: u32,
+    },
+    /// After this turn no watermark is open.
+    NoRequest {
+        turn: u32,
+    },
+    /// The profile's mode is not `hold`.
+    Mode,
+    /// The window has this many streams.
+    Streams {
+        count: u32,
+    },
+    /// The profile's step, in microseconds, is 0 or more than its gap.
+    Step {
+        step: u32,
+        gap: u32,
+    },
+    /// The window has this many infos and encoded symbols. They and one datagram more, sent twice, each a gap and a step apart, take longer than a
+    /// round trip.
+    Pace {
+        symbols: u64,
+        gap: u32,
+        step: u32,
+        grtt: u32,
+    },
+    /// This many flushes were counted for the watermark. With the back-off factor `k`, too few are left for a repair.
+    Flushes {
+        count: u32,
+        k: u32,
+    },
 }
 
 /// How the program ended. [`Ending::status`] returns its exit status, and [`run`](crate::run) says the reason on standard error.
@@ -85,6 +122,10 @@ pub enum Ending {
     Absent { name: Text },
     /// The session spent its turns before everything was done.
     Spent,
+    /// The session made tails: so many turns, which might be `bound`.
+    Tailed { turns: u64, bound: u64 },
+    /// The session was not whole after its turns, and made no tail.
+    TailRefused { why: NoTail },
 }
 
 impl From<AllocError> for Ending {
@@ -101,7 +142,7 @@ impl Ending {
         ensures { result ≡ status_of self.now }
     {
         match self {
-            Ending::Done => Status(0),
+            Ending::Done | Ending::Tailed { .. } => Status(0),
             Ending::Memory => Status(1),
             Ending::Words => Status(2),
             Ending::Refused { .. } | Ending::Line { .. } | Ending::Profile { .. } => Status(3),
@@ -111,6 +152,7 @@ impl Ending {
             Ending::Files | Ending::Absent { .. } => Status(7),
             Ending::Spent => Status(8),
             Ending::Datagram => Status(9),
+            Ending::TailRefused { .. } => Status(12),
         }
     }
 }

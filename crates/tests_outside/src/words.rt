@@ -5,24 +5,36 @@ use std::alloc::Global;
 use std::test::Fail;
 
 /// Words, joined by spaces, and the task. It is `None` if the words ask for none.
-const WORDS: [(&str, &str); 12] = [
+const WORDS: [(&str, &str); 18] = [
     ("", "None"),
     (
         "session",
-        "Some(Session(Options { chance: None, turns: None }))",
+        "Some(Session(Options { chance: None, turns: None, tail: None }))",
     ),
     (
         "session --chance 7",
-        "Some(Session(Options { chance: Some(7), turns: None }))",
+        "Some(Session(Options { chance: Some(7), turns: None, tail: None }))",
     ),
     (
         "session --turns=4000000 --chance=4294967295",
-        "Some(Session(Options { chance: Some(4294967295), turns: Some(4000000) }))",
+        "Some(Session(Options { chance: Some(4294967295), turns: Some(4000000), tail: None }))",
+    ),
+    (
+        "session --tail 1 --turns 5",
+        "Some(Session(Options { chance: None, turns: Some(5), tail: Some(1) }))",
+    ),
+    (
+        "session --tail=4000000",
+        "Some(Session(Options { chance: None, turns: None, tail: Some(4000000) }))",
     ),
     ("session --turns 0", "None"),
     ("session --turns 4000001", "None"),
     ("session --chance 07", "None"),
     ("session --chance 1 --chance 2", "None"),
+    ("session --tail 0", "None"),
+    ("session --tail 4000001", "None"),
+    ("session --tail 05", "None"),
+    ("session --tail 5 --tail 5", "None"),
     ("session --help", "None"),
     ("show", "Some(Show)"),
     ("generate 42", "Some(Generate(42))"),

@@ -3,7 +3,16 @@ use Rattle.norm_program.specs.Asked.{Sender}
 use Rattle.norm_program.specs.Ends.{called_as}
 use Rattle.norm_program.specs.Lending.{told}
 use Rattle.norm_program.proofs.EndingLemmas.{last_ends, stopped_ends}
+use Rattle.norm_program.proofs.TailEndLemmas.{early_script}
 use Rattle.norm_program.proofs.send.send.Goals as goal
+
+-- before a session
+pub returns-in-Err-clause-ends : goal.returns-in-Err-clause-ends
+returns-in-Err-clause-ends g c =
+    let o = told g.S.Source g.K.Sink g.F.Fabric g.D.Files g.C.Clock c.args.lent.now in record {
+      same = refl;
+      tells = early_script c.in-Err.ending (Sender c.args.profile.now) o _ (c.in-Err.ensures.ending o.called);
+    }
 
 -- where a fault stopped the session
 pub returns-clause-ends : goal.returns-clause-ends
