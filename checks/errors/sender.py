@@ -124,8 +124,8 @@ ERRORS = [
     ('an object goes after the first confirmed it', S, 'Watermarks', 'all_past s at = list_all (is_past at) s.listings', 'all_past s at = list_any (is_past at) s.listings', 'refused enqueue drops nothing'),
     ('a watermark is satisfied by the first', S, 'Watermarks', 'nat_le (needed s w.quorum) (count_past s w.at)', 'nat_le (min 1 (needed s w.quorum)) (count_past s w.at)', 'a quorum of two'),
     ('a watermark takes one more than its quorum', S, 'Watermarks', 'nat_le (needed s w.quorum) (count_past s w.at)', 'nat_lt (needed s w.quorum) (count_past s w.at)', 'a quorum of two'),
-    ('a quorum above the members is never met', S, 'Watermarks', 'Some q ↦ min q (length s.listings) |', 'Some q ↦ q |', 'a quorum above the members'),
-    ('a quorum means all', S, 'Watermarks', 'Some q ↦ min q (length s.listings) |', 'Some q ↦ length s.listings |', 'a quorum of two'),
+    ('a quorum above the members is never met', S, 'Watermarks', 'Some q ↦ min q members |', 'Some q ↦ q |', 'a quorum above the members'),
+    ('a quorum means all', S, 'Watermarks', 'Some q ↦ min q members |', 'Some q ↦ members |', 'a quorum of two'),
     ('the newest watermark counts', S, 'Watermarks', 'oldest s = find is_open s.watermarks', 'oldest s = find is_open (reverse s.watermarks)', 'expiry waits for the round'),
     # the closing of a round
     ('counts are added up', S, 'Closing', 'fold (λ most c. max most c.lacking) 0', 'fold (λ most c. most + c.lacking) 0', 'counts of a round'),

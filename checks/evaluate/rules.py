@@ -16,8 +16,8 @@ CRATE = [('the sender', 'norm_send_rules'), ('the receiver', 'norm_receive_rules
 EDITS = {
     'fec_plan/short_blocks_come_first': 'fec_plan/Partition', 'fec_plan/symbol_is_read_as_zero': 'fec_plan/Payload',
     'gf_field/inverse_is_one_power_off': 'gf_field/Product', 'gf_field/lanes_overlap': 'gf_field/Product',
-    'mark_book/one_member_listed_satisfies_all': 'norm_send_rules/Watermarks',
-    'nack_union/counts_are_added_up': 'norm_send_rules/Closing',
+    'norm_send_rules/one_member_listed_satisfies_all': 'norm_send_rules/Watermarks',
+    'norm_send_rules/counts_are_added_up': 'norm_send_rules/Closing',
     'norm_ext/request_past_the_end_is_read': 'norm_ext/Requests',
     'norm_fbmsg/acknowledgement_of_another_instance_is_credited': 'norm_send_rules/Hearing',
     'obj_buffer/code_is_of_the_other_length': 'norm_order/Symbols', 'obj_buffer/last_symbol_is_sent_padded': 'norm_order/Symbols',

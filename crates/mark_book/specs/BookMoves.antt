@@ -1,8 +1,8 @@
 -- How the watermarks of a book change.
-use Rattle.std.specs.Prelude.{ℕ, ◌==◌, ◌&&◌, not, min, nat_le, List, [], ◌∷◌, length, map, filter, find, Bool, true, false, is_none, is_some, Option, None, Some, option_and_then}
+use Rattle.std.specs.Prelude.{ℕ, ◌==◌, ◌&&◌, not, nat_le, List, [], ◌∷◌, length, map, filter, find, Bool, true, false, is_none, is_some, Option, None, Some, option_and_then}
 use Rattle.fec_plan.specs.declared.position.Position.{Position}
 use Rattle.norm_send_rules.specs.SenderState.{Listing}
-use Rattle.norm_send_rules.specs.Watermarks.{is_past}
+use Rattle.norm_send_rules.specs.Watermarks.{is_past, needed_among}
 use Rattle.norm_send_rules.specs.declared.news.Outcome.{Outcome}
 use Rattle.norm_send_rules.specs.declared.news.Outcome.TheVariants.{Open, Satisfied, Expired, Cut}
 use Rattle.mark_book.specs.BookState.{Kept}
@@ -23,13 +23,9 @@ past_count listings at = length (filter (is_past at) listings)
 abbrev pub past_in : List Listing → ℕ → Option Position
 past_in listings node = option_and_then (λ (l : Listing). l.past) (find (λ l. l.node == node) listings)
 
--- how many listings a quorum needs
-abbrev pub needed_of : List Listing → Option ℕ → ℕ
-needed_of listings quorum = elim quorum [ Some q ↦ min q (length listings) | None ↦ length listings ]
-
 -- enough listings are past a position
 abbrev pub is_met_by : List Listing → Option ℕ → Position → Bool
-is_met_by listings quorum at = nat_le (needed_of listings quorum) (past_count listings at)
+is_met_by listings quorum at = nat_le (needed_among (length listings) quorum) (past_count listings at)
 
 -- a kept watermark that is open and passes a test ends with its outcome, which is to be told
 abbrev pub ended_where : (Kept → Bool) → (Kept → Outcome) → Kept → Kept

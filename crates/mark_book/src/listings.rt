@@ -11,12 +11,13 @@ ghost use Rattle.norm_send_rules.specs.Hearing.{listed_past};
 ghost use Rattle.indexmap.specs.IndexMap.{IsUnique, IsFromIterResult, insert_all};
 ghost use Rattle.mark_book.specs.Answers.{once_each};
 ghost use Rattle.mark_book.specs.Listed.{none_past, unsaid};
-ghost use Rattle.mark_book.specs.BookMoves.{left_of, left_count, past_count, past_in, needed_of, is_met_by};
+ghost use Rattle.mark_book.specs.BookMoves.{left_of, left_count, past_count, past_in, is_met_by};
 
 use fec_plan::{Position, reached_by};
 use indexmap::IndexMap;
 use norm_base::{Datagram, NodeId};
 use norm_ext::pushing::push_node;
+use norm_send_rules::needed_among;
 use std::alloc::{AllocError, Global};
 use std::marker::Model;
 
@@ -129,23 +130,12 @@ impl Listings {
         count_short(self.past.values().as_slice(), at) as u32
     }
 
-    /// Returns how many members have to be listed: the quorum, or all if there is none or it is above their number.
-    fn needed(&self, quorum: Option<u32>) -> u32
-        requires { length self.now < 2 ^ 32 }
-        ensures { result ≡ needed_of self.now quorum }
-    {
-        match quorum {
-            Some(q) => q.min(self.len()),
-            None => self.len(),
-        }
-    }
-
     /// Whether enough members are listed past a position: `quorum` of them, or all if there is no quorum or it is above their number.
     pub fn is_met(&self, quorum: Option<u32>, at: Position) -> bool
         requires { length self.now < 2 ^ 32 }
         ensures { result ≡ is_met_by self.now quorum at }
     {
-        self.needed(quorum) <= self.count_past(at)
+        needed_among(self.len(), quorum) <= self.count_past(at)
     }
 
     /// Returns member `i`, from 0, of those that are not listed past a position. `None` if there are no more.

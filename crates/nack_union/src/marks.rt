@@ -21,6 +21,7 @@ use fec_plan::{LAST_BLOCK, Plan, Position};
 use norm_base::Memory;
 use norm_ext::flags::{WANT_BLOCK, WANT_INFO, WANT_OBJECT, WANT_SEGMENT};
 use norm_ext::items::has_flag;
+use norm_send_rules::greater_count;
 use std::alloc::Global;
 use std::marker::Model;
 use symbol_mask::Mask;
@@ -107,12 +108,6 @@ fn whole_objects(first: Position, last: Position) -> (Position, Position)
         symbol: u8::MAX,
     };
     (start, end)
-}
-
-fn greater(count: u8, other: u8) -> u8
-    ensures { result ≡ max count other }
-{
-    count.max(other)
 }
 
 /// Returns the count at an index, or 0 after the last one.
@@ -471,8 +466,7 @@ impl Marks {
         ensures { self.new ≡ record self.old { counts = set self.old.counts block (max (slice_index self.old.counts block) lacking) } }
     {
         let place = (block - self.first) as usize;
-        // Parity repairs any loss, so as many symbols as the receiver needs that lacks most are enough for all (RFC 5740 section 5.4).
-        let most = greater(self.counts[place], lacking);
+        let most = greater_count(self.counts[place], lacking);
         self.counts[place] = most;
         self.is_asked = true;
     }

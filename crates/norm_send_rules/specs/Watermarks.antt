@@ -32,9 +32,13 @@ all_past s at = list_all (is_past at) s.listings
 abbrev pub count_past : SenderState → Position → ℕ
 count_past s at = length (filter (is_past at) s.listings)
 
--- how many members have to be listed: so many as the quorum says, and all where it says nothing or more than there are
+-- how many of so many members have to be listed: so many as the quorum says, and all where it says nothing or more than there are
+abbrev pub needed_among : ℕ → Option ℕ → ℕ
+needed_among members quorum = elim quorum [ Some q ↦ min q members | None ↦ members ]
+
+-- how many members have to be listed
 abbrev pub needed : SenderState → Option ℕ → ℕ
-needed s quorum = elim quorum [ Some q ↦ min q (length s.listings) | None ↦ length s.listings ]
+needed s quorum = needed_among (length s.listings) quorum
 
 -- enough members are listed past a watermark
 abbrev pub is_met : SenderState → Watermark → Bool

@@ -5,12 +5,14 @@
 //! or the [`Outcome`] of a watermark, and a [`Want`] is an info or a symbol to repeat.
 #![tactic(auto)]
 
+mod deciding;
 mod fault;
 mod job;
 pub mod laws;
 mod news;
 mod want;
 
+pub use crate::deciding::{greater_count, needed_among};
 pub use crate::fault::{EnqueueFault, MarkFault, SendFault, StreamFault, StrikeFault};
 pub use crate::job::{Job, Receipt, copy_of_job};
 pub use crate::news::{News, Outcome};
