@@ -1,6 +1,6 @@
 //! What a receiver hands up to its user.
 
-ghost use Rattle.std.specs.Prelude.{◌≡◌, IfOk};
+ghost use Rattle.std.specs.Prelude.{ℕ, ◌≡◌, ◌<◌, IfOk, slice_index, take};
 
 use norm_base::{Kind, Memory, Octets};
 
@@ -32,6 +32,16 @@ pub enum Up {
     Lost {
         index: u32,
     },
+}
+
+/// Returns the first `len` octets of these, in the same memory. What is left out is the padding of an object's last symbol, or of a segment.
+pub fn first_octets(octets: Vec<u8>, len: usize) -> Octets
+    ensures exact { result ≡ take len octets.items }
+    ensures bytes { (i : ℕ) → slice_index octets.items i < 256 }
+{
+    let mut front = octets;
+    front.truncate(len);
+    Octets::of(front)
 }
 
 /// Returns a copy of the octets in a new buffer.

@@ -17,7 +17,7 @@ use crate::ring::{PLACES, Seat, take_at};
 use fec_plan::Plan;
 use norm_base::{Memory, Profile};
 use norm_ext::Fti;
-use norm_receive_rules::Fit;
+use norm_receive_rules::{Fit, is_over};
 use std::alloc::Global;
 
 /// How many hand-ups get room when an object is taken up: a stream's open and its loss. Data and files need one.
@@ -76,7 +76,7 @@ impl Front {
         ensures may { IfOk result (λ plan. MayTake self.now index fti.now flags plan) }
         ensures fresh { IfOk result (λ _. (s : Holding) → StandsFor (front_view self.now) s → plan_of s index ≡ None) }
     {
-        if index < self.point {
+        if is_over(index, self.point) {
             return Err(Fit::Known);
         }
         if let Some(entry) = self.entry(index) {

@@ -21,7 +21,7 @@ use norm_base::{Memory, Octets, Profile};
 use norm_ext::flags::INFO;
 use norm_ext::items::has_flag;
 use norm_order::Up;
-use norm_receive_rules::{Missing, Put};
+use norm_receive_rules::{Missing, Put, is_over};
 use rs_block::Solver;
 use std::alloc::Global;
 use std::collections::VecDeque;
@@ -254,7 +254,7 @@ impl Front {
         ensures word { (s : Holding) → StandsFor (front_view self.now) s → result ≡ put_info_of self.now.profile s index info.now }
         ensures kept { result ≡ put_word.Kept → (self.now.point ≤ index) × MatchOption (entry_at (states_of self.now.ring.items) (index - self.now.point)) ⊥ (λ o. o.info ≡ None) }
     {
-        if index < self.point {
+        if is_over(index, self.point) {
             return Put::Had;
         }
         let Some(entry) = self.entry(index) else {
@@ -299,7 +299,7 @@ impl Front {
         ensures profile { self.new.profile ≡ self.old.profile }
         ensures state { (s : Holding) → StandsFor (front_view self.old) s → StandsFor (front_view self.new) (sees_block (point_at index block) s) }
     {
-        if index < self.point {
+        if is_over(index, self.point) {
             return;
         }
         let place = (index - self.point) as usize;
@@ -333,7 +333,7 @@ impl Front {
         ensures solver { solver.new ≡ solver.old }
         ensures stream_solver { stream_solver.new ≡ stream_solver.old }
     {
-        if index < self.point {
+        if is_over(index, self.point) {
             return Ok(Put::Had);
         }
         let place = (index - self.point) as usize;

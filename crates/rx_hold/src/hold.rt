@@ -24,13 +24,12 @@ ghost use Rattle.rx_hold.specs.Handing.{IsSettled};
 ghost use Rattle.rx_hold.specs.HoldSound.{empty_hold};
 
 use crate::front::Front;
-use crate::place::Place;
 use crate::ring::{PLACES, fill};
 use fec_plan::{PayloadId, Plan, Point, Position};
 use norm_base::{Memory, Profile};
 use norm_ext::Fti;
 use norm_order::Up;
-use norm_receive_rules::{Fit, Missing, Put};
+use norm_receive_rules::{Fit, Missing, Place, Put};
 use rs_block::Solver;
 use std::alloc::Global;
 use std::collections::VecDeque;

@@ -13,8 +13,6 @@ mod handing_up;
 mod hold;
 mod losing;
 mod needs;
-mod place;
 mod ring;
 
 pub use crate::hold::Hold;
-pub use crate::place::Place;

@@ -26,7 +26,7 @@ use norm_base::{Kind, Memory, Octets};
 use norm_ext::Fti;
 use norm_ext::flags::{FILE, INFO};
 use norm_ext::items::has_flag;
-use norm_order::Up;
+use norm_order::{Up, first_octets};
 use norm_receive_rules::Put;
 use rs_block::Solver;
 use short_blocks::Shorts;
@@ -104,16 +104,6 @@ fn told_info(flags: u8, info: Option<Octets>) -> Option<Octets>
         return info;
     }
     None
-}
-
-/// Returns the first `len` octets of these, in the same memory: what is left out is the padding of the last symbol.
-fn front_of(octets: Vec<u8>, len: usize) -> Octets
-    ensures exact { result ≡ take len octets.items }
-    ensures bytes { (i : ℕ) → slice_index octets.items i < 256 }
-{
-    let mut front = octets;
-    front.truncate(len);
-    Octets::of(front)
 }
 
 impl Object {
@@ -320,7 +310,7 @@ impl Object {
             index,
             kind: kind_of(flags),
             info: told_info(flags, info),
-            bytes: front_of(rows.octets, fti.l as usize),
+            bytes: first_octets(rows.octets, fti.l as usize),
         }
     }
 }

@@ -7,7 +7,7 @@ ghost use Rattle.norm_order.specs.Symbols.{padded};
 use fec_plan::PLACE;
 use norm_base::{Memory, Octets};
 use norm_ext::{read_16, read_32};
-use norm_order::put_padded;
+use norm_order::{first_octets, put_padded};
 use rs_block::Row;
 use std::alloc::Global;
 
@@ -50,6 +50,5 @@ pub fn segment_of(row: Row, len: usize) -> Octets
     let mut octets = row.into_inner();
     // Within the memory of the symbol buffer, so that a hand-up takes none.
     octets.copy_within(PLACE..PLACE + len, 0);
-    octets.truncate(len);
-    Octets::of(octets)
+    first_octets(octets, len)
 }

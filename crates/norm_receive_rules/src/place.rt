@@ -1,6 +1,6 @@
-//! The hand-up point, and whether a flush position lies before it.
+//! The hand-up point, and which objects and flush positions lie before it.
 
-ghost use Rattle.std.specs.Prelude.{◌≡◌, ◌&&◌, not};
+ghost use Rattle.std.specs.Prelude.{◌≡◌, ◌<◌, ◌≤◌, ◌&&◌, not, true, false};
 ghost use Rattle.fec_plan.specs.Points.{position, position_before};
 
 use fec_plan::Position;
@@ -40,4 +40,12 @@ impl Place {
         }
         self.is_behind(at)
     }
+}
+
+/// Whether an object lies before the one at the hand-up point. If so it was handed up or lost, and whatever comes of it is not kept.
+pub fn is_over(index: u32, point: u32) -> bool
+    ensures over { result ≡ true → index < point }
+    ensures ahead { result ≡ false → point ≤ index }
+{
+    index < point
 }
