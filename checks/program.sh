@@ -16,7 +16,7 @@ forget() { rm -rf "$XDG_STATE_HOME"; }
 nodes='' sender='' unheard=''
 # shellcheck disable=SC2086 # each is a process of its own
 trap 'kill $nodes $sender $unheard 2>/dev/null; rm -rf "$scratch"' EXIT
-# Sixteen ports for each process, below those that the system gives out itself, and below those of tests_fabrics.
+# Sixteen ports for each process, below those that the system gives out itself, and below those of tests_outside.
 port=$((10000 + $$ % 400 * 16))
 files=$scratch/files
 mkdir "$files" "$files/folder" || exit 1
@@ -172,6 +172,9 @@ words "$session_takes" session --tail 0
 words "$session_takes" session --tail 4000001
 words "$session_takes" session --tail 05
 words "$session_takes" session --tail 1 --tail=1
+words "$session_takes" session --chance 07
+words "$session_takes" session --chance 1 --chance 2
+words "$session_takes" session --tail 5 --tail 5
 words "$session_takes" session --loss 1
 generate_takes='generate takes one word, a number from 0 to 4294967295'
 words "$generate_takes" generate
@@ -182,6 +185,10 @@ words 'the word now is one too many behind show' show now
 words 'a word is not UTF-8' "$(printf '\377\376')"
 none='end objects 0 octets 0 handed 0 lost 0 satisfied 0 expired 0 cut 0\n'
 script '' "$none"
+: >"$scratch/in"
+row 'both options at their greatest' 0 "$none" session --turns=4000000 --chance=4294967295
+row 'a tail after the first turn of at most five' 0 "$none" session --tail 1 --turns 5
+row 'a tail after the greatest turn' 0 "$none" session --tail=4000000
 one='enq 1 1 1 0 data 1\nup 2 1 0 data 1 - 61\nend objects 1 octets 1 handed 1 lost 0 satisfied 0 expired 0 cut 0\n'
 script '1 data 61\n' "$one"
 script '1 data 61' "$one"
@@ -299,6 +306,10 @@ refused 1 'a quorum is a number from 1 to 16' '1 mark 0\n'
 refused 1 'a quorum is a number from 1 to 16' '1 mark 17\n'
 refused 1 '63 is below 64, the least e' 'set e 63\n'
 refused 1 'the value is above 200, the greatest b' 'set b 201\n'
+refused 1 'the value is above 1400, the greatest e' 'set e 1401'
+refused 2 '63 is below 64, the least e' '\nset e 63'
+refused 3 'the key e was set on line 1' 'set e 64\n\nset e 65'
+refused 1 "$contents" '1 data 616'
 refused 3 'the key e was set on line 2' '#\nset e 64\nset e 64\n'
 refused 2 'no key is set here: keys are set before every command' '1 data 61\nset e 64\n1 mark\n'
 refused 2 "$contents" 'set e 64\n1 data 6\n'
@@ -316,6 +327,41 @@ refused 1 'it has an octet 0, 254 or 255, as UTF-16 has: write ASCII or UTF-8' '
 refused 1 'it has an octet 0, 254 or 255, as UTF-16 has: write ASCII or UTF-8' 's\0000e\0000t\0000 \0000e\0000\n'
 refused 1 'it ends with a space' '1 data 61 \n'
 refused 1 'it has two spaces in a row: words have one between them' 'set  e 64\n'
+
+# at_line LINE SCRIPT: this line is the first without meaning. What is said of it is not compared.
+at_line() {
+    printf '%b' "$2" >"$scratch/in"
+    (cd "$files" && exec "$program" session) <"$scratch/in" >"$scratch/out" 2>"$scratch/err"
+    ended $? "the script $2" 3
+    echo "refused line $1" | cmp -s - "$scratch/out" || { echo "program: the script $2 wrote"; cat "$scratch/out"; exit 1; }
+}
+
+# Each key at the least and the greatest of its values, with a line behind it that means nothing. Then each just past its range, and values in forms
+# that are refused.
+within='instance 0,instance 65535,first 0,first 65535,sender 1,sender 4294967278,receivers 1,receivers 16,producers 1,producers 4,e 64,e 1400,b 1
+b 200,max_n 64,max_n 255,auto 0,auto 255,window 1,window 256,octets 1,octets 16777216,blocks 2,blocks 256,mode hold,mode drop,gap 1
+gap 1000000,grtt 1,grtt 10000000,grtt_code 0,grtt_code 255,gsize_code 0,gsize_code 15,k 0,k 15,step 0,step 1000000,turns 1,turns 4000000
+fabric direct,fabric chance,fabric udp,chance 0,chance 4294967295,loss 0,loss 900,repeat 0,repeat 900,late 0,late 64,port 1024,port 65000'
+past='instance 65536,first 65536,sender 0,sender 4294967279,receivers 0,receivers 17,producers 0,producers 5,e 63,e 1401,b 0,b 201,max_n 0
+max_n 256,auto 256,window 0,window 257,octets 0,octets 16777217,blocks 1,blocks 257,mode hole,mode 0,gap 0,gap 1000001,grtt 0,grtt 10000001
+grtt_code 256,gsize_code 16,k 16,step 1000001,turns 0,turns 4000001,fabric tcp,fabric 1,chance 4294967296,loss 901,repeat 901,late 65
+port 1023,port 65001,instance -1,instance +1,instance 01,instance ,K 1'
+echo "$within" | tr ',' '\n' >"$scratch/rows"
+while IFS= read -r line; do at_line 2 "set $line\nbogus\n"; done <"$scratch/rows"
+echo "$past" | tr ',' '\n' >"$scratch/rows"
+while IFS= read -r line; do at_line 1 "set $line\n"; done <"$scratch/rows"
+at_line 1 'set instance\nbogus\n'
+at_line 1 'set max_n 10\n# c\n1 data 61'
+at_line 3 'set b 200\nset e 1400\nset blocks 60\n1 bogus'
+at_line 2 'set max_n 10\nbogus\nset b 4'
+at_line 2 '1 mark\nset e 64'
+at_line 4 '\n\n1 mark\n2 mark'
+at_line 5 '1 mark 1\n1 mark 16\n1 strike 1\n1 strike 4294967294\n1 mark 17'
+at_line 1 '1 Mark\n'
+at_line 1 '1 strike\n'
+script 'set max_n 1\nset b 1' "$none"
+script 'set max_n 10\nset b 4\n1 data 61' "$one"
+script '1 data 4A6b 00\n' 'enq 1 1 1 0 data 2\nup 2 1 0 data 2 00 4a6b\nend objects 1 octets 2 handed 1 lost 0 satisfied 0 expired 0 cut 0\n'
 
 # One line too many, and one that is too long: of each the number is said.
 yes '' | head -n 8193 >"$scratch/in"
@@ -833,6 +879,24 @@ printf '1908000000000001\n\n1304E4DB0000000183CD53C40600FF3E' >"$scratch/in"
 row 'datagrams of which one is refused' 9 'refused type 9\nackreq 1 58587 33741 83.12.4 255 62 -\n' show
 printf '13041685fffffffe8068007702000001\n' >"$scratch/in"
 row 'a datagram' 0 'eot 4294967294 5765 32872 0.7.7\n' show
+# Each message, worked out by hand, and some refusals.
+cat >"$scratch/in" <<'END'
+11072e54df000001fb3ee99d8b05cd75400381539f74473bf2fd3731
+120800000000000100074041000500000000000040030000000000050040040668656c6c6f
+1305015f00000001000940010105ffff000000000000000200000003
+13041685fffffffe8068007702000001
+130500210000000100004021030500000000000000000003
+130ad543cc9ca19962233bb7059000004003df0c0347099e4fc0a880400387ebf45ecd5710ae588a020200100500ffff000003ed05000801ffffff9a
+1304e4db0000000183cd53c40600ff3e
+1304565e03841f9f127290820700000033
+1406cc5650dcc4a1dab21731b6eb004000000000000000000104000002080000
+1506000000000013000000010000020000000000000000000500000000000100
+15067e7500000001fffffe7ee8053e0000000000000000b942dd
+16029abb00002010
+1908000000000001
+140600000000000200000001000700000000000000000000030100088100000000000001
+END
+row 'each message' 9 'info 3741319169 11860 64318 233.9.13 139 52597 142196157466427,62205,55,49 -\ndata 1 0 7 64.4.1 0 0 0 0 5,64,4,6 68656c6c6f\nflush 1 351 9 64.0.1 65535 0 0 2,3\neot 4294967294 5765 32872 0.7.7\nsquelch 1 33 0 64.2.1 0 0 0 0,3\nadv 3432817049 54595 25123 59.11.7 144 2:2:65535.3.237+2049.16777215.154\nackreq 1 58587 33741 83.12.4 255 62 -\nopaque 58990495 22110 4722 144.8.2 7\nnack 1356645537 52310 3669104433 46827 1:4:,2:8:\nack 19 0 1 0 2 0 0 1 0\nack 1 32373 4294966910 59397 62 0 opaque 2\nreport 8208 39611\nrefused type 9\nrefused item-fec 28 129\n' show
 printf '\n13041685fffffffe8068007702000001\n1908000000000001\n' >"$scratch/in"
 row 'datagrams behind an empty line' 9 'eot 4294967294 5765 32872 0.7.7\nrefused type 9\n' show
 printf '16029ABB00002010' >"$scratch/in"

@@ -1,13 +1,11 @@
-//! Calls objects of the outside and returns their answers as text, for `memory` and `host` to compare. The calls go through
-//! the traits, so that no contract of one object has to be proved here.
+//! Calls objects of the outside and returns their answers as text, for `host` to compare. The calls go through the traits, so that no
+//! contract of one object has to be proved here.
 
-use norm_base::{
-    Clock, Datagram, Fabric, FabricFault, Failed, FileFault, Files, Moment, NodeId, Sink, Source,
-};
+use norm_base::{Clock, Failed, FileFault, Files, Moment, Sink, Source};
 use std::alloc::{AllocError, Global};
 
 /// Returns the digit of a number, or `9` if it is above 9.
-pub(crate) fn digit(n: u64) -> u8 {
+fn digit(n: u64) -> u8 {
     b'0'.wrapping_add(u8::try_from(n.min(9)).unwrap_or(9))
 }
 
@@ -98,61 +96,5 @@ pub(crate) fn moments<C: Clock>(
         let Moment(moment) = clock.now();
         all.push(moment)?;
     }
-    Ok(all)
-}
-
-/// Takes once. Adds the digit of the node and the octets, or `?` if the call failed and left the datagram empty.
-/// Returns whether nothing was ready.
-fn take<F: Fabric>(
-    fabric: &mut F,
-    into: &mut Datagram,
-    all: &mut Vec<u8>,
-) -> Result<bool, FabricFault> {
-    match fabric.take(into) {
-        Ok(Some(to)) => {
-            all.push(digit(u64::from(to.number())))?;
-            all.extend_from_slice(into.bytes())?;
-            Ok(false)
-        }
-        Err(FabricFault::Failed) if into.bytes().is_empty() => {
-            all.push(b'?')?;
-            Ok(false)
-        }
-        Ok(None) => Ok(true),
-        Err(fault) => Err(fault),
-    }
-}
-
-/// Takes until nothing is ready, at most 16 times, and adds what was taken.
-pub(crate) fn takes<F: Fabric>(
-    alloc: Global,
-    fabric: &mut F,
-    all: &mut Vec<u8>,
-) -> Result<(), FabricFault> {
-    let mut into = Datagram::new(alloc)?;
-    for _ in 0..16u32 {
-        if take(fabric, &mut into, all)? {
-            break;
-        }
-    }
-    Ok(())
-}
-
-/// Offers one octet for each node in turn. Returns for each offer `!` if it failed, what was then taken, and a point. The last
-/// digit is how many calls failed.
-pub(crate) fn offers<F: Fabric>(
-    alloc: Global,
-    fabric: &mut F,
-    offers: &[(NodeId, u8)],
-) -> Result<Vec<u8>, FabricFault> {
-    let mut all = Vec::new(alloc);
-    for (from, octet) in offers {
-        if fabric.offer(*from, &[*octet]).is_err() {
-            all.push(b'!')?;
-        }
-        takes(alloc, fabric, &mut all)?;
-        all.push(b'.')?;
-    }
-    all.push(digit(fabric.faults()))?;
     Ok(all)
 }

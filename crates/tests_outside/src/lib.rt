@@ -1,26 +1,35 @@
-//! Tests of the crates around the protocol, a module for each: the outside in memory and of the process, scripts, shown datagrams, journals,
-//! the words of the command line, and what a node tells its user. There is no other code here. Run them with `rt test`.
+//! Tests of the crates around the protocol: the outside of the process, networks over sockets, lines of a journal, and what a node tells its
+//! user. The ports of a test follow from the process's id and the test, so that tests may run at the same time. There is no other code here. Run them
+//! with `rt test`.
 #![tactic(auto)]
 
 #[cfg(test)]
+mod broken;
+#[cfg(test)]
 mod calls;
+#[cfg(test)]
+mod causes;
+#[cfg(test)]
+mod failures;
 #[cfg(test)]
 mod folder;
 #[cfg(test)]
 mod host;
 #[cfg(test)]
+mod hosted;
+#[cfg(test)]
 mod instances;
 #[cfg(test)]
 mod journal;
 #[cfg(test)]
-mod memory;
+mod networks;
 #[cfg(test)]
-mod record;
+mod passed_over;
 #[cfg(test)]
-mod script;
+mod sixteen;
 #[cfg(test)]
-mod show;
+mod sockets;
+#[cfg(test)]
+mod waits;
 #[cfg(test)]
 mod watch;
-#[cfg(test)]
-mod words;

@@ -1,7 +1,8 @@
 //! Tests of a stream in the window: which of its segments were sent, and which blocks may be dropped for room.
 
+use crate::profiles::profile_of;
 use fec_plan::Position;
-use norm_base::{Datagram, Given, Key, Memory, Profile};
+use norm_base::{Datagram, Key, Memory, Profile};
 use std::alloc::Global;
 use std::process::Abort;
 use std::test::Fail;
@@ -127,24 +128,19 @@ fn does(
     }
 }
 
-/// Returns a profile with segments of 64 octets, blocks of two with three encoded symbols, and room for two blocks, in this mode.
-fn profile_of(rt: &impl Abort, mode: u32) -> Profile {
-    let mut given = Given::new();
-    for (key, value) in [
-        (Key::E, 64),
-        (Key::B, 2),
-        (Key::MaxN, 3),
-        (Key::Blocks, 2),
-        (Key::Mode, mode),
-    ] {
-        given.set(key, value);
-    }
-    Profile::of(&given).expect(rt, "a profile")
-}
-
 /// Makes the calls in order, of one stream in this mode.
 fn play(rt: &impl Abort, alloc: Global, mode: u32, steps: &[Step]) -> Result<(), Memory> {
-    let profile = profile_of(rt, mode);
+    // Segments of 64 octets, blocks of two with three encoded symbols, and room for two blocks.
+    let profile = profile_of(
+        rt,
+        &[
+            (Key::E, 64),
+            (Key::B, 2),
+            (Key::MaxN, 3),
+            (Key::Blocks, 2),
+            (Key::Mode, mode),
+        ],
+    );
     let mut past = None;
     let mut stream = HeldStream::new(alloc, &profile)?;
     for (place, step) in steps.iter().enumerate() {

@@ -8,7 +8,7 @@ mod mark_book_tests;
 #[cfg(test)]
 mod nack_union_tests;
 #[cfg(test)]
-mod obj_buffer_tests;
+mod profiles;
 #[cfg(test)]
 mod stream_buffer_tests;
 #[cfg(test)]

@@ -8,9 +8,10 @@ ghost use Rattle.fec_plan.specs.Points.{position};
 ghost use Rattle.norm_order.specs.Shapes.{encoded_in};
 ghost use Rattle.nack_union.specs.Kept.{admitted, shape_of_marked, MayRetire};
 
+use crate::profiles::profile_of;
 use fec_plan::{PayloadId, Plan, Position};
 use nack_union::{Closed, Union, Want};
-use norm_base::{Given, Key, Memory, Profile};
+use norm_base::{Key, Memory, Profile};
 use norm_ext::flags::{WANT_BLOCK, WANT_INFO, WANT_OBJECT, WANT_SEGMENT};
 use norm_ext::{check_requests, requests_of};
 use std::alloc::Global;
@@ -466,11 +467,7 @@ fn the_last_symbol_of_the_largest_object_is_wanted(rt: HostRuntime) {
 
 /// Returns a profile with symbols of 64 octets, in blocks of two with one parity symbol each.
 fn of_two(rt: &impl Abort) -> Profile {
-    let mut given = Given::new();
-    for (key, value) in [(Key::E, 64), (Key::B, 2), (Key::MaxN, 3)] {
-        given.set(key, value);
-    }
-    Profile::of(&given).expect(rt, "a profile")
+    profile_of(rt, &[(Key::E, 64), (Key::B, 2), (Key::MaxN, 3)])
 }
 
 /// Returns the plan of a profile's streams.

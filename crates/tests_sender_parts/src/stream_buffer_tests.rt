@@ -1,6 +1,7 @@
 //! Tests of open streams: what a write answers, which blocks are dropped for room, the segments as they are sent, and parity.
 
-use norm_base::{Datagram, Given, Key, Memory, Profile};
+use crate::profiles::profile_of;
+use norm_base::{Datagram, Key, Memory};
 use std::alloc::Global;
 use std::process::Abort;
 use std::test::Fail;
@@ -85,21 +86,6 @@ fn does(alloc: Global, stream: &mut StreamBuf, step: Step) -> Result<bool, Memor
     }
 }
 
-/// Returns a profile with symbols, blocks and encoded symbols of these sizes, and room for this many blocks.
-fn profile_of(rt: &impl Abort, sizes: (u32, u32, u32), blocks: u32) -> Profile {
-    let (e, b, max_n) = sizes;
-    let mut given = Given::new();
-    for (key, value) in [
-        (Key::E, e),
-        (Key::B, b),
-        (Key::MaxN, max_n),
-        (Key::Blocks, blocks),
-    ] {
-        given.set(key, value);
-    }
-    Profile::of(&given).expect(rt, "a profile")
-}
-
 /// Makes the calls in order, of one stream with symbols, blocks and encoded symbols of these sizes and room for this many blocks.
 fn play(
     rt: &impl Abort,
@@ -108,7 +94,16 @@ fn play(
     blocks: u32,
     steps: &[Step],
 ) -> Result<(), Memory> {
-    let profile = profile_of(rt, sizes, blocks);
+    let (e, b, max_n) = sizes;
+    let profile = profile_of(
+        rt,
+        &[
+            (Key::E, e),
+            (Key::B, b),
+            (Key::MaxN, max_n),
+            (Key::Blocks, blocks),
+        ],
+    );
     let mut stream = StreamBuf::new(alloc, &profile)?;
     for (place, step) in steps.iter().enumerate() {
         let is_so = does(alloc, &mut stream, *step)?;

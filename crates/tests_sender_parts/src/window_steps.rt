@@ -1,8 +1,9 @@
 //! Plays a table of calls of a [`Window`], each with its expected answer. A test lists [`Step`]s and gives them to [`play`] or
 //! [`play_under`].
 
+use crate::profiles;
 use fec_plan::Position;
-use norm_base::{Datagram, Given, Key, Kind, Memory, Mode, Octets, Profile};
+use norm_base::{Datagram, Key, Kind, Memory, Mode, Octets, Profile};
 use norm_send_rules::{EnqueueFault, Want};
 use std::alloc::Global;
 use std::marker::Model;
@@ -390,17 +391,16 @@ pub fn profile_of(
 ) -> Profile {
     let (e, b, max_n) = sizes;
     let (window, octets) = most;
-    let mut given = Given::new();
-    for (key, value) in [
-        (Key::E, e),
-        (Key::B, b),
-        (Key::MaxN, max_n),
-        (Key::Window, window),
-        (Key::Octets, octets),
-    ] {
-        given.set(key, value);
-    }
-    let profile = Profile::of(&given).expect(rt, "a profile");
+    let profile = profiles::profile_of(
+        rt,
+        &[
+            (Key::E, e),
+            (Key::B, b),
+            (Key::MaxN, max_n),
+            (Key::Window, window),
+            (Key::Octets, octets),
+        ],
+    );
     Profile { mode, ..profile }
 }
 

@@ -2,7 +2,7 @@
 //! the system's words.
 
 use crate::broken::{Broken, Wrong};
-use crate::calls::{At, Networks, Step, port_of};
+use crate::networks::{At, Networks, Step, port_of};
 use crate::{hosted, sockets};
 use norm_base::Fabric;
 use norm_host::HostFabric;

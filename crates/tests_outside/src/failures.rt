@@ -2,8 +2,8 @@
 //! call reported.
 
 use crate::broken::{Broken, Wrong};
-use crate::calls::{port_of, profile_of};
 use crate::causes::{Says, UNKNOWN, sentence};
+use crate::networks::{port_of, profile_of};
 use norm_base::{Datagram, Fabric, FabricKind, Local, NodeId};
 use norm_host::HostFabric;
 use norm_udp::{Senders, SocketCause, UdpFabric};

@@ -1,7 +1,7 @@
 //! Tests `UdpFabric` with sixteen receivers, the most that a session has. Each datagram of a member arrives whole at each other member, and
 //! never at the member itself: through a hub, through a hub whose threads send, and with all members in one network.
 
-use crate::calls::{port_of, profile_of};
+use crate::networks::{port_of, profile_of};
 use norm_base::{
     DATAGRAM_ROOM, Datagram, Fabric, FabricFault, FabricKind, Local, Memory, NodeId, Profile,
 };

@@ -229,10 +229,10 @@ impl<F: Fabric> Networks<F> {
 
     /// Adds a blank, and a digit for each network: how many of its calls failed.
     fn add_faults(&self, all: &mut Vec<u8>) -> Result<(), FabricFault> {
-        all.push(b' ')?;
-        all.push(digit(self.sender.faults()))?;
-        all.push(digit(self.hub.faults()))?;
-        all.push(digit(self.receiver.faults()))?;
+        let sender = digit(self.sender.faults());
+        let hub = digit(self.hub.faults());
+        let receiver = digit(self.receiver.faults());
+        all.extend_from_slice(&[b' ', sender, hub, receiver])?;
         Ok(())
     }
 

@@ -1,6 +1,6 @@
 //! Tests `HostFabric` with a profile that names sockets, by the steps of `sockets`.
 
-use crate::calls::{At, Networks, Step, port_of};
+use crate::networks::{At, Networks, Step, port_of};
 use crate::sockets::{EACH, EACH_ANSWERS};
 use norm_base::Memory;
 use norm_host::HostFabric;

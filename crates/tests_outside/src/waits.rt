@@ -1,6 +1,6 @@
 //! Tests how long a take of `UdpFabric` waits, with a clock that adds up the sleeps.
 
-use crate::calls::{port_of, profile_of};
+use crate::networks::{port_of, profile_of};
 use norm_base::{Datagram, Fabric, FabricFault, FabricKind, Local, NodeId};
 use norm_udp::UdpFabric;
 use std::alloc::Global;

@@ -1,6 +1,6 @@
 //! Tests which datagrams `UdpFabric` ignores: at the hub those of strangers, and at all members those that are too long.
 
-use crate::calls::{At, LONGEST, Networks, Step, port_of};
+use crate::networks::{At, LONGEST, Networks, Step, port_of};
 use crate::sockets::networks;
 use norm_base::Fabric;
 use std::alloc::Global;

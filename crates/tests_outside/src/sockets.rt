@@ -1,6 +1,6 @@
 //! Tests `UdpFabric` with all members in one network, and with a network for each member and a hub.
 
-use crate::calls::{At, Networks, Step, port_of};
+use crate::networks::{At, Networks, Step, port_of};
 use norm_base::Memory;
 use norm_udp::{Senders, UdpFabric};
 use std::alloc::Global;
