@@ -31,3 +31,4 @@ pub mod PassingTicks
 pub mod PassingWords
 pub mod SentRests
 pub mod SquelchSpares
+pub mod LaterTailLemmas

@@ -1,3 +1,4 @@
 pub mod SentOnce
 pub mod CountsFit
 pub mod HandedUp
+pub mod LaterTails

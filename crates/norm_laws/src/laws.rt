@@ -2,6 +2,7 @@
 
 ghost use Rattle.norm_laws.specs.CountsFit.{CountsOfASessionFit};
 ghost use Rattle.norm_laws.specs.HandedUp.{AllIsHandedUp};
+ghost use Rattle.norm_laws.specs.LaterTails.{LaterTailsAccepted};
 ghost use Rattle.norm_laws.specs.SentOnce.{IdleHasSent, IdleHasSources};
 
 /// If a sender is idle, it has sent each info and symbol that it sends once without a request, or dropped it.
@@ -16,9 +17,9 @@ pub fn idle_has_sources()
     ensures { IdleHasSources }
 {}
 
-/// Everything is handed up if a lawful run passes on each datagram of the sender before its next tick and before the end: delivers it to all
-/// receivers, and takes their hand-ups. If the sender is idle at the end, every receiver has handed up everything of the current instance's order
-/// whose source symbols are closed, and nothing else.
+/// Everything is handed up if a lawful run passes on each datagram of the sender before its next tick and before the end: delivers it in
+/// time to all receivers, and takes their hand-ups. If the sender is idle at the end, every receiver has handed up everything of the
+/// current instance's order whose source symbols are closed, and nothing else of that instance.
 pub fn all_is_handed_up()
     ensures { AllIsHandedUp }
 {}
@@ -27,4 +28,11 @@ pub fn all_is_handed_up()
 /// octets. So they fit 64 bits.
 pub fn counts_of_a_session_fit()
     ensures { CountsOfASessionFit }
+{}
+
+/// After a first tail no later one is refused. If no reason refuses the first of several tails, and each of them ends its watermark, then no
+/// reason refuses the next one, if a watermark is still open.
+#[tactic(auto, using(crate::proofs::LaterTailLemmas::later_tails))]
+pub fn later_tails_accepted()
+    ensures { LaterTailsAccepted }
 {}
