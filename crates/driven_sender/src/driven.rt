@@ -1,4 +1,4 @@
-//! A sender that is never in the middle of a file.
+//! A sender that is not in the middle of a file between two calls.
 
 use norm_base::{Datagram, InstanceId, Memory, Moment, Octets, Origin, Profile, Sent};
 use norm_send_rules::{Job, MarkFault, News, Receipt, SendFault};
@@ -53,7 +53,7 @@ impl Driven {
         }
     }
 
-    /// Makes a watermark that all members shall be past.
+    /// Cuts the open stream, and makes a watermark that all members shall be past. If it is refused, the stream may be cut all the same.
     pub fn mark(&mut self) -> Result<Receipt, MarkFault> {
         self.sender.mark(None)
     }
@@ -63,7 +63,7 @@ impl Driven {
         self.sender.restart(instance)
     }
 
-    /// Returns the sender's next change to report. Each is returned once. `None` if there is none.
+    /// Returns the sender's next change to report. `None` if there is none.
     pub fn news(&mut self) -> Option<News> {
         self.sender.news()
     }

@@ -2,8 +2,8 @@
 //! order of blocks and symbols.
 //!
 //! A [`Plan`] says how an object or a stream is cut, and a [`PayloadId`] names a symbol in a message. A [`Point`] is a block of an object
-//! and a [`Position`] a symbol of it. If you compare points or positions, use the calls here. Senders, receivers and the codec of messages
-//! use this crate.
+//! and a [`Position`] a symbol of it. If you compare points or positions, use the calls here. Senders, receivers, the codec of messages and
+//! the journal use this crate.
 #![tactic(auto)]
 
 pub mod laws;

@@ -28,7 +28,7 @@ impl Model for PayloadId {
 
 impl PayloadId {
     /// Returns the id in these octets. Any octets are one.
-    // Only tests call it: messages are read by their formats in `norm_ext`. It is for programs over this crate.
+    // Only tests call it: the readers of messages call `read_name` of `norm_ext`. It stays for programs over this crate.
     pub fn read(bytes: [u8; 4]) -> PayloadId
         ensures { name_octets result ≡ bytes }
     {

@@ -144,7 +144,7 @@ fn size_of_block(symbols: u64, b: u8, block: u32) -> u8
     }
 }
 
-/// Returns the number of source symbols in all blocks before `block`. Needs no walk over them.
+/// Returns the number of source symbols in all blocks before `block`, which is not checked. Needs no walk over them.
 fn count_before(symbols: u64, b: u8, block: u32) -> u64
     requires some { 0 < symbols }
     requires block { 0 < b }
@@ -205,7 +205,7 @@ impl Plan {
         })
     }
 
-    /// Returns the length of a symbol in octets. Symbols of a stream have `PLACE_OCTETS` more.
+    /// Returns `e`, the most octets of a symbol of an object. A symbol of a stream may have `PLACE_OCTETS` more.
     pub fn e(&self) -> u16
         ensures exact { result ≡ self.now.e }
         ensures sound { IsSound self.now }
@@ -266,7 +266,7 @@ impl Plan {
     }
 
     /// Returns the length of a symbol as it is sent, in octets. The last source symbol of an object may be shorter than `e`; parity never is. For a
-    /// stream it is the most that a symbol can have: the header of a segment and `e` octets.
+    /// stream it is the most that a symbol can have: the header of a segment and `e` octets. Whether there is such a symbol is not checked.
     pub fn symbol_octets(&self, block: u32, symbol: u8) -> u16
         ensures { result ≡ sent_octets self.now block symbol }
     {

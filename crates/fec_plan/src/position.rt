@@ -47,7 +47,7 @@ impl Model for Position {
 
 impl Point {
     /// Whether this block is of an earlier object than the other, or earlier in the same one.
-    // Every comparison of points goes by these calls: a user of the crate then needs their contract, and nothing of how a derived order compares.
+    // Compare points by these calls: a user of the crate then needs their contract, and nothing of how a derived order compares.
     pub fn is_before(&self, other: &Point) -> bool
         ensures { result ≡ point_before self.now other.now }
     {

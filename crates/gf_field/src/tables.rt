@@ -1,4 +1,5 @@
-//! Tables of the powers of alpha and of their logarithms. The calls of the crate read them through `power_of` and `logarithm_of`.
+//! Tables of the powers of alpha and of their logarithms. `mul`, `inv`, `alpha_pow` and `alpha_log` read them through `power_of` and
+//! `logarithm_of`; `add_scaled` does not need them.
 
 ghost use Rattle.std.specs.Prelude.{◌≡◌, ◌≢◌, ◌<◌};
 ghost use Rattle.gf_field.specs.Power.{power};
@@ -34,7 +35,7 @@ const POWERS: [u8; 510] = [
 ];
 
 /// The logarithm of each octet. The item of 0 has no meaning.
-// The proof tests each entry against `POWERS`. 0 has no logarithm, and nobody asks for it: what stands at its place says nothing.
+// The proof tests the entries against `POWERS`. 0 has no logarithm, and nobody asks for it: what stands at its place says nothing.
 const LOGARITHMS: [u8; 256] = [
     0, 0, 1, 25, 2, 50, 26, 198, 3, 223, 51, 238, 27, 104, 199, 75, 4, 100, 224, 14, 52, 141, 239,
     129, 28, 193, 105, 248, 200, 8, 76, 113, 5, 138, 101, 47, 225, 36, 15, 33, 53, 147, 142, 218,
@@ -52,7 +53,8 @@ const LOGARITHMS: [u8; 256] = [
 ];
 
 /// Returns a power of alpha by a look-up. The sum of two logarithms is an exponent that it takes.
-// Proof: each entry is the shift of the one before it, so one recursion carries the power along the table and no pair of entries is tested.
+// Proof: each later entry is the shift of the one before it, so one recursion carries the power along the table. No pair of entries is
+// Proof: tested.
 #[inline(always)]
 #[tactic(auto, using(crate::proofs::TableLemmas::power_in_table))]
 pub fn power_of(exponent: u32) -> u8

@@ -1,4 +1,4 @@
-//! The book of a sender's members and watermarks. The sender of `norm_sender` calls it.
+//! The book of a sender's members and watermarks. A sender changes it, and its callers ask it.
 
 ghost use Rattle.std.specs.Prelude.{◌≡◌, ◌≢◌, ◌<◌, ◌≤◌, ◌+◌, ◌*◌, ◌^◌, ◌++◌, ◌==◌, true, length, map, find, slice_get, option_map, option_and_then, IfOk, IfErr, IfNone, Ok, Err, None, ℕ, []};
 ghost use Rattle.std.specs.List.{list_any};
@@ -31,11 +31,10 @@ use std::alloc::Global;
 use std::marker::Model;
 
 /// The most watermarks that are open at once.
-// Our own choice. A mark beyond it is refused with `TooMany`, and may be given again after one of the open ones ended.
+// Our own choice. A mark beyond it is refused with `TooMany` until one of them ended.
 const MOST_OPEN: u32 = 16;
 
-/// What a sender knows of its members and watermarks. Create it over the receivers of a session. Then its calls may come in any order:
-/// [`request`](Book::request) makes a watermark, [`ack`](Book::ack) lists a member, and [`news`](Book::news) reports what changed.
+/// What a sender knows of its members and watermarks. Its calls may come in any order.
 // `receivers` counts the struck ones too: a quorum is compared with those of the profile, and met by the lesser of it and the members that are
 // left.
 #[derive(Debug, Drop)]
@@ -97,8 +96,7 @@ impl Book {
         self.listings.past(node)
     }
 
-    /// Returns the least position that a member is listed past. All members are listed past a position if this one reaches it, and only then.
-    /// `None` if a member is listed past nothing.
+    /// Returns the least position that a member is listed past. `None` if a member is listed past nothing.
     pub fn least(&self) -> Option<Position>
         ensures { (p : Settings) (s : SenderState) (at : Position) → Stands p self.now s → rules.all_past s at ≡ reached_by result at }
     {
@@ -110,7 +108,7 @@ impl Book {
     pub fn ack(&mut self, node: NodeId, at: Position)
         ensures { (p : Settings) (s : SenderState) → Stands p self.old s → Stands p self.new (credited node at s) }
     {
-        // What is no news is passed over before anything else: a member that is flushed again before its answer came confirms twice.
+        // What is no news is passed over before anything else: a member that is flushed again before its answer came may confirm twice.
         if !self.listings.rises(node, at) {
             return;
         }
@@ -120,7 +118,7 @@ impl Book {
         self.watermarks.settle(&self.listings);
     }
 
-    /// Gives up a watermark. Does nothing if it is not open.
+    /// Gives up a watermark, if it is open.
     pub fn expire(&mut self, mark: u32)
         ensures { (p : Settings) (s : SenderState) → Stands p self.old s → Stands p self.new (expired mark s) }
     {
@@ -143,7 +141,7 @@ impl Book {
         Some(watermark.outcome(&self.listings))
     }
 
-    /// Returns member `i`, from 0, of those that are not listed past the position of a watermark. They keep the order of the receivers. `None` if
+    /// Returns member `i`, from 0, of those that are not listed past the position of a watermark, in the order of the receivers. `None` if
     /// there are no more, or no watermark has this number.
     pub fn pending(&self, mark: u32, i: u32) -> Option<NodeId>
         ensures { (p : Settings) (s : SenderState) → Stands p self.now s
@@ -153,8 +151,8 @@ impl Book {
         self.listings.nth_left(watermark.at, i)
     }
 
-    /// Appends the nodes of all members that are not listed past a position, 4 octets each, as a flush names them. They keep the order of the
-    /// receivers.
+    /// Appends the nodes of all members that are not listed past a position, 4 octets each, in the order of the receivers, as a flush names
+    /// them.
     pub fn write_pending(&self, at: Position, out: &mut Datagram)
         requires { length out.old + 64 ≤ 1500 }
         ensures { (p : Settings) (s : SenderState) → Stands p self.now s → out.new ≡ out.old ++ nodes_octets (rules.pending s at) }
@@ -162,7 +160,7 @@ impl Book {
         self.listings.write_left(at, out);
     }
 
-    /// Returns the oldest open watermark. `None` if none is open. Looks at no watermark before the first whose outcome was not reported.
+    /// Returns the oldest open watermark. `None` if none is open.
     pub fn oldest(&self) -> Option<OpenWatermark>
         ensures { (p : Settings) (s : SenderState) → Stands p self.now s → result ≡ option_map open_watermark (rules.oldest s) }
     {
@@ -173,7 +171,7 @@ impl Book {
         })
     }
 
-    /// Returns how many watermarks are open, at most 16. The cost does not depend on how many were made.
+    /// Returns how many watermarks are open, at most 16.
     pub fn open(&self) -> u32
         ensures { (p : Settings) (s : SenderState) → Stands p self.now s → result ≡ length (rules.open_watermarks s) }
     {
@@ -223,7 +221,7 @@ impl Book {
         ensures { (p : Settings) (s : SenderState) → Stands p self.old s → Stands p self.new (struck_off node s) }
     {
         self.listings.strike(node);
-        // A rise of one that is no member would otherwise be reported after its strike.
+        // If the node stayed there, `news` would find no listing of it, and return `None`.
         take_node(&mut self.untold, node);
         self.watermarks.settle(&self.listings);
     }
@@ -240,13 +238,13 @@ impl Book {
         None
     }
 
-    /// Makes a watermark for everything up to `at`, which `quorum` members have to confirm, or all if that is `None`. Returns its number: one
-    /// above the last one's, or 1. The watermark is satisfied at once if enough members are past `at`.
+    /// Makes a watermark for everything up to `at`, which `quorum` members have to confirm, or all if that is `None` or fewer are left.
+    /// Returns its number: one above the last one's, or 1. The watermark is satisfied at once if enough members are past `at`.
     ///
     /// # Errors
     ///
     /// `Quorum` if [`quorum_fault`](Book::quorum_fault) says so, else `NothingEnqueued` if there is no position, else `TooMany` if 16 are open,
-    /// else `Memory` if memory runs out. Nothing changes then.
+    /// else `Memory` if memory runs out or no number is left. Nothing changes then.
     pub fn request(&mut self, at: Option<Position>, quorum: Option<u32>) -> Result<u32, MarkFault>
         ensures stands { (p : Settings) (s : SenderState) (by : Origin) → Stands p self.old s → result ≢ Err fault.Memory
             → Stands p self.new (asked_for p s by quorum at).0 × (result ≡ numbered (asked_for p s by quorum at).1) }
@@ -288,9 +286,9 @@ impl Book {
         Ok(mark)
     }
 
-    /// Takes out the first change that was not reported: a member that is newly listed past a position, in order of node, and after all of these
-    /// a watermark that ended, in order of number. Each change is reported once, and a listing with its latest position. `None` if there is no
-    /// change to report.
+    /// Takes out the first change that was not reported: a member that is newly listed past a position, in order of node, and after all of
+    /// these a watermark that ended, in order of number. A listing is reported with its latest position. `None` if there is nothing to
+    /// report.
     pub fn news(&mut self) -> Option<News>
         ensures stands { (p : Settings) (s : SenderState) → Stands p self.old s → Stands p self.new (told s).0 × (result ≡ (told s).1) }
         ensures same { IfNone result (self.new ≡ self.old) }
@@ -305,7 +303,7 @@ impl Book {
         Some(News::Past { node, at })
     }
 
-    /// Takes out the first outcome that was not reported. All listings were reported before.
+    /// Takes out the first outcome that was not reported.
     fn tell_outcome(&mut self) -> Option<News>
         requires { self.old.untold_nodes ≡ [] }
         ensures stands { (p : Settings) (s : SenderState) → Stands p self.old s → Stands p self.new (told s).0 × (result ≡ (told s).1) }

@@ -1,9 +1,8 @@
 //! What a NORM sender knows of its receivers (RFC 5740 section 5.5.3): past which position each member is listed, which watermarks were made, and
 //! what became of them.
 //!
-//! Callers meet [`Book`]; `norm_sender` drives it. It tells the book of marks, acknowledgements, expiries, strikes and restarts, and takes
-//! [`News`] out of it. `listings` keeps the members, `watermarks` all watermarks, each of them a `watermark`, and `untold` the members whose
-//! listing is to be reported.
+//! Callers meet [`Book`]; `norm_sender` drives it. `listings` keeps the members and `watermarks` the watermarks. `untold` changes the list
+//! of members whose listing is to be reported.
 #![tactic(auto)]
 
 mod book;

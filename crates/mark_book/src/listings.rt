@@ -1,4 +1,4 @@
-//! The members of a book: the receivers that were not struck, in their order. [`Book`](crate::Book) calls it.
+//! The members of a book: the receivers that were not struck, in their order.
 
 ghost use Rattle.std.specs.Prelude.{◌≡◌, ◌==◌, ◌&&◌, ◌+◌, ◌*◌, ◌<◌, ◌≤◌, ◌^◌, ◌++◌, [], true, not, nat_eq, map, filter, length, slice_get, IfOk};
 ghost use Rattle.std.specs.List.{list_any, list_all};
@@ -54,7 +54,7 @@ impl Listings {
         Ok(Listings { past })
     }
 
-    /// Returns how many members there are, without those that were struck.
+    /// Returns how many members there are.
     pub fn len(&self) -> u32
         requires { length self.now < 2 ^ 32 }
         ensures { result ≡ length self.now }
@@ -62,7 +62,7 @@ impl Listings {
         self.past.len() as u32
     }
 
-    /// Whether a node is a member: a receiver that was not struck.
+    /// Whether a node is a member.
     pub fn lists(&self, node: NodeId) -> bool
         ensures { result ≡ list_any (λ (l : Listing). l.node == node) self.now }
     {
@@ -77,7 +77,7 @@ impl Listings {
         *past
     }
 
-    /// Whether a node is a member and not yet listed past `at`. If not, an acknowledgement up to `at` is no news.
+    /// Whether a node is a member and not yet listed past `at`.
     pub fn rises(&self, node: NodeId, at: Position) -> bool
         ensures { result ≡ list_any (λ l. l.node == node && not (is_past at l)) self.now }
     {
@@ -106,7 +106,7 @@ impl Listings {
         forget_all(&mut self.past);
     }
 
-    /// Removes a node from the members, or does nothing if it is none. The others keep their order, so each after it moves by one.
+    /// Removes a node from the members, if it is one. The others keep their order.
     pub fn strike(&mut self, node: NodeId)
         ensures left { self.new ≡ filter (λ l. not (l.node == node)) self.old }
         ensures one { length self.old ≤ length self.new + 1 }
@@ -114,7 +114,7 @@ impl Listings {
         self.past.shift_remove(&node);
     }
 
-    /// Returns how many members are listed past a position, or further. A quorum is compared with this.
+    /// Returns how many members are listed past a position.
     pub fn count_past(&self, at: Position) -> u32
         requires { length self.now < 2 ^ 32 }
         ensures { result ≡ past_count self.now at }

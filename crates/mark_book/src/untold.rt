@@ -5,7 +5,7 @@ ghost use Rattle.norm_order.specs.Sets.{with_member, Rises};
 
 use norm_base::NodeId;
 
-/// Puts a node into a rising list, if it is not there. The list has room for it.
+/// Puts a node into a rising list, if it is not there.
 pub fn put_node(nodes: &mut Vec<NodeId>, node: NodeId)
     requires { length (with_member nat_lt node nodes.old.items) ≤ vec_capacity nodes.old }
     ensures nodes { nodes.new.items ≡ with_member nat_lt node nodes.old.items }
@@ -16,12 +16,12 @@ pub fn put_node(nodes: &mut Vec<NodeId>, node: NodeId)
             return;
         }
         if node < *other {
-            // It does not fail: the clause says that the list has room for one more node.
+            // It does not fail: the clause says that there is room.
             nodes.insert(place, node).unwrap();
             return;
         }
     }
-    // It does not fail: the clause says that the list has room for one more node.
+    // It does not fail: the clause says that there is room.
     nodes.push(node).unwrap();
 }
 

@@ -1,4 +1,4 @@
-//! One watermark of a book. [`Watermarks`](crate::watermarks::Watermarks) calls it.
+//! One watermark of a book.
 
 ghost use Rattle.std.specs.Prelude.{◌≡◌, ◌<◌, ◌^◌, [], ◌∷◌, false, is_none, length, option_map};
 ghost use Rattle.norm_send_rules.specs.SenderState.{SenderState};
@@ -12,14 +12,14 @@ use norm_send_rules::Outcome;
 use std::marker::Model;
 
 /// The number and the position of an open watermark.
-// The number comes with its position. A position that is asked for by the number needs an answer for numbers that no watermark has.
+// A position that is asked for by a number would need an answer for numbers that no watermark has.
 #[derive(Clone, Copy, Debug, PartialEq, Eq)]
 pub struct OpenWatermark {
     pub mark: u32,
     pub at: Position,
 }
 
-/// Whether the oldest open watermark is the same as before, or none is open any more. If so, the count of flushes goes on.
+/// Whether the oldest open watermark is the same as before, or none is open any more. If so, the count of flushes stays.
 pub fn keeps_oldest(before: Option<OpenWatermark>, after: Option<OpenWatermark>) -> bool
     ensures { (s t : SenderState) → before ≡ option_map open_watermark (rules.oldest s) → after ≡ option_map open_watermark (rules.oldest t)
         → result ≡ rules.keeps_oldest s t }
@@ -36,8 +36,8 @@ pub fn keeps_oldest(before: Option<OpenWatermark>, after: Option<OpenWatermark>)
 
 /// A watermark of a book, open or ended.
 ///
-/// `quorum` members have to confirm it, or all if that is `None`. `ended` is its outcome if it ended, and `untold` whether that is still to be
-/// reported.
+/// `quorum` members have to confirm it, or all if that is `None` or fewer are left. `ended` is its outcome if it ended, and `untold`
+/// whether that is still to be reported.
 #[derive(Clone, Copy, Debug)]
 pub struct Watermark {
     pub mark: u32,

@@ -1,4 +1,4 @@
-//! The watermarks of a book, in the order of their numbers. [`Book`](crate::Book) calls it.
+//! The watermarks of a book, in the order of their numbers.
 
 ghost use Rattle.std.specs.Prelude.{◌≡◌, ◌==◌, ◌<◌, ◌+◌, ◌^◌, ◌++◌, [], ◌∷◌, is_none, map, length, filter, find, MatchResult};
 ghost use Rattle.std.specs.List.{prefix_len};
@@ -13,15 +13,15 @@ use std::alloc::Global;
 use std::marker::Model;
 
 /// The most watermarks that 32 bits can number.
-// A number has 32 bits. One more is answered by `Memory`: so many watermarks take more than 80 GB.
+// One more is answered by `Memory`: so many watermarks take more than 80 GB.
 const MOST_WATERMARKS: usize = 4_294_967_295;
 
 /// All watermarks that were ever made.
 ///
-/// The first `done` of them ended and were reported, and are not looked at again. `still_open` of all are open. It is kept because one that stays
-/// open keeps all later ones out of that prefix.
-// `done` only rises. What ended and was reported is never changed again, so a sender that runs for long does not look at all its old watermarks in
-// each turn. `still_open` is exact: a greater number would refuse marks for good.
+/// The first `done` of them ended and were reported. `still_open` of all are open. It is kept because one that stays open keeps all later
+/// ones out of that prefix.
+// What ended and was reported is never changed again, so a sender that runs for long need not look at all its old watermarks in each turn.
+// `still_open` is exact: a greater number would refuse marks too early.
 #[derive(Debug, Drop)]
 pub struct Watermarks {
     all: Vec<Watermark>,
@@ -43,7 +43,7 @@ impl Model for Watermarks {
 }
 
 impl Watermarks {
-    /// Creates an empty list. It takes no memory.
+    /// Creates an empty list.
     pub fn new(alloc: Global) -> Watermarks
         ensures { result ≡ [] }
     {
@@ -54,7 +54,7 @@ impl Watermarks {
         }
     }
 
-    /// Returns the watermark with this number. `None` if there is none. Not searched for: the numbers count up from 1.
+    /// Returns the watermark with this number. `None` if there is none. The numbers count up from 1.
     pub fn find(&self, mark: u32) -> Option<Watermark>
         ensures { result ≡ find (λ k. k.mark == mark) self.now }
     {
@@ -67,21 +67,21 @@ impl Watermarks {
         Some(self.all[mark as usize - 1])
     }
 
-    /// Returns the oldest open watermark. `None` if none is open. Passes over the first `done`.
+    /// Returns the oldest open watermark. `None` if none is open.
     pub fn oldest(&self) -> Option<Watermark>
         ensures { result ≡ find (λ k. is_none k.ended) self.now }
     {
         first_open(&self.all[self.done..])
     }
 
-    /// Returns how many watermarks are open. The cost does not depend on how many there are.
+    /// Returns how many watermarks are open.
     pub fn count_open(&self) -> u32
         ensures { result ≡ length (filter (λ k. is_none k.ended) self.now) }
     {
         self.still_open as u32
     }
 
-    /// Returns how many outcomes are to be reported. Passes over the first `done`.
+    /// Returns how many outcomes are to be reported.
     pub fn count_untold(&self) -> u32
         ensures { result ≡ length (filter (λ k. k.untold) self.now) }
     {
@@ -110,7 +110,7 @@ impl Watermarks {
         Ok(mark)
     }
 
-    /// Satisfies each open watermark that enough members are past. Passes over the first `done`.
+    /// Satisfies each open watermark that enough members are past.
     // Proof: only those from done on are written. The rule leaves those before as they are (rest_written).
     pub fn settle(&mut self, listings: &Listings)
         requires { length listings.now < 2 ^ 32 }
@@ -121,7 +121,7 @@ impl Watermarks {
         self.still_open = still_open;
     }
 
-    /// Gives up the open watermark with this number. Does nothing if there is none.
+    /// Gives up the open watermark with this number, if there is one.
     pub fn expire(&mut self, listings: &Listings, mark: u32)
         requires { length listings.now < 2 ^ 32 }
         ensures expired { self.new ≡ map (expired_by listings.now mark) self.old }
@@ -131,7 +131,7 @@ impl Watermarks {
         self.still_open = still_open;
     }
 
-    /// Cuts each open watermark. Those outcomes are then to be reported.
+    /// Cuts each open watermark.
     pub fn cut(&mut self)
         ensures cut { self.new ≡ map cut_off self.old }
         ensures numbered { AreNumbered 1 self.old }
@@ -140,8 +140,7 @@ impl Watermarks {
         self.still_open = 0;
     }
 
-    /// Takes out the first outcome to report: returns its watermark as it was before. Call it until it returns `None`. The cost does not grow with the
-    /// watermarks before the first one that is open or was not reported.
+    /// Takes out the first outcome to report: returns its watermark as it was before. `None` if there is none.
     pub fn tell_first(&mut self) -> Option<Watermark>
         ensures first { result ≡ find (λ k. k.untold) self.old }
         ensures told { self.new ≡ told_first self.old }
@@ -200,7 +199,7 @@ fn count_untold(watermarks: &[Watermark]) -> usize
         .count()
 }
 
-/// Returns the first open watermark. It is the oldest, since the list is in the order of their numbers. `None` if none is open.
+/// Returns the first open watermark, which is the oldest. `None` if none is open.
 fn first_open(watermarks: &[Watermark]) -> Option<Watermark>
     ensures { result ≡ find (λ k. is_none k.ended) watermarks.now }
 {

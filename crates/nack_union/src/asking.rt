@@ -1,4 +1,4 @@
-//! Asks for what a NACK names, object by object. [`Collection`](crate::collection::Collection) calls it.
+//! Asks for what a NACK names, object by object.
 
 ghost use Rattle.std.specs.Prelude.{◌≡◌, ◌+◌, ◌^◌, ◌<◌, ◌≤◌, ◌⊎◌, ℕ, get_or, length};
 ghost use Rattle.norm_ext.specs.Asking.{span};

@@ -1,4 +1,4 @@
-//! The window of a [`Union`](crate::Union). It keeps no profile: calls that need one take it. The union calls it.
+//! The window of a [`Union`](crate::Union). It keeps no profile: calls that need one take it.
 
 ghost use Rattle.std.specs.Prelude.{◌≡◌, ◌<◌, ◌≤◌, ◌+◌, ◌-◌, ◌^◌, ◌∷◌, ◌++◌, [], length, IfOk, IsErr, MatchOption, None, Some, false, ℕ, List, nat_lt, position, slice_get, drop, take, not, map, min, max, filter};
 ghost use Rattle.norm_base.specs.Settings.{Settings};
@@ -46,9 +46,9 @@ use std::marker::Model;
 
 /// What is wanted of the objects of a window, what of them was sent, and what the open round asks for.
 ///
-/// `first` is the transport index of the first object. The other numbers are list indexes of `objects`. The round asks for nothing outside of
-/// `low..high`, and `earliest` is the first point from which one of its requests counts. Nothing is wanted of the objects before `quiet`. Something
-/// is wanted of `wanting` objects.
+/// `first` is the transport index of the first object, or of the next one if there is none. `low`, `high` and `quiet` are list indexes of
+/// `objects`. The round asks for nothing outside of `low..high`, and `earliest` is the first point from which one of its requests counts, if
+/// any. Nothing is wanted of the objects before `quiet`. Something is wanted of `wanting` objects.
 #[derive(Debug, Drop)]
 pub struct Collection {
     alloc: Global,
@@ -59,14 +59,14 @@ pub struct Collection {
     high: usize,
     earliest: Option<Point>,
     quiet: usize,
-    // Exact, because `next` and `is_wanted` answer by it alone, without a look at the objects.
+    // Exact, because by it alone, without a look at the objects, `is_wanted` answers and `next` returns `None`.
     wanting: usize,
 }
 
 /// What a repair round gave when it was closed. The wants themselves stay in the union.
 #[derive(Clone, Copy, Debug, PartialEq, Eq)]
 pub struct Closed {
-    /// How many wants were not there before the round closed, or `u32::MAX` if there are more.
+    /// How many wants were not there before the round closed, at most `u32::MAX`.
     pub queued: u32,
     /// Whether a request of the round counts from a point before the first block that the window keeps. If so, the sender owes a squelch.
     pub early: bool,
@@ -84,8 +84,7 @@ impl Model for Collection {
     ghost invariant = { CollectionSound };
 }
 
-/// Returns the list index of the first object of which something is wanted. `None` if there is none. The search begins with `from`: nothing is
-/// wanted before.
+/// Returns the list index of the first object of which something is wanted. `None` if there is none. Nothing is wanted before `from`.
 fn first_wanted(objects: &[Marks], from: usize) -> Option<usize>
     requires { AreQuiet from objects.now }
     ensures { result ≡ position (λ m. nat_lt 0 (length m.wants)) objects.now }
@@ -99,7 +98,7 @@ fn first_wanted(objects: &[Marks], from: usize) -> Option<usize>
     None
 }
 
-/// Returns the number of objects of which something is wanted, by one test for each object.
+/// Returns the number of objects of which something is wanted.
 fn count_wanted(objects: &[Marks]) -> usize
     ensures { result ≡ wanting objects.now }
 {
@@ -113,7 +112,7 @@ fn drop_front(objects: &mut Vec<Marks>, count: usize)
     objects.drain(..count);
 }
 
-/// Closes the round of each object. The cost is one test for an object of which the round asks for nothing.
+/// Closes the round of each object. Returns how many wants are new, at most `u32::MAX`.
 fn close_all(objects: &mut [Marks]) -> u32
     ensures closed { objects.new ≡ map closed_marks objects.old }
     ensures counted { AllByRecursion IsCounted objects.old }
@@ -128,7 +127,7 @@ fn close_all(objects: &mut [Marks]) -> u32
     queued.min(u32::MAX as u64) as u32
 }
 
-/// Returns the first block that is kept of the first object. It is 0 unless that is a stream that was moved on.
+/// Returns the first kept block of the first object, or 0 if there is none.
 fn first_block(objects: &[Marks]) -> u32
     ensures { result ≡ first_block objects.now }
 {
@@ -153,7 +152,7 @@ fn place_behind(first: u32, named: &Named) -> usize
 }
 
 impl Collection {
-    /// Creates an empty window. It takes no memory.
+    /// Creates an empty window.
     pub fn new(alloc: Global) -> Collection
         ensures begun { result ≡ begun_union }
         ensures stands { (p : Settings) (instance : ℕ) → Holds p result (sender_opening p instance) }
@@ -171,12 +170,11 @@ impl Collection {
         }
     }
 
-    /// Appends an object of which nothing is wanted and nothing was sent. `index` is one above that of the last object that joined, or 0 if none
-    /// joined.
+    /// Appends an object, as [`Union::admit`](crate::Union::admit) says.
     ///
     /// # Errors
     ///
-    /// `Memory` if memory runs out. The window stays as it was. No later call needs memory for this object.
+    /// `Memory` if memory runs out. The window stays as it was.
     pub fn admit(&mut self, index: u32, plan: &Plan, info: bool) -> Result<(), Memory>
         requires { index ≡ self.old.first + length self.old.objects }
         ensures exact { IfOk result (λ _. self.new ≡ with_object (admitted plan.now info) self.old) }
@@ -190,12 +188,11 @@ impl Collection {
         self.join(marks)
     }
 
-    /// Appends a stream without closed segments, with room for `profile.blocks` blocks. `index` is one above that of the last object that joined,
-    /// or 0 if none joined.
+    /// Appends a stream without closed segments, with room for `profile.blocks` blocks.
     ///
     /// # Errors
     ///
-    /// `Memory` if memory runs out. The window stays as it was. No later call needs memory for this stream.
+    /// `Memory` if memory runs out. The window stays as it was.
     pub fn admit_stream(&mut self, profile: &Profile, index: u32, plan: &Plan) -> Result<(), Memory>
         requires index { index ≡ self.old.first + length self.old.objects }
         requires stream { plan.now.l ≡ None }
@@ -230,7 +227,7 @@ impl Collection {
         Ok(())
     }
 
-    /// Sets how many source symbols of the last object, a stream, are closed. `index` is the stream's. It takes no memory.
+    /// Sets how many source symbols of the last object, a stream, are closed. `index` is the stream's.
     pub fn grow(&mut self, index: u32, closed: u64)
         requires index { index + 1 ≡ self.old.first + length self.old.objects }
         requires last { OfLast (CanGrow closed) self.old }
@@ -241,7 +238,7 @@ impl Collection {
         object.hold();
     }
 
-    /// Removes the last object. Call it right after the `admit` or `admit_stream` that it takes back.
+    /// Removes the last object, as [`Union::withdraw`](crate::Union::withdraw) says.
     pub fn withdraw(&mut self)
         requires { 0 < length self.old.objects }
         ensures { (m : Marked) (u : Kept) → self.old ≡ with_object m u → self.new ≡ u }
@@ -251,7 +248,7 @@ impl Collection {
         self.objects.pop();
     }
 
-    /// Empties the window and the open round for another instance. It takes no memory.
+    /// Empties the window and the open round for another instance.
     pub fn clear(&mut self)
         ensures begun { self.new ≡ begun_union }
         ensures stands { (p : Settings) (s : SenderState) (id : ℕ) → Holds p self.new (begun_anew id s) }
@@ -280,7 +277,7 @@ impl Collection {
         self.low = self.low.saturating_sub(count);
         self.high = self.high.saturating_sub(count);
         self.quiet = self.quiet.saturating_sub(count);
-        // What goes with a drop is wanted no more. If it still counted, the sender would never be idle again.
+        // What goes with a drop is wanted no more. If it still counted, `is_wanted` would be true with nothing wanted.
         self.wanting -= gone;
         gone > 0
     }
@@ -315,8 +312,8 @@ impl Collection {
         self.move_first(block)
     }
 
-    /// Drops everything before a block of an object. With the index after the last object's and block 0 it drops all. Returns whether something of
-    /// what was dropped was wanted.
+    /// Drops everything before a block of an object, as [`Union::retire`](crate::Union::retire) says. Returns whether something of that was
+    /// wanted.
     pub fn retire(&mut self, index: u32, block: u32) -> bool
         requires { MayRetire index block self.old }
         ensures exact { self.new ≡ retired index block self.old }
@@ -331,7 +328,7 @@ impl Collection {
         dropped || gone
     }
 
-    /// Notes that an encoded symbol of the window was sent. If it is parity, no later count takes it.
+    /// Notes that an encoded symbol of the window was sent.
     pub fn note_sent(&mut self, at: Position)
         requires { IsEncodedIn self.old at }
         ensures exact { (m : Marked) → slice_get self.old.objects (at.index - self.old.first) ≡ Some m
@@ -533,7 +530,7 @@ impl Collection {
         self.earliest = earliest;
     }
 
-    /// Whether the object with this index joined the window and was not dropped.
+    /// Whether the window has the object with this index.
     fn has(&self, index: u32) -> bool
         ensures { MatchBool result ((self.now.first ≤ index) × (index < self.now.first + length self.now.objects))
             ((self.now.first ≤ index → self.now.first + length self.now.objects ≤ index)) }
@@ -541,7 +538,7 @@ impl Collection {
         self.first <= index && ((index - self.first) as usize) < self.objects.len()
     }
 
-    /// Returns the index of the last object that joined the window, even if it was dropped since. It is 0 if none joined.
+    /// Returns the last index, as [`Union::known`](crate::Union::known) says.
     // Computed from the union's own objects, so that nobody has to tell it how far the order goes.
     pub fn known(&self) -> u32
         ensures { result ≡ known_of self.now }
@@ -549,8 +546,7 @@ impl Collection {
         (u64::from(self.first) + self.objects.len() as u64).saturating_sub(1) as u32
     }
 
-    /// Adds the requests of a NACK to the open round, as far as the window has what they ask for. Ignores an item whose object id stands for no
-    /// index, and a range if that is so of one of its ends.
+    /// Adds the requests of a NACK to the open round, as [`Union::add`](crate::Union::add) says.
     // Proof: for a request that comes now, the order as it came (as_it_came) is the order as it stands.
     // Proof: marks then decide every test of the rules.
     pub fn add(&mut self, profile: &Profile, requests: Requests<'_>)
@@ -567,14 +563,14 @@ impl Collection {
         let _ = &self.objects;
     }
 
-    /// Whether anything is wanted. The cost is one comparison.
+    /// Whether anything is wanted.
     pub fn is_wanted(&self) -> bool
         ensures { (p : Settings) (s : SenderState) → Holds p self.now s → result ≡ nat_lt 0 (length s.wants) }
     {
         self.wanting > 0
     }
 
-    /// Takes out the first want in transport order, in which an object's info comes before its symbols. `None` if nothing is wanted.
+    /// Takes out the first want in transport order. `None` if nothing is wanted.
     pub fn next(&mut self) -> Option<Want>
         ensures collects { (p : Settings) (s : SenderState) (asked : List Asked) (rest : List Wanted) → Collects p self.old s asked
             → Collects p self.new (record s { wants = rest }) asked }
@@ -593,9 +589,7 @@ impl Collection {
         Some(want_of(self.first + place as u32, slot))
     }
 
-    /// Closes the open round: what it asked for is wanted, and the next round begins empty (RFC 5740 section 5.4). Of a block that was counted, as
-    /// many symbols are wanted as the count says, at most its number of source symbols: its lowest parity symbols that were never sent, or all its
-    /// closed source symbols if too few are left.
+    /// Closes the open round, as [`Union::close_round`](crate::Union::close_round) says.
     // Proof: each object's slots come first. all_closed lifts that to the listed wants, and closed_range leads from low .. high to all.
     pub fn close_round(&mut self) -> Closed
         ensures exact { self.new ≡ closed_union self.old }

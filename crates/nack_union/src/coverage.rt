@@ -1,4 +1,4 @@
-//! What the open round asks for of an object. [`Marks`](crate::marks::Marks) calls it.
+//! The slots that the open round names of an object, without the counts of its blocks.
 
 ghost use Rattle.std.specs.Prelude.{◌≡◌, ◌+◌, ◌*◌, ◌<◌, ◌≤◌, [], nat_lt, true, IfOk, None, ℕ, ◌-◌, length, slice_index, ◌&&◌, ◌||◌};
 ghost use Rattle.fec_plan.specs.Partition.{blocks, most_blocks, symbol_number};
@@ -20,13 +20,14 @@ use std::alloc::Global;
 use std::marker::Model;
 use symbol_mask::Mask;
 
-/// The slots that the open round asks for, of an object of which `closed` source symbols are closed.
+/// The slots that the open round asks for, of an object of which `closed` source symbols are closed. If a stream moved on, blocks, slots and
+/// `closed` are numbered from its first kept block on.
 ///
-/// If the round asks for a span of whole blocks, `ends` keeps the end of the longest such span at the block with which it begins. Its slots are
-/// filled in when the round closes, or when the stream moves on. The set `alone` has all other slots. A block is whole if all its source symbols
-/// are closed; the first `whole` blocks are known to be. If `complete` is set, the round asks for all closed source symbols.
-// All blocks of a span are whole. A span is filled in later, so over a block that still grows it would also ask for symbols that were closed after
-// the request.
+/// A block is whole if all its source symbols are closed; the first `whole` blocks are known to be. `ends` keeps spans of these: at the
+/// block with which a span begins, the end of the longest. Their slots are filled in when the round closes, or when the stream moves on.
+/// The set `alone` has all other slots. If `complete` is set, the round asks for all closed source symbols.
+// Only whole blocks: a span is filled in later, so over a block that still grows it would also ask for symbols that were closed after the
+// request.
 #[derive(Debug, Drop)]
 pub struct Coverage {
     plan: Plan,
@@ -50,8 +51,7 @@ impl Model for Coverage {
     ghost invariant = { IsSoundCoverage };
 }
 
-/// Puts the slots in `from..to` of an object's closed source symbols into a set, block by block. The cost grows with the number of blocks that the
-/// range touches, and not with `to` beyond the first `room` blocks.
+/// Puts the slots in `from..to` of an object's closed source symbols into a set.
 fn insert_sources(set: &mut Mask, plan: &Plan, closed: u64, room: usize, from: usize, to: usize)
     requires size { slots room ≤ set.old.size }
     requires few { room ≤ most_blocks }
@@ -83,7 +83,7 @@ fn insert_block(set: &mut Mask, plan: &Plan, closed: u64, block: u32, wanted: bo
     }
 }
 
-/// Puts the closed source symbols of the blocks that lie in a span of `ends` into a set. The cost grows with the number of blocks.
+/// Puts the closed source symbols of the blocks that lie in a span of `ends` into a set.
 fn insert_runs(set: &mut Mask, plan: &Plan, closed: u64, ends: &[u32])
     requires size { slots (length ends.now) ≤ set.old.size }
     requires within { length ends.now ≤ blocks plan.now }
@@ -109,7 +109,7 @@ fn is_within(first: usize, behind: usize, from: usize, to: usize) -> bool
 }
 
 impl Coverage {
-    /// Creates an empty set of slots of an object's first `room` blocks. No source symbol after them is closed.
+    /// Creates an empty set of slots of an object's first `room` blocks.
     ///
     /// # Errors
     ///
@@ -166,7 +166,7 @@ impl Coverage {
         self.alone.insert(slot);
     }
 
-    /// Asks for the closed source symbols whose slots lie in `from..to`, as bits of `alone`. The cost grows with their number.
+    /// Asks for the closed source symbols whose slots lie in `from..to`, as bits of `alone`.
     fn insert_part(&mut self, from: usize, to: usize)
         ensures members { (slot : ℕ) → is_member nat_lt slot self.new.members ≡ (is_member nat_lt slot self.old.members || (is_source_slot self.old.shape slot && in_run from to slot)) }
         ensures shape { self.new.shape ≡ self.old.shape }
@@ -176,8 +176,8 @@ impl Coverage {
         insert_sources(&mut self.alone, &self.plan, self.closed, room, from, to);
     }
 
-    /// Asks for the source symbols of the blocks `first..behind`, which are whole. The cost does not depend on how many these are.
-    // One number for a span of any length. Otherwise each request for a whole object would set the bits of all its symbols again.
+    /// Asks for the source symbols of the blocks `first..behind`, which are whole.
+    // One number for a span of any length. Otherwise each request for many blocks would set the bits of all their symbols again.
     fn insert_blocks(&mut self, first: usize, behind: usize)
         requires some { first < behind }
         requires within { behind ≤ self.old.room }
@@ -212,7 +212,7 @@ impl Coverage {
         self.complete = true;
     }
 
-    /// Asks for the closed source symbols whose slots lie in `from..to`. Keeps whole blocks as a span.
+    /// Asks for the closed source symbols whose slots lie in `from..to`. Keeps blocks that are known to be whole as a span.
     fn insert_between(&mut self, from: usize, to: usize)
         ensures members { (slot : ℕ) → is_member nat_lt slot self.new.members ≡ (is_member nat_lt slot self.old.members || (is_source_slot self.old.shape slot && in_run from to slot)) }
         ensures shape { self.new.shape ≡ self.old.shape }
@@ -272,7 +272,7 @@ impl Coverage {
         ensures shape { self.new.shape ≡ shape_closed self.old.shape.cut (self.old.shape.closed - symbol_number self.old.shape.cut count 0) }
         ensures room { self.new.room ≡ self.old.room }
     {
-        // The ends are numbers of blocks, which change now. As bits they move with the set.
+        // The ends are numbers of blocks, which change now; bits move with the set.
         insert_runs(&mut self.alone, &self.plan, self.closed, &self.ends);
         self.ends.fill(0);
         self.alone.rises();

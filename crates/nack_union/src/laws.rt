@@ -15,8 +15,7 @@ pub fn may_be_noted()
     ensures { MayBeNoted }
 {}
 
-/// If a union grows with the stream that is its last object, it stands for the state after that. Each request of the open round still asks for
-/// what it asked for when it came.
+/// If a union grows with the stream that is its last object, it stands for the state after that.
 pub fn streams_grow()
     ensures { StreamsGrow }
 {}

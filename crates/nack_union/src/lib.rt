@@ -1,8 +1,7 @@
 //! What receivers asked a NORM sender to repeat (RFC 5740 section 5.4).
 //!
-//! Callers meet [`Union`]; `norm_sender` drives it. `collection` keeps the objects of the window, and `marks` the sets of each one. The info and
-//! the symbols of an object are numbered by slots (`slots`); a set of slots is a `Mask` of `symbol_mask`. `coverage` has what the open round asks
-//! for of an object, and `repairs` finds the symbols that a count asks for. `earliest` tells if a squelch is due.
+//! Callers meet [`Union`]; `norm_sender` drives it. `collection` keeps the objects of the window, and `marks` what is kept of each. The
+//! info and the symbols of an object are numbered by slots (`slots`).
 #![tactic(auto)]
 
 mod asking;

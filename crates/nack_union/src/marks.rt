@@ -1,4 +1,4 @@
-//! What a union keeps of an object. [`Collection`](crate::collection::Collection) calls it.
+//! What a union keeps of an object.
 
 ghost use Rattle.std.specs.Prelude.{◌≡◌, ◌+◌, ◌-◌, ◌*◌, ◌^◌, ◌<◌, ◌≤◌, ◌∷◌, [], nat_lt, IfOk, MatchOption, true, false, ◌==◌, ℕ, length, max, replicate, set, slice_index, ◌&&◌, ◌||◌, not, None, Some};
 ghost use Rattle.fec_plan.specs.Partition.{all_symbols, blocks, most_blocks};
@@ -26,13 +26,14 @@ use std::alloc::Global;
 use std::marker::Model;
 use symbol_mask::Mask;
 
-/// An object of the window: how many of its source symbols are closed, its first kept block, which slots are wanted (`wanted` of them), and which
-/// were sent.
+/// An object of the window. `closed` of its source symbols are closed, `first` is its first kept block, and `wanted` counts the slots in
+/// `wants`.
 ///
 /// Of the open round it keeps the slots that the round asks for, and the greatest count of each block. If `is_asked` is `false`, the round asks
 /// for nothing. All sets and counts are numbered from the first kept block on.
-// If `is_asked` is false, the object has no asked slots (its info's neither) and no counts, and every set has 256 slots for each block that has
-// room. Otherwise a closing would pass over an object of which something is asked for, or a slot would lie past its set.
+// If `is_asked` is false, the object has no asked slots (its info's neither) and no counts. Otherwise a closing would pass over an object of
+// which something is asked for. Every set has the info's slot and 256 slots for each block that has room. Otherwise a slot would lie past
+// its set.
 #[derive(Debug, Drop)]
 pub struct Marks {
     plan: Plan,
@@ -211,7 +212,7 @@ impl Marks {
         Marks::with_room(alloc, plan, 0, usize::from(room), false)
     }
 
-    /// Sets how many source symbols of the stream are closed. The round does not ask for those that become closed.
+    /// Sets how many source symbols of the stream are closed, as [`Union::grow`](crate::Union::grow) says.
     pub fn grow(&mut self, closed: u64)
         requires { CanGrow closed self.old }
         ensures { self.new ≡ record self.old { closed = closed } }
@@ -258,7 +259,7 @@ impl Marks {
         self.first
     }
 
-    /// Returns the slot of the object that slot 0 of the sets stands for.
+    /// Returns how far the object's slots lie above those of the sets.
     fn start(&self) -> usize
         ensures { result ≡ 256 * self.now.first }
     {
@@ -275,7 +276,7 @@ impl Marks {
         self.asked.rises();
     }
 
-    /// Whether something of the object is wanted. The cost is one comparison.
+    /// Whether something of the object is wanted.
     pub fn is_wanted(&self) -> bool
         ensures { result ≡ nat_lt 0 (length self.now.wants) }
     {
@@ -390,7 +391,7 @@ impl Marks {
         self.asked.has_info()
     }
 
-    /// Whether the round is known to ask for everything that these flags can ask for of the object.
+    /// Whether the round is known to ask for everything that these flags can ask for of the object, except parity.
     fn is_settled(&self, flags: u8) -> bool
         ensures { result ≡ true → (index : ℕ) (s : Span) → MoreOf (named_part flags s) index self.now self.now }
     {
@@ -415,15 +416,15 @@ impl Marks {
         self.ask_info_where(has_flag(flags, WANT_INFO));
     }
 
-    /// Asks for what is named of the object. `index` is the object's. Does nothing if the round is known to ask for all that the flags can ask
-    /// for.
+    /// Asks for the closed source symbols and the info that are named of the object. `index` is the object's. Does nothing if the round is
+    /// known to ask for all of these that the flags can ask for.
     pub fn ask_named(&mut self, index: u32, named: &Named)
         requires from { named.now.first.index ≤ index }
         requires to { index ≤ named.now.last.index }
         ensures more { MoreOf (named_part named.now.flags (span named.now.first named.now.last)) index self.old self.new }
         ensures planned { IsPlanned self.old → IsPlanned self.new }
     {
-        // A NACK may name one object over a hundred times. Each time after the first then costs a test, and not a pass over the object.
+        // A NACK may name one object over a hundred times. After a request for all of it, a repeated one costs a test, not a pass over it.
         if self.is_settled(named.flags) {
             return;
         }
@@ -471,7 +472,7 @@ impl Marks {
         self.is_asked = true;
     }
 
-    /// Closes the round: what it asked for is wanted. Returns how many wants are new. The cost is one test if the round asks for nothing.
+    /// Closes the round: what it asked for is wanted. Returns how many wants are new.
     pub fn close(&mut self) -> usize
         ensures marks { self.new ≡ closed_marks self.old }
         ensures new { length self.new.wants ≡ length self.old.wants + result }

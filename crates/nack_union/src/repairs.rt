@@ -1,5 +1,4 @@
-//! The symbols that a count of lacking symbols asks for (RFC 5740 section 5.4). [`Coverage`](crate::coverage::Coverage) calls it as a round
-//! closes.
+//! The symbols that a count of lacking symbols asks for (RFC 5740 section 5.4).
 
 ghost use Rattle.std.specs.Prelude.{◌≡◌, ◌+◌, ◌-◌, ◌<◌, ◌≤◌, min, nat_lt, length, map, take, ℕ, slice_index};
 ghost use Rattle.std.specs.List.{range_with_len};
@@ -14,7 +13,7 @@ use crate::slots::slot_of;
 use fec_plan::Plan;
 use symbol_mask::Mask;
 
-/// Returns how many symbols in `from..to` of a block were never sent, by one test for each.
+/// Returns how many symbols in `from..to` of a block were never sent.
 fn count_fresh(sent: &Mask, block: u32, from: u8, to: u8) -> u8
     requires { symbol_slot block to ≤ sent.now.size }
     ensures { result ≡ length (fresh_symbols sent.now.members block from (to - from)) }
@@ -77,7 +76,7 @@ fn ask_repairs(asked: &mut Mask, sent: &Mask, plan: &Plan, closed: u64, block: u
     let encoded = encoded_len(plan, closed, block);
     // As many symbols as it has sources decode a block, whatever a NACK claims.
     let count = lacking.min(sources);
-    // Parity that was never sent helps every receiver. Anything else may be what a receiver has, so if too little is left all sources come again.
+    // No receiver has parity that was never sent. Anything else a receiver may have, so if too little is left all sources come again.
     if count <= count_fresh(sent, block, sources, encoded) {
         ask_fresh(asked, sent, block, sources, encoded, count);
     } else {

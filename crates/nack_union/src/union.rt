@@ -1,4 +1,4 @@
-//! The [`Union`]: what is wanted of a sender's window and what was sent of it, by the sender's rules.
+//! The [`Union`]: what is wanted of a sender's window, what was sent of it, and what the open round asks for.
 
 ghost use Rattle.std.specs.Prelude.{◌≡◌, ◌<◌, ◌+◌, ◌-◌, ◌∷◌, [], length, IfOk, IsErr, MatchOption, None, Some, ℕ, List, slice_get, not, min, nat_lt};
 ghost use Rattle.std.specs.List.{list_any};
@@ -57,8 +57,8 @@ impl Model for Union {
 }
 
 impl Union {
-    /// Creates a union with an empty window. It takes no memory.
-    // All room is taken as objects and streams are admitted.
+    /// Creates a union with an empty window.
+    // All room is taken as objects and streams are admitted: a sender that hears a NACK or ends a round cannot report that memory ran out.
     pub fn new(alloc: Global, profile: &Profile) -> Union
         ensures empty { result ≡ empty_union profile.now }
         ensures begun { (instance : ℕ) → Stands result (sender_opening profile.now instance) }
@@ -70,14 +70,13 @@ impl Union {
         }
     }
 
-    /// Appends an object of which nothing is wanted and nothing was sent. `index` is one above that of the last object that joined, or 0 if none
-    /// joined.
+    /// Appends an object of which nothing is wanted and nothing was sent. `index` is the next one of this instance, from 0 on.
     ///
     /// # Errors
     ///
-    /// `Memory` if memory runs out. The union stays as it was. No later call needs memory for this object.
-    // Two calls, `admit` and `admit_stream`, because an object comes whole, with a number of blocks, all of it closed, and perhaps an info. A
-    // stream has no info and no number of blocks, and nothing of it is closed yet.
+    /// `Memory` if memory runs out. The union stays as it was.
+    // Two calls, `admit` and `admit_stream`: an object comes whole, with a number of blocks, all of it closed, and perhaps an info. A
+    // stream joins with none of these.
     pub fn admit(&mut self, index: u32, plan: &Plan, info: bool) -> Result<(), Memory>
         requires { index ≡ self.old.kept.first + length self.old.kept.objects }
         ensures exact { IfOk result (λ _. self.new ≡ record self.old { kept = with_object (admitted plan.now info) self.old.kept }) }
@@ -89,12 +88,11 @@ impl Union {
         Ok(())
     }
 
-    /// Appends a stream without closed segments, with room for the profile's number of blocks. `index` is one above that of the last object that
-    /// joined, or 0 if none joined.
+    /// Appends a stream without closed segments, with room for the profile's number of blocks. `index` is as for `admit`.
     ///
     /// # Errors
     ///
-    /// `Memory` if memory runs out. The union stays as it was. No later call needs memory for this stream.
+    /// `Memory` if memory runs out. The union stays as it was.
     pub fn admit_stream(&mut self, index: u32, plan: &Plan) -> Result<(), Memory>
         requires index { index ≡ self.old.kept.first + length self.old.kept.objects }
         requires stream { plan.now.l ≡ None }
@@ -107,8 +105,8 @@ impl Union {
         Ok(())
     }
 
-    /// Sets how many segments of the last object, a stream, are closed. `index` is the stream's. It takes no memory. The open round does not ask
-    /// for those that become closed.
+    /// Sets how many segments of the last object, a stream, are closed. `index` is the stream's. What the open round asks for so far takes
+    /// in those that become closed only by a count of their block.
     pub fn grow(&mut self, index: u32, segments: u32)
         requires index { index + 1 ≡ self.old.kept.first + length self.old.kept.objects }
         requires last { OfLast (MayGrow self.old.p segments) self.old.kept }
@@ -119,7 +117,7 @@ impl Union {
         self.collection.grow(index, u64::from(segments));
     }
 
-    /// Removes the last object. Call it right after the `admit` or `admit_stream` that it takes back.
+    /// Removes the last object: takes back its `admit` or `admit_stream`. Since that call, only `retire` may have come.
     pub fn withdraw(&mut self)
         requires { 0 < length self.old.kept.objects }
         ensures { (m : Marked) (u : UnionState) → self.old ≡ record u { kept = with_object m u.kept } → self.new ≡ u }
@@ -127,7 +125,7 @@ impl Union {
         self.collection.withdraw();
     }
 
-    /// Empties the window and the open round for another instance. It takes no memory.
+    /// Empties the window and the open round for another instance.
     pub fn clear(&mut self)
         ensures begun { (id : ℕ) → UnionMoves self.old self.new (begun_anew id) }
         ensures profile { self.new.p ≡ self.old.p }
@@ -157,15 +155,17 @@ impl Union {
         self.collection.note_sent(at);
     }
 
-    /// Returns the index of the last object that joined the window, even if it was dropped since. It is 0 if none joined.
+    /// Returns the index of the last object that joined this instance and was not withdrawn, even if it was dropped since. It is 0 if
+    /// there is none.
     pub fn known(&self) -> u32
         ensures { (s : SenderState) → Stands self.now s → result ≡ last_index s }
     {
         self.collection.known()
     }
 
-    /// Adds the requests of a NACK to the open round, or to a new one, as far as the window has what they ask for. Ignores an item whose object id
-    /// stands for no index, and a range if that is so of one of its ends.
+    /// Adds the requests of a NACK to the open round, or to a new one, as far as the window has what they ask for. Of what lies before the
+    /// window it notes only that it was asked for. Ignores an item whose object id stands for no index, and a range if that is so of one of
+    /// its ends.
     pub fn add(&mut self, requests: Requests<'_>)
         ensures stands { (s : SenderState) (now : ℕ) → Stands self.old s → Stands self.new (joined_round self.old.p s now requests.entry) }
         ensures profile { self.new.p ≡ self.old.p }
@@ -173,7 +173,7 @@ impl Union {
         self.collection.add(&self.profile, requests);
     }
 
-    /// Whether anything is wanted. The cost is one comparison.
+    /// Whether anything is wanted.
     pub fn is_wanted(&self) -> bool
         ensures { (s : SenderState) → Stands self.now s → result ≡ nat_lt 0 (length s.wants) }
     {
@@ -189,9 +189,9 @@ impl Union {
         self.collection.next()
     }
 
-    /// Closes the open round: what it asked for is wanted, and the next round begins empty (RFC 5740 section 5.4). Of a block that was counted, as
-    /// many symbols are wanted as the count says, at most its number of source symbols: its lowest parity symbols that were never sent, or all its
-    /// closed source symbols if too few are left.
+    /// Closes the open round: what it asked for is wanted, and the next round begins empty (RFC 5740 section 5.4). Of a block that was
+    /// counted, its lowest parity symbols that were never sent are wanted: as many as the count says, but at most its number of source
+    /// symbols. If fewer are left, all its closed source symbols are wanted.
     pub fn close_round(&mut self) -> Closed
         ensures stands { (r : Round) (s : SenderState) → s.round ≡ Some r → Stands self.old s → Stands self.new (round_closed self.old.p r s) }
         ensures answer { (r : Round) (s : SenderState) → s.round ≡ Some r → Stands self.old s

@@ -1,4 +1,4 @@
-//! What the words ask for of one node of a session over a network: `send`, `recv` or `hub`. The program calls [`node_task_of`].
+//! What the words ask for of one node of a session over a network: `send`, `recv` or `hub`. `norm_program` and `normd` call [`node_task_of`].
 
 ghost use Rattle.std.specs.Prelude.{◌≡◌, map, string_bytes, IfOk, IfSome};
 ghost use Rattle.std.specs.Option.{option_map};
@@ -100,7 +100,7 @@ fn send_in(alloc: Global, words: &[String]) -> Result<Option<NodeTask>, Memory>
     }
 }
 
-/// `None` if the words do not fit the form, or if the second is no number of a node.
+/// `None` if the words do not fit the form, or if the one after the profile is no number of a node.
 fn receive_in(alloc: Global, words: &[String]) -> Result<Option<NodeTask>, Memory>
     ensures task { IfOk result (λ task. task ≡ receive_in (map string_bytes words.now)) }
     ensures fits { IfOk result (λ task. IfSome task FitsNode) }

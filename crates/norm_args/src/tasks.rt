@@ -16,11 +16,11 @@ use std::alloc::Global;
 /// The options of a session. `chance` and `turns` override keys of the script.
 #[derive(Clone, Copy, Debug)]
 pub struct Options {
-    /// The seed of the draws of the network and of the receivers.
+    /// The seed of the draws of the network `chance`. Those of the receivers have the next number.
     pub chance: Option<u32>,
-    /// The most turns of the run.
+    /// The most turns of the run, those of tails not counted.
     pub turns: Option<u32>,
-    /// The turn after which the network loses nothing any more.
+    /// The turn after which, at the latest, the network loses nothing any more.
     pub tail: Option<u32>,
 }
 
@@ -83,7 +83,7 @@ fn options_with(
     }
 }
 
-/// `None` if the word of an option is not a number of its key: 0 to 4294967295 for `chance`, 1 to 4000000 for `turns`.
+/// `None` if the word of an option is not a number in its range: 0 to 4294967295 for `chance`, 1 to 4000000 for `turns` and `tail`.
 fn options_in(matches: &ArgMatches<'_>) -> Option<Options>
     ensures value { result ≡ options_in (rows_of (found_of matches.now)) }
     ensures fits { IfSome result FitsOptions }
@@ -105,7 +105,7 @@ fn number_in(matches: &ArgMatches<'_>) -> Option<u32>
     }
 }
 
-/// `None` if the words do not fit the form, or if an option gives a word that is no number of its key.
+/// `None` if the words do not fit the form, or if an option gives a word that is no number in its range.
 fn session_in(alloc: Global, words: &[String]) -> Result<Option<Task>, Memory>
     ensures task { IfOk result (λ task. task ≡ session_in (map string_bytes words.now)) }
     ensures fits { IfOk result (λ task. IfSome task FitsTask) }

@@ -1,8 +1,9 @@
-//! Why a call of the outside failed, in the system's words. The objects of `norm_host` keep it for a message to the user.
+//! Why a call of an input, an output or files failed. `norm_host` keeps it for a message to the user.
+//! Networks have a cause of their own, in `norm_udp`.
 
 use std::{fmt, io};
 
-/// What a failed call acted on, and the error of the system. It is for people: no clause mentions it.
+/// What a failed call acted on, and its error. It is for people: no clause mentions it.
 // Kept by the objects of the process, beside the count of faults that clauses speak of. So a cause can be said without a change of any trait or
 // contract.
 #[derive(Debug, Drop)]

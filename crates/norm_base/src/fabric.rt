@@ -1,4 +1,5 @@
-//! The trait of the network between the members of a session. `norm_memory` implements it in memory, `norm_udp` over sockets.
+//! The trait of the network between the members of a session. `norm_memory` implements it in memory, `norm_udp` over sockets, `norm_host`
+//! by the one of these that a profile names, and `norm_watch` around another network.
 
 ghost use Rattle.std.specs.Prelude.{◌≡◌, ◌≤◌, ℕ, [], length, IfOk, IfNone, OnOk, OnErr};
 ghost use Rattle.norm_base.specs.Faults.{Counts, network_failed};

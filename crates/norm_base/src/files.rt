@@ -1,4 +1,5 @@
-//! The trait of the files that are sent and stored. `norm_host` implements it for a folder, `norm_memory` for a list.
+//! The trait of the files that are sent and stored. `norm_host` implements it for a folder and the paths that a user gave, `norm_memory`
+//! for a list.
 
 ghost use Rattle.std.specs.Prelude.{◌≡◌, ◌<◌, ◌≤◌, ◌↔◌, ℕ, List, Option, length, take, drop, is_err, IfOk, OnOk, IfSome, IsNone, IsErrOf};
 ghost use Rattle.norm_base.specs.Faults.{Counts, file_failed};

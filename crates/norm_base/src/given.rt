@@ -1,4 +1,4 @@
-//! Collects the values that a script or a profile file sets, for [`Profile::of`](crate::profile::Profile::of).
+//! Collects the values that a script, a profile file or the input of `replay` sets, for [`Profile::of`](crate::profile::Profile::of).
 
 ghost use Rattle.std.specs.Prelude.{◌≡◌, IsTrue, true, is_some, unwrap_or};
 ghost use Rattle.norm_base.specs.Given.{nothing_given, given_at, give, default_beside, value_in, are_values, meets_rules, are_in_range};
@@ -60,7 +60,7 @@ impl Given {
     fn default_of(&self, key: Key) -> u32
         ensures { result ≡ default_beside (unwrap_or (given_at self.now Key.B) (row_of Key.B).default) key }
     {
-        // Half as much parity as data, as far as 255 encoded symbols go: a default that fits any `b` that is set.
+        // Half as much parity as data, as far as 255 encoded symbols go: a default that fits any `b` in its range.
         if key == Key::MaxN {
             let b = self.values[Key::B.place()].unwrap_or(Key::B.row().default);
             return 255.min(b.saturating_add(b / 2));

@@ -1,9 +1,10 @@
-//! The keys of a profile, in one table. [`Key::row`] has each key's name, range and default. Scripts, profile files and options are read by it.
+//! The keys of a profile, in one table. [`Key::row`] has each key's name, range and default. Scripts, profile files, options and the input
+//! of `replay` are read by it.
 
 ghost use Rattle.std.specs.Prelude.{◌≡◌, ◌≤◌, ◌-◌, map, length, ℕ, List, []};
 ghost use Rattle.norm_base.specs.Keys.{row_of, keys, key_named, place_of_word};
 
-/// A key of a profile. The field of `Profile` with the same name says what it is for.
+/// A key of a profile. `Profile` has a field with the same name.
 // The order matters: a variant's number is its index in `KEYS`. A new key needs an item there, a row in `row` and a field of `Profile`.
 #[derive(Clone, Copy, Debug, PartialEq, Eq)]
 pub enum Key {
@@ -149,7 +150,7 @@ impl Key {
             Key::B => numbers("b", 1, 200, 64),
             Key::MaxN => numbers("max_n", 1, 255, 96),
             Key::Auto => numbers("auto", 0, 255, 0),
-            // A receiver has as many slots for objects from the hand-up point on.
+            // 256: a receiver has this many slots for objects from the hand-up point on, whatever the value is.
             Key::Window => numbers("window", 1, 256, 256),
             // 2^24: the objects of a window lie in one ring, and a receiver takes an object's memory with its plan.
             Key::Octets => numbers("octets", 1, 16_777_216, 16_777_216),

@@ -2,8 +2,8 @@
 //! [`Moment`], [`Datagram`] and [`Profile`] first. The five traits of the outside are [`Source`], [`Sink`], [`Files`], [`Fabric`] and [`Clock`].
 #![tactic(auto)]
 
-// Of the outside only the traits stand here. A change of its objects in memory (norm_memory) or over the process (norm_host) then proves nothing
-// above the traits again.
+// Of the outside only the traits and `Cause` stand here. A change of its objects in memory (norm_memory) or over the process (norm_host)
+// then proves nothing above the traits again.
 mod cause;
 mod clock;
 mod datagram;

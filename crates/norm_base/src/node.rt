@@ -70,7 +70,7 @@ impl Model for Moment {
     ghost inverse = { λ n. record { 0 = n } };
 }
 
-/// Identifies a command: its producer, and the number that the producer gave it (1, 2, ..).
+/// Identifies a command: its producer, and its number among this producer's commands (1, 2, ..).
 #[derive(Clone, Copy, Debug, PartialEq, Eq, PartialOrd, Ord, Hash)]
 pub struct Origin {
     pub producer: u32,

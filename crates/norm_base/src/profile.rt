@@ -13,7 +13,7 @@ use std::marker::Model;
 
 /// The settings of a session: one field for each [`Key`], within that key's range. Also, `max_n`
 /// is at least `b`, and `blocks * b * e` is at most 16,777,216.
-// Every value is in its key's range. The ranges are what rules out overflow and want of room all over the code.
+// Every value is in its key's range. Code that would otherwise overflow relies on the ranges.
 #[derive(Clone, Copy, Debug, PartialEq, Eq)]
 pub struct Profile {
     /// The sender's first instance id.
@@ -30,11 +30,11 @@ pub struct Profile {
     pub b: u8,
     /// The encoding symbols of a block with `b` source symbols.
     pub max_n: u8,
-    /// How many parity symbols of a block are sent unasked. If a block has fewer, all of them.
+    /// How many parity symbols of a full block are sent unasked. If a block has fewer, all of them.
     pub auto: u8,
     /// The most objects and streams that the sender keeps.
     pub window: u16,
-    /// The most octets that the sender keeps, and that each receiver holds, streams with their whole buffers. So also the most of one object.
+    /// The most octets of contents that the sender keeps, and that each receiver holds, streams with their whole buffers.
     pub octets: u32,
     /// The blocks of a stream's buffer, at the sender and at each receiver.
     pub blocks: u16,

@@ -1,4 +1,5 @@
-//! The trait of an output. `norm_host` implements it for standard output, `norm_memory` for a list of octets.
+//! The trait of an output. `norm_host` implements it for standard output, `norm_memory` for a list of octets, and `norm_watch` around
+//! another sink.
 
 ghost use Rattle.std.specs.Prelude.{◌≡◌, ℕ, [], ◌∷◌, is_err, OnOk, OnErr};
 ghost use Rattle.norm_base.specs.Faults.{Counts};

@@ -1,5 +1,6 @@
 //! The commands of a sender (RFC 5740 section 4.2.3). [`read_command`] reads octets as a [`CommandMsg`], which borrows from them, and
-//! [`write_command`] writes one. A sender writes its FLUSH and SQUELCH with this crate; `norm_codec` reads and writes all commands with it.
+//! [`write_command`] writes one. A sender writes its FLUSH and SQUELCH with this crate, and a receiver asks [`names`] if a FLUSH is for it.
+//! `norm_codec` reads and writes all commands with this crate.
 #![tactic(auto)]
 
 mod command;

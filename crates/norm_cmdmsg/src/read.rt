@@ -1,4 +1,5 @@
-//! Reads commands (RFC 5740 section 4.2.3). The header is checked first, then the sub-type; each sub-type has its own reader.
+//! Reads commands (RFC 5740 section 4.2.3). The header is checked first, then the sub-type. Each sub-type has its own reader, except that
+//! the two whose content is kept unread share one.
 
 ghost use Rattle.std.specs.Prelude.{◌≡◌, ◌+◌, ◌*◌, ◌≤◌, ◌<◌, Ok, Err, MatchResult, IfOk, length};
 ghost use Rattle.norm_ext.specs.Places.{word_size, sub_type_at, command_header, naming_header};
@@ -170,7 +171,7 @@ fn read_by(sub_type: SubType, bytes: &[u8], end: usize) -> Result<CommandMsg<'_>
         SubType::Squelch => read_squelch(bytes, end),
         SubType::RepairAdvertisement => read_repair_adv(bytes, end),
         SubType::AckRequest => read_ack_req(bytes, end),
-        // Neither is used here. They are kept as octets, so that `show` can print every datagram.
+        // Neither is used here. They are kept as octets, so that `show` can print them.
         SubType::CongestionControl | SubType::Application => read_opaque(bytes),
     }
 }

@@ -1,4 +1,5 @@
-//! Writes commands (RFC 5740 section 4.2.3), each by one function of its own that asks for an empty datagram.
+//! Writes commands (RFC 5740 section 4.2.3), each by one function of its own, except that the two that are kept unread share one. Each
+//! asks for an empty datagram.
 
 ghost use Rattle.std.specs.Prelude.{◌≡◌, ◌+◌, ◌≤◌, ◌<◌, ◌%◌, ◌++◌, [], length};
 ghost use Rattle.norm_base.specs.Sizes.{datagram_room};

@@ -1,5 +1,5 @@
 //! Reads and writes any NORM message (RFC 5740 section 4). [`decode`] returns the [`Message`] that octets spell, or the first thing that is wrong
-//! with them. [`encode`] writes a message. Senders, receivers, `norm_udp` and `norm_show` read datagrams with [`decode`].
+//! with them. [`encode`] writes a message. Senders, receivers, `norm_multi`, `norm_udp` and `norm_show` read datagrams with [`decode`].
 #![tactic(auto)]
 
 mod message;

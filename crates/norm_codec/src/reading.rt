@@ -44,7 +44,7 @@ fn read_type(bytes: &[u8]) -> Result<MessageType, Refusal>
     }
 }
 
-/// Reads a message of this type. Its reader checks version and type once more, because each may be called by itself.
+/// Reads a message of this type. Its reader checks version and type once more.
 fn read_message(kind: MessageType, bytes: &[u8]) -> Result<Message<'_>, Refusal>
     ensures exact { MatchResult result (λ m. read_as kind bytes.now ≡ Ok (message_of m)) (λ refusal. read_as kind bytes.now ≡ Err refusal) }
     ensures whole { IfOk result IsWhole }

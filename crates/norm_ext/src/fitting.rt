@@ -1,4 +1,5 @@
-//! The limits that messages share. The `fits` of INFO, DATA, commands and feedback call these before anything is written.
+//! The limits that messages share, for the `fits` of INFO, DATA, commands and feedback. Feedback asks [`has_room`] alone, and a command
+//! that is kept unread asks [`is_narrow`] alone. The writers ask neither.
 
 ghost use Rattle.std.specs.Prelude.{◌↔◌, ◌*◌, ◌≤◌, IsTrue};
 ghost use Rattle.norm_ext.specs.Places.{word_size, most_header_words};

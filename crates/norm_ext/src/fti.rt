@@ -1,5 +1,5 @@
 //! The FEC Object Transmission Information of FEC Encoding ID 5, as a header extension (RFC 5510 section 5.2.4.1).
-//! A sender puts [`fti_words`] into each INFO and DATA; a receiver gets it back with [`read_fti`].
+//! A sender puts [`fti_words`] into each INFO and DATA. A receiver, `norm_udp` and `norm_show` get it back with [`read_fti`].
 
 ghost use Rattle.std.specs.Prelude.{◌≡◌, ◌+◌, ◌≤◌, ◌++◌, [], ◌∷◌, length};
 ghost use Rattle.norm_base.specs.Sizes.{datagram_room};
@@ -13,12 +13,12 @@ use std::marker::Model;
 /// The type of the extension.
 // RFC 5740 section 4.1, EXT_FTI.
 pub const FTI_TYPE: u8 = 64;
-// Our own layout, after RFC 5510 section 5.2.4.1: 48 bits of L, 16 of E, 8 of B and 8 of max_n behind type and length.
+// After RFC 5510 section 5.2.4.1: 48 bits of L, 16 of E, 8 of B and 8 of max_n behind type and length.
 const FTI_WORDS: u8 = 3;
 // Three words without the octets of the type and the length.
 const CONTENT: usize = 10;
 /// The offsets of the fields in the content.
-// The order of RFC 5510 section 5.2.4.1, with widths of our own.
+// The order of RFC 5510 section 5.2.4.1.
 const L_AT: usize = 0;
 
 const E_AT: usize = 6;
@@ -91,7 +91,7 @@ pub fn fti_words(fti: &Fti) -> [u8; 12]
 }
 
 /// Appends the twelve octets of the extension to a datagram.
-// Nothing calls it here. It is for programs over this crate that write extensions by themselves.
+// It is for programs over this crate that write extensions by themselves.
 pub fn write_fti(fti: &Fti, out: &mut Datagram)
     requires { length out.old + 12 ≤ datagram_room }
     ensures { out.new ≡ out.old ++ extension_octets (fti_extension fti.now) }

@@ -24,7 +24,7 @@ use norm_base::{InstanceId, NodeId};
 // RFC 5740 section 4.1. A datagram of another version is refused.
 pub const VERSION: u8 = 1;
 /// The FEC Encoding ID of Reed-Solomon over GF(2^8) (RFC 5510).
-// RFC 5510 section 5. Any other code is refused with `FecId`.
+// RFC 5510 section 5. Any other code is refused: with `FecId` in a header, and with `ItemFec` in an item.
 pub const ENCODING_ID: u8 = 5;
 
 /// Checks the version. `Short` if there is no whole common header, `Version` for another version.

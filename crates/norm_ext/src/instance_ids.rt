@@ -7,8 +7,8 @@ ghost use Rattle.norm_ext.specs.InstanceIds.{is_above, rise};
 use norm_base::{ID_COUNT, InstanceId};
 
 /// How far an id can lie above another one: less than half of all ids.
-// Our own choice, as with sequence numbers: of two ids never more than one lies above the other, going round. A sender refuses a restart that is
-// further above its first instance with `IdUsed`.
+// Our own choice: of two ids never more than one lies above the other, going round. A sender refuses a restart that is further above its
+// first instance with `IdUsed`.
 pub const MOST_RISE: u32 = 32_767;
 
 /// Returns how far `id` lies above `from`, modulo 65,536. Beyond [`MOST_RISE`] it is not above.

@@ -1,5 +1,6 @@
 //! The items of repair requests (RFC 5740 section 4.3.1): splits a list of them and says which symbols they name. A sender reads NACKs with
-//! these, and a receiver reads what others requested. `item_of` makes the items that a receiver writes.
+//! these, and a receiver reads what others requested. `norm_show` splits lists to print them. `item_of` makes the items that a receiver
+//! writes. `has_flag` tests flags, those of INFO and DATA too.
 
 ghost use Rattle.std.specs.Prelude.{◌≡◌, ◌<◌, ◌∷◌, [], MatchOption, length};
 ghost use Rattle.norm_ext.specs.Requests.{items_named};
@@ -76,7 +77,8 @@ pub fn ends_of(
     }
 }
 
-/// Returns the item that names a symbol. To a node that knows an index within 32,767 of `at.index`, it names this symbol.
+/// Returns the item that names a symbol. To a node that knows an index within 32,767 of `at.index`, it names this symbol if
+/// an object can have that index.
 pub fn item_of(profile: &Profile, at: Position) -> Item
     ensures { result ≡ item_at profile.now at }
 {

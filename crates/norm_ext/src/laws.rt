@@ -66,7 +66,7 @@ pub fn names_nearest()
     ensures { NamesNearest }
 {}
 
-/// If an index lies within 32,767 of what is known, the id of the index names it.
+/// If an object can have an index, and the index lies within 32,767 of what is known, the id of the index names it.
 pub fn named_again()
     ensures { NamedAgain }
 {}

@@ -1,9 +1,10 @@
-//! The grammar of NORM messages (RFC 5740 section 4), and the parts that all messages share: header extensions, the FEC Object Transmission
-//! Information, and repair requests.
+//! The grammar of NORM messages (RFC 5740 section 4), and the parts that several messages share: header extensions, the FEC Object
+//! Transmission Information, and repair requests.
 //!
-//! `specs/` has the whole grammar. `norm_objmsg`, `norm_cmdmsg`, `norm_fbmsg` and `norm_codec` read messages with [`header`] and
-//! [`Requests::check`], write them with [`pushing`], and check with [`fitting`] if a message can be written. What they read lends [`Extensions`] and
-//! [`Requests`], over which senders and receivers iterate. A receiver writes its requests with a [`RequestWriter`].
+//! `specs/` has the whole grammar. `norm_objmsg`, `norm_cmdmsg` and `norm_fbmsg` read messages with [`header`], and lists of requests with
+//! [`Requests::check`]. They write messages with [`pushing`], and check with [`fitting`] if a message can be written. `norm_codec` reads
+//! reports with [`header`] and writes them with [`pushing`]. What was read lends [`Extensions`] and [`Requests`], over which senders and
+//! receivers iterate. A receiver writes its requests with a [`RequestWriter`].
 #![tactic(auto)]
 
 mod extensions;

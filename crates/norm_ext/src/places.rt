@@ -24,8 +24,8 @@ pub const COMMON: usize = 8;
 pub const COMMON_WORDS: u8 = 2;
 
 /// The offset of the instance, of 16 bits, except in feedback.
-// From here to `NAME_AT`: the sender's messages, RFC 5740 sections 4.2.1 to 4.2.3. Feedback has an acknowledgement's type and id at the same
-// octets.
+// From here to `NAME_AT`: the sender's messages, RFC 5740 sections 4.2.1 to 4.2.3. An ACK has its type and id at the same octets as an
+// ACK_REQ.
 pub const INSTANCE_AT: usize = 8;
 /// The offset of the group's round trip time, in the RFC's code of one octet.
 pub const GRTT_AT: usize = 10;

@@ -64,7 +64,7 @@ fn push_one(item: &Item, out: &mut Datagram)
     push_name(&item.id, out);
 }
 
-/// Returns the octets of an item, or of the two ends of a range.
+/// Returns how many octets an item has, or the two ends of a range.
 fn ends_len(last: &Option<Item>) -> u16
     ensures exact { (first : Named) → result ≡ item_width * length (ends_of first last.now) }
     ensures few { result ≤ 2 * item_width }

@@ -9,7 +9,7 @@ use norm_ext::places::{FEEDBACK, ITEM};
 use norm_ext::{Extensions, Item, Requests};
 
 /// The type of an acknowledgement that answers a FLUSH (RFC 5740 section 4.3.2).
-// NORM_ACK_FLUSH. An acknowledgement of any other type is lent as it is, and not read.
+// NORM_ACK_FLUSH. The content of an acknowledgement of any other type is lent as it is, and not read.
 pub const FLUSH_ACK: u8 = 2;
 
 /// A NACK: a receiver requests repairs. If it was read, it borrows from the datagram.
@@ -33,7 +33,7 @@ pub enum AckBody<'a> {
     Opaque(&'a [u8]),
 }
 
-/// An ACK: a receiver answers the sender, which requested it by a FLUSH or an ACK_REQ. If it was read, it borrows from the datagram.
+/// An ACK: a receiver answers a sender that requested it. If it was read, it borrows from the datagram.
 #[derive(Debug, Drop)]
 pub struct AckMsg<'a> {
     pub source: NodeId,
@@ -62,7 +62,7 @@ impl<'a> NackMsg<'a> {
         parts_fit(&self.exts, self.requests.octets().len())
     }
 
-    /// Returns an iterator over its requests, from the first on. The message keeps its own.
+    /// Returns an iterator over its requests. The message keeps its own.
     pub fn requests(&self) -> Requests<'a>
         ensures { result ≡ self.now.requests }
     {

@@ -1,4 +1,4 @@
-//! The files of one folder, and of paths that a user gave: [`FolderFiles`]. `normd` makes them for the program.
+//! The files of one folder, and of paths that a user gave: [`FolderFiles`].
 
 ghost use Rattle.std.specs.Prelude.{◌≡◌, ◌↔◌, ◌+◌, ◌<◌, ◌≤◌, ◌++◌, [], ◌∷◌, None, Some, Ok, IsTrue, IsOk, IfSome, length, map, string_bytes, IfOk, IfErr, OnOk, OnErr, is_err, true, false};
 ghost use Rattle.std.specs.Fs.{metadata_len, file_type, IsFile};
@@ -25,26 +25,26 @@ fn is_name_octet(octet: u8) -> bool
     matches!(octet, b'a'..=b'z' | b'A'..=b'Z' | b'0'..=b'9' | b'.' | b'_' | b'-')
 }
 
-/// Whether each octet may stand in the name of a file, wherever it stands. True of an empty name.
+/// Whether each octet may stand in the name of a file. True of an empty name.
 fn has_name_octets(name: &[u8]) -> bool
     ensures { result ≡ list_all is_name_octet name.now }
 {
     name.iter().all(|octet| is_name_octet(*octet))
 }
 
-/// Whether this is the name of a file: 1 to 64 letters, digits, `.`, `_` or `-`, of which the first is no `.`.
+/// Whether this is the name of a file: 1 to 64 ASCII letters, digits, `.`, `_` or `-`, of which the first is no `.`.
 fn is_file_name(name: &[u8]) -> bool
     ensures { result ≡ is_file_name name.now }
 {
-    // The names of scripts, and nothing else: a name with a slash or a leading dot could lead out of the folder. A symbolic link in it is the
-    // user's own: a read follows it, and a put takes its place.
+    // A name with a slash or a leading dot could lead out of the folder. A symbolic link in it is the user's own: a read follows it, and a
+    // put that succeeds takes its place.
     if name.is_empty() || name.len() > 64 || name[0] == b'.' {
         return false;
     }
     has_name_octets(name)
 }
 
-/// Returns the folder, a `/` and the name, whatever they are. Fails only if memory runs out.
+/// Returns the folder, a `/` and the name.
 fn path_in(alloc: Global, folder: &str, name: &str) -> Result<String, AllocError>
     ensures { IfOk result (λ path. string_bytes path ≡ path_in folder.now name.now) }
 {
@@ -54,7 +54,7 @@ fn path_in(alloc: Global, folder: &str, name: &str) -> Result<String, AllocError
     Ok(path)
 }
 
-/// Returns the path at which a put writes first, `.NAME.part` beside the file. It is not the path of any file of the folder, since its name begins
+/// Returns the path at which a put writes first, `.NAME.part` beside the file. No name of a file leads to it in the folder, since it begins
 /// with a `.`.
 fn path_beside(alloc: Global, folder: &str, name: &str) -> Result<String, AllocError>
     ensures { IfOk result (λ path. string_bytes path ≡ path_beside folder.now name.now) }
@@ -67,7 +67,7 @@ fn path_beside(alloc: Global, folder: &str, name: &str) -> Result<String, AllocE
     Ok(path)
 }
 
-/// Whether a name is one of these paths, octet for octet: `./a` is not `a`. Walks the list.
+/// Whether a name is one of these paths, octet for octet: `./a` is not `a`.
 fn is_one_of(paths: &[String], name: &str) -> bool
     ensures { result ≡ is_told (map string_bytes paths.now) name.now }
 {
@@ -79,7 +79,7 @@ fn is_one_of(paths: &[String], name: &str) -> bool
     false
 }
 
-/// Returns how many octets a plain file has. Any other file fails as a folder does, a device and a pipe too. Call it before the file is opened.
+/// Returns how many octets a plain file has. Any other fails as a folder does. Call it before the file is opened.
 pub(crate) fn length_in(metadata: &Metadata) -> io::Result<u64>
     ensures file { IsOk result ↔ IsFile (file_type metadata.now) }
     ensures length { IfOk result (λ n. n ≡ metadata_len metadata.now) }
@@ -99,7 +99,7 @@ fn seek_to<S: Seek>(file: &mut S, offset: u64) -> io::Result<()>
     Ok(())
 }
 
-/// Returns `Absent` only if the error says that no file has that name. A lack of memory is `Failed`.
+/// Returns `Absent` only if the error says that no file has that name.
 fn fault_of(error: &io::Error) -> FileFault
     ensures { (result ≡ FileFault.Absent) ↔ (error_kind error.now ≡ NotFound) }
 {
@@ -109,11 +109,11 @@ fn fault_of(error: &io::Error) -> FileFault
     FileFault::Failed
 }
 
-/// The most octets of a file that one read asks for, and that are kept for the next ones.
+/// The most octets of a file that are read ahead.
 // Our own choice, 256 KiB. Without this a file would be opened, measured and read anew for each symbol.
 const AHEAD: usize = 262_144;
 
-/// What the last read ahead found from an offset of a file on. No octets if that was the end of the file.
+/// What the last read ahead found from an offset of a file on. No octets if the file had ended there.
 #[derive(Drop)]
 struct Ahead {
     name: String,
@@ -122,8 +122,8 @@ struct Ahead {
 }
 
 impl Ahead {
-    /// Copies octets from an offset of a file into `buf`, as many as were read ahead and have room. Returns how many. `None` if there are none, or
-    /// those read ahead are of another file.
+    /// Copies octets from an offset of a file into `buf`, as many as were read ahead and have room. Returns how many. `None` if there are
+    /// none, or those read ahead are of another file.
     fn give(&self, name: &str, offset: u64, buf: &mut [u8]) -> Option<usize>
         ensures { IfSome result (λ n. (0 < n) × (n ≤ length buf.old)) }
     {
@@ -144,12 +144,12 @@ impl Ahead {
     }
 }
 
-/// How often a file's length is answered from memory, before the system is asked again. While a file's command waits, each turn asks for its length.
-// Our own choice. After a file changed while its command waits, its old length is answered 64 times at most. If the file is sent by that length,
-// one that grew is cut there, and one that shrank is a fault.
+/// How often a file's length is answered from memory, before the system is asked again.
+// Our own choice. While a file's command waits, each turn asks for its length, and a file that changes has its old one 64 times at most. If
+// it is sent by that, one that grew is cut there, and one that shrank is a fault.
 const AS_SAID: u32 = 64;
 
-/// A file's length as the system said it. It may be answered `left` times more before the system is asked again.
+/// A file's length as the system said it, which may be answered `left` times more.
 #[derive(Drop)]
 struct Said {
     name: String,
@@ -158,7 +158,7 @@ struct Said {
 }
 
 impl Said {
-    /// Returns the length once more. `None` if it is of another file, or was answered [`AS_SAID`] times.
+    /// Returns the length once more. `None` if it is of another file, or `left` is 0.
     fn again(&mut self, name: &str) -> Option<u64>
         ensures length { IfSome result (λ n. n ≡ self.old.length) }
         ensures fewer { IfSome result (λ _. self.old.left ≡ self.new.left + 1) }
@@ -172,13 +172,14 @@ impl Said {
     }
 }
 
-/// The files of one folder, and the paths that it was told ([`tell`](FolderFiles::tell)), each of which is measured and read as it stands. Any other
-/// name that is not the name of a file, such as one with a slash or that begins with a `.`, is absent. A put never goes to a path that was told: it
-/// fails if its name is not the name of a file, and else writes a file beside that name in the folder and renames it, so that nobody sees a part of
-/// it. A read that finds no octet, and a lack of memory in a read, a put or a length, are faults. Contracts cannot rely on what the files hold.
+/// The files of one folder, and the paths that it was told ([`tell`](FolderFiles::tell)), each of which is measured and read as it stands.
+/// Any other name that is not the name of a file is absent. A put does not heed the paths that were told: it fails if its name is not the
+/// name of a file, or if what has that name in the folder is no plain file or cannot be measured. It writes a file beside that name and
+/// renames it, so that the name does not lead to a part of it unless two put it at once. A read at the end of a file, and a length or a
+/// read of what is no plain file, are faults. Contracts cannot rely on what the files hold.
 ///
-/// A read keeps up to 262,144 octets of the file for the next reads, until one of them needs others, a length is asked for, or a file is put. If a
-/// file's length is asked for again and again, with no other call between, the system is asked once in 65 times.
+/// A read keeps up to 262,144 octets of the file for the next reads. If the length of a file that is there is asked for again and again,
+/// with no other call between, the system is asked once in 65 times.
 #[derive(Drop)]
 pub struct FolderFiles<F> {
     files: F,
@@ -193,7 +194,7 @@ pub struct FolderFiles<F> {
 }
 
 impl<F: fs::Files + Drop> FolderFiles<F> {
-    /// Returns the files of this folder, which need not be there yet. Opens nothing.
+    /// Returns the files of this folder, which need not be there yet.
     ///
     /// # Errors
     ///
@@ -216,13 +217,13 @@ impl<F: fs::Files + Drop> FolderFiles<F> {
         })
     }
 
-    /// Adds a path that is measured and read as it stands, a relative one from the folder in which the process runs. A put does not go there.
+    /// Adds a path that is measured and read as it stands, a relative one from the folder in which the process runs.
     ///
     /// # Errors
     ///
     /// `Memory` if memory runs out.
-    // The program reads files by name, and a path as the shell gives it may be no name of a file here. So `main` of `normd` calls this before it runs
-    // the program.
+    // The program reads files by name, and a path as the shell gives it may be no name of a file here. So `main` of `normd` calls this
+    // before it runs the program.
     pub fn tell(&mut self, path: &str) -> Result<(), Memory>
         ensures told { OnOk result (told_to self.new ≡ told_to self.old ++ path.now ∷ []) }
         ensures kept { OnErr result (told_to self.new ≡ told_to self.old) }
@@ -234,16 +235,16 @@ impl<F: fs::Files + Drop> FolderFiles<F> {
         Ok(())
     }
 
-    /// Has the next read, put or length fail, and only that one, because the instance of a send could not be kept. A send first loads its profile, so
-    /// nothing is sent, and the program ends as after any fault of files.
+    /// Has the next read, put or length fail, and only that one, because no instance could be drawn for a send. A send first loads its
+    /// profile, so nothing is sent.
     pub fn stop(&mut self, fault: InstanceFault)
         ensures stopped { is_stopped self.new ≡ true }
         ensures told { told_to self.new ≡ told_to self.old }
         ensures folder { folder_of self.new ≡ folder_of self.old }
         ensures uncounted { ⟦<FolderFiles<F> as Files>⟧.fault_count self.new ≡ ⟦<FolderFiles<F> as Files>⟧.fault_count self.old }
     {
-        // If the number cannot be kept, nothing is sent: the next send could draw it again, and its receivers would confirm what they do not have.
-        // As a fault of files it ends the program by a way that is proved already.
+        // If the number cannot be kept, nothing is sent: the next send could draw it again, and its receivers would confirm what they do
+        // not have. As a fault of files it ends the program by a way that is proved already.
         self.stopped = Some(fault);
     }
 
@@ -268,8 +269,7 @@ impl<F: fs::Files + Drop> FolderFiles<F> {
         }
     }
 
-    /// Returns the path of a file in the folder. Looks only at the name: the file need not be there. Any other error than `NotFound` is a lack of
-    /// memory.
+    /// Returns the path of a file in the folder, which need not be there. Any other error than `NotFound` is a lack of memory.
     fn path(&self, name: &str) -> io::Result<String>
         ensures path { IfOk result (λ path. (string_bytes path ≡ path_in (string_bytes self.now.folder) name.now) × IsTrue (is_file_name name.now)) }
         ensures absent { IfErr result (λ error. (error_kind error ≡ NotFound) ↔ (is_file_name name.now ≡ false)) }
@@ -286,8 +286,8 @@ impl<F: fs::Files + Drop> FolderFiles<F> {
         is_one_of(&self.told, name)
     }
 
-    /// Returns the path at which a name is read: the name itself if it was told as a path, even if the folder has a file of this name, and else the
-    /// path of the file in the folder.
+    /// Returns the path at which a name is read: the name itself if it was told as a path, even if the folder has a file of this name, and
+    /// else the path of the file in the folder.
     fn path_read(&self, name: &str) -> io::Result<String>
         ensures path { IfOk result (λ path. path_read (string_bytes self.now.folder) (told_to self.now) name.now ≡ Some (string_bytes path)) }
         ensures absent { IfErr result (λ error. (error_kind error ≡ NotFound) ↔ (path_read (string_bytes self.now.folder) (told_to self.now) name.now ≡ None)) }
@@ -298,7 +298,7 @@ impl<F: fs::Files + Drop> FolderFiles<F> {
         self.path(name)
     }
 
-    /// Returns how many octets the plain file at this path has. Asks the system each time, and follows a symbolic link.
+    /// Returns how many octets the plain file at this path has. Follows a symbolic link.
     fn plain_length(&self, path: &str) -> io::Result<u64> {
         length_in(&fs::metadata(&self.files, path)?)
     }
@@ -345,8 +345,8 @@ impl<F: fs::Files + Drop> FolderFiles<F> {
         }
     }
 
-    /// Reads octets of a file ahead, from an offset on, into this memory. It opens the file and reads once, so fewer than [`AHEAD`] octets may come
-    /// before the end of the file. Fails if it is no plain file.
+    /// Reads octets of a file ahead, from an offset on, into this memory. It reads once, so fewer than [`AHEAD`] octets may come before the
+    /// end of the file. Fails if it is no plain file.
     fn ahead_of(&self, name: &str, offset: u64, room: Vec<u8>) -> io::Result<Ahead> {
         let path = self.path_read(name)?;
         self.plain_length(path.as_str())?;
@@ -373,8 +373,8 @@ impl<F: fs::Files + Drop> FolderFiles<F> {
         }
     }
 
-    /// Reads at least one octet of a file, from an offset on, out of what was read ahead. If it is not there, reads ahead from that offset first.
-    /// Fails with `UnexpectedEof` at the end of the file.
+    /// Reads at least one octet of a file, from an offset on, out of what was read ahead, or reads ahead from there. Fails with
+    /// `UnexpectedEof` at the end of the file.
     fn read_of(&mut self, name: &str, offset: u64, buf: &mut [u8]) -> io::Result<usize>
         ensures count { IfOk result (λ n. (0 < n) × (n ≤ length buf.old)) }
         ensures faults { self.new.faults ≡ self.old.faults }
@@ -392,8 +392,8 @@ impl<F: fs::Files + Drop> FolderFiles<F> {
         }
     }
 
-    /// Writes the octets beside the file at this path, and renames that to its name. If one of them fails, removes what it wrote. Does not wait until
-    /// the file would survive a power cut.
+    /// Writes the octets beside the file at this path, and renames that to its name. If one of them fails, tries to remove what it wrote.
+    /// Does not wait until the file would survive a power cut.
     fn write_beside(&self, path: &str, name: &str, bytes: &[u8]) -> io::Result<()> {
         let beside = path_beside(self.alloc, &self.folder, name)?;
         let mut done = fs::write(&self.files, beside.as_str(), bytes);
@@ -401,7 +401,7 @@ impl<F: fs::Files + Drop> FolderFiles<F> {
             done = fs::rename(&self.files, beside.as_str(), path);
         }
         if done.is_err() {
-            // It may not be there. What counts is why the write failed.
+            // It may not be there. What counts is why the put failed.
             let _ = fs::remove_file(&self.files, beside.as_str());
         }
         done

@@ -1,15 +1,15 @@
-//! [`FolderCause`], which [`FolderFiles::cause`](crate::FolderFiles::cause) returns. `normd` prints it after the program ended.
+//! [`FolderCause`], which [`FolderFiles::cause`](crate::FolderFiles::cause) returns.
 
 use crate::instance_fault::InstanceFault;
 use norm_base::Cause;
 use std::fmt;
 
-/// What a failed call of a folder's files was about, for people: no clause speaks of it.
+/// What a failed call of a folder's files was about, for people.
 #[derive(Debug, Drop)]
 pub enum FolderCause {
     /// A file could not be read, measured or written.
     File(Cause),
-    /// The instance of a send could not be kept, so the next call failed, whichever it was ([`stop`](crate::FolderFiles::stop)).
+    /// No instance could be drawn for a send ([`stop`](crate::FolderFiles::stop)).
     Instance(InstanceFault),
 }
 

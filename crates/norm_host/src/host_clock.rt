@@ -1,4 +1,4 @@
-//! The process's clock: [`HostClock`]. `normd` makes one for the program.
+//! The process's clock: [`HostClock`].
 
 ghost use Rattle.std.specs.Prelude.{◌≡◌, ◌≤◌, ◌/◌, ◌^◌, ℕ, Option, None, Some, IfSome, IfNone};
 ghost use Rattle.std.specs.Duration.{as_nanos};
@@ -7,8 +7,8 @@ ghost use Rattle.norm_host.specs.Clocks.{first_reading, last_moment, first_with,
 use norm_base::{Clock, Moment};
 use std::time::{self, Duration};
 
-/// A clock of std, in microseconds since its first reading. If a reading fails, it gives the last moment again, and 0 before the first. Contracts
-/// cannot rely on its moments.
+/// A clock of std, in microseconds since its first reading. If a reading fails, it gives the last moment again, and 0 before the first.
+/// Contracts cannot rely on its moments.
 #[derive(Drop)]
 pub struct HostClock<C> {
     clock: C,
@@ -34,7 +34,8 @@ impl<C: time::Clock> HostClock<C> {
         micros_of(self.clock.monotonic().ok()?)
     }
 
-    /// Returns the moment of a reading: how far it lies after the first one, or 0 if it lies before that. Keeps the reading if it is the first.
+    /// Returns the moment of a reading: how far it lies after the first one, or 0 if it lies before that. Keeps the reading if it is the
+    /// first.
     fn since_first(&mut self, reading: u64) -> u64
         ensures start { first_reading self.new ≡ first_with (first_reading self.old) (Some reading) }
         ensures moment { result ≡ since_first (first_reading self.old) reading }

@@ -1,4 +1,4 @@
-//! The network that a profile names: [`HostFabric`]. `normd` makes one for the program.
+//! The network that a profile names: [`HostFabric`].
 
 ghost use Rattle.std.specs.Prelude.{◌≡◌, ◌≤◌, false, true, length, [], None, IfOk, IfNone, IsErrOf, OnOk, OnErr, if◌then◌else◌};
 ghost use Rattle.norm_base.specs.Faults.{Counts, network_failed};
@@ -19,7 +19,8 @@ use std::sync::Wait;
 use std::thread::Threads;
 use std::time::Clock;
 
-/// Closes all sockets, and starts the network that the profile names. They stay closed also if the start fails.
+/// Closes the sockets of an earlier start, as [`UdpFabric::close`] does, and starts the network that the profile names. They stay closed
+/// also if the start fails.
 fn begin<R: Net + Wait + Clock + Drop>(
     direct: &mut DirectFabric,
     chance: &mut ChanceFabric,
@@ -65,10 +66,10 @@ fn is_within(profile: &Profile, local: &Local) -> bool
     }
 }
 
-/// The network that a profile names: in memory, or of sockets. In this order: [`start_threads`](HostFabric::start_threads) if threads are to send,
-/// `start`, `offer` and `take` at will, and [`drain`](HostFabric::drain) before the process ends. Calls go to the network of the last start that
-/// was `Ok`, and before one to a direct network. A node of its own and the hub start only over sockets. Over sockets contracts cannot rely on what
-/// was sent or received, and a call may fail.
+/// The network that a profile names: in memory, or of sockets. In this order: [`start_threads`](HostFabric::start_threads) if threads are
+/// to send, `start`, `offer` and `take` at will, and [`drain`](HostFabric::drain) before the process ends. Offers and takes go to the
+/// network of the last start that was `Ok`, and before one to a direct network. A node of its own and the hub start only over sockets.
+/// Over sockets contracts cannot rely on what was sent or received, and a call may fail.
 #[derive(Drop)]
 pub struct HostFabric<R> {
     starts: Vec<(Profile, Local)>,
@@ -76,7 +77,7 @@ pub struct HostFabric<R> {
     direct: DirectFabric,
     chance: ChanceFabric,
     udp: UdpFabric<R>,
-    /// What the last failed call was about, if it was a start that was refused before any socket was made.
+    /// What the last failed call was about, if it was a start that [`refuse`](HostFabric::refuse) refused.
     refused: Option<SocketCause>,
     faults: u64,
 }
@@ -111,15 +112,15 @@ impl<R: Net + Wait + Clock + Drop> HostFabric<R> {
         })
     }
 
-    /// Waits until threads have sent all that was offered, for some seconds at most. Call it before the process ends, because its threads end with
-    /// it. Returns why a thread could not send, if no call reported it.
+    /// Waits until threads have sent all that was offered, and returns why one could not, as [`UdpFabric::drain`] does. Call it before the
+    /// process ends.
     pub fn drain(&self) -> Option<SocketCause>
         ensures { tells_sending result ≡ true }
     {
         self.udp.drain()
     }
 
-    /// Returns what the last failed call was about. `None` if none failed yet.
+    /// Returns what the last failed call was about, apart from those for want of memory. `None` if there was none.
     pub fn cause(&self) -> Option<&SocketCause> {
         match &self.refused {
             Some(cause) => Some(cause),
@@ -127,7 +128,7 @@ impl<R: Net + Wait + Clock + Drop> HostFabric<R> {
         }
     }
 
-    /// Refuses a start over a network in memory, and keeps that as what the last failed call was about.
+    /// Refuses a start over a network in memory, and keeps that as the cause.
     fn refuse(&mut self, fabric: FabricKind) -> Result<(), FabricFault>
         ensures failed { IsErrOf result FabricFault.Failed }
         ensures state { self.new ≡ host_failed self.old }
@@ -138,7 +139,7 @@ impl<R: Net + Wait + Clock + Drop> HostFabric<R> {
         Err(FabricFault::Failed)
     }
 
-    /// Returns what a call answered. If it failed, counts it; its cause is then that of the sockets. A lack of memory is not counted.
+    /// Returns what a call answered. If it failed, counts it; its cause is then that of the sockets.
     fn answer<T>(&mut self, done: Result<T, FabricFault>) -> Result<T, FabricFault>
         ensures same { result ≡ done }
         ensures state { self.new ≡ (if network_failed done then host_failed self.old else self.old) }
@@ -153,12 +154,11 @@ impl<R: Net + Wait + Clock + Drop> HostFabric<R> {
 }
 
 impl<R: Net + Threads + Wait + Clock + Copy + Send + Drop + 'static> HostFabric<R> {
-    /// Starts threads that send over sockets, for a hub and for a sender alone: as many as this machine has processors for, and none if it has fewer
-    /// than four. Call it before `start`.
+    /// Starts threads that send over sockets, for a hub and for a sender alone, as many as [`Senders::start`] does. Call it before `start`.
     ///
     /// # Errors
     ///
-    /// `Memory` if memory runs out or a thread cannot be made. Each node then sends by itself.
+    /// `Memory` if memory runs out or a thread cannot be made. Nothing changes then.
     pub fn start_threads(&mut self, alloc: Global, rt: R) -> Result<(), Memory>
         ensures { self.new ≡ self.old }
     {
@@ -181,7 +181,7 @@ impl<R: Net + Wait + Clock + Drop> Fabric for HostFabric<R> {
         ensures err { OnErr result (host_told self.new ≡ host_told self.old) }
         ensures cause { Counts self.old.faults self.new.faults (network_failed result) }
     {
-        // No other process can join a network in memory. The node would run alone and end with status 0.
+        // No other process can join a network in memory. The node would run alone.
         if is_within(profile, &local) {
             return self.refuse(profile.fabric);
         }

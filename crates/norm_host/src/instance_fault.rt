@@ -2,16 +2,15 @@
 
 use std::{fmt, io};
 
-/// What the user can do then: a given instance is used even if it cannot be kept.
+/// What the user can do: a given instance is used even if it cannot be kept.
 const ADVICE: &str = "give --instance I, or the key instance";
 
-/// Why the instance of a send could not be kept. `Display` gives the sentence for the user, with what can be done.
+/// Why no instance could be drawn for a send.
 #[derive(Debug, Drop)]
 pub enum InstanceFault {
     /// Neither `XDG_STATE_HOME` nor `HOME` is a UTF-8 path that begins at the root.
     NoFolder,
-    /// The number could not be read from or kept in the file at this path. `error` may also be of its folder, its lock, the file beside it, or the
-    /// clock.
+    /// The number could not be read from or kept in the file at this path. `error` need not be of the file itself.
     File { path: String, error: io::Error },
 }
 

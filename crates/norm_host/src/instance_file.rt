@@ -1,4 +1,4 @@
-//! The file that keeps the last instance of a sender from send to send: [`InstanceFile`]. `normd` makes one in the user's [`state_folder`].
+//! The file that keeps an instance of a sender from send to send: [`InstanceFile`], which `normd` makes in the user's [`state_folder`].
 
 ghost use Rattle.std.specs.Prelude.{◌≡◌, ◌≤◌, ◌<◌, length, ℕ, List, Option, string_bytes, IfOk, IfSome};
 ghost use Rattle.std.specs.Option.{option_map};
@@ -17,8 +17,8 @@ use std::io::{self, ErrorKind, Read, Write};
 use std::os::unix::fs::{DirBuilderExt, OpenOptionsExt};
 use std::rt::Env;
 
-/// One octet more than the longest line of a number, so that a longer file is seen to be longer.
-// A number of 16 bits has at most five digits, and then comes a line feed. A file that fills this is no such line.
+/// One octet more than the longest line of a number, so that a longer file shows.
+// A number of 16 bits has at most five digits, and then comes a line feed.
 const ROOM: usize = 7;
 
 /// Who may use a folder that is made here, and what is in it: its user alone.
@@ -27,7 +27,7 @@ const FOLDER_MODE: u32 = 0o700;
 
 const FILE_MODE: u32 = 0o600;
 
-/// What to say of a kept file that holds another text. Such a file is never written over.
+/// What to say of a kept file that holds another text. A draw or a keep does not write over such a file.
 const NO_NUMBER: &str = "it holds no number from 0 to 65535";
 
 fn is_absolute(path: &[u8]) -> bool
@@ -70,8 +70,8 @@ fn variable<R: Env + AllocGlobal>(rt: &R, name: &str) -> Result<Option<String>, 
     }
 }
 
-/// Returns the user's folder for what the program keeps, which need not be there: `normd` in $XDG_STATE_HOME, or else in $HOME/.local/state. `None`
-/// if neither variable is a UTF-8 path that begins at the root; a relative one would name another folder for each folder that the program runs in.
+/// Returns the user's folder for what the program keeps, which need not be there: `normd` in $XDG_STATE_HOME, or else in
+/// $HOME/.local/state. `None` if neither variable is a UTF-8 path that begins at the root.
 ///
 /// # Errors
 ///
@@ -115,10 +115,10 @@ fn read_up_to<S: Read>(file: &mut S, buf: &mut [u8]) -> io::Result<usize>
     Ok(done)
 }
 
-/// The file `PORT-SENDER` of a folder. It holds one decimal line: the last instance that a send of this sender took, of all that use the hub at
-/// this port. [`draw`](InstanceFile::draw) takes the next one, and [`keep`](InstanceFile::keep) keeps one that was given. Both make the folder if
-/// it is not there, for its user alone. They lock `PORT-SENDER.lock` as long as they read and write, and write the next number to
-/// `PORT-SENDER.part` before they rename it.
+/// The file `PORT-SENDER` of a folder. It holds one decimal line: an instance that a send of this sender took, of those that use the hub at
+/// this port. [`draw`](InstanceFile::draw) takes the next one, and [`keep`](InstanceFile::keep) keeps one that was given or that a restart
+/// took. Both make the folder if it is not there, for its user alone. They lock `PORT-SENDER.lock` as long as they read and write, and
+/// write a number to `PORT-SENDER.part` before they rename it.
 #[derive(Drop)]
 pub struct InstanceFile<R> {
     rt: R,
@@ -158,8 +158,8 @@ impl<R: fs::Files<File = File> + Drop> InstanceFile<R> {
         })
     }
 
-    /// Makes the folder if it is not there, and waits, without a limit, until no other process has the lock. None gets it as long as the returned
-    /// file is open.
+    /// Makes the folder if it is not there, and waits, without a limit, for the lock. No other process gets it as long as the returned file
+    /// is open.
     fn locked(&self) -> io::Result<File> {
         let mut folder = DirBuilder::new();
         folder.recursive(true).mode(FOLDER_MODE);
@@ -169,8 +169,7 @@ impl<R: fs::Files<File = File> + Drop> InstanceFile<R> {
         Ok(lock)
     }
 
-    /// Reads the file from its beginning. Returns how many octets there were, as far as they have room. `None` if it is not there. Fails if it is no
-    /// plain file.
+    /// Reads the file from its beginning. Returns how many octets it read. `None` if it is not there. Fails if it is no plain file.
     fn line(&self, buf: &mut [u8]) -> io::Result<Option<usize>>
         ensures { IfOk result (λ found. IfSome found (λ n. n ≤ length buf.old)) }
     {
@@ -184,8 +183,8 @@ impl<R: fs::Files<File = File> + Drop> InstanceFile<R> {
         Ok(Some(read_up_to(&mut file, buf)?))
     }
 
-    /// Returns the number that the file holds. `None` if it is not there. Fails with `InvalidData` if it holds any other text. Call it under the
-    /// lock.
+    /// Returns the number that the file holds. `None` if it is not there. Fails with `InvalidData` if it holds any other text. Call it
+    /// under the lock.
     fn last(&self) -> io::Result<Option<InstanceId>>
         ensures { IfOk result (λ last. IfSome last (λ n. n < id_count)) }
     {
@@ -199,8 +198,8 @@ impl<R: fs::Files<File = File> + Drop> InstanceFile<R> {
         }
     }
 
-    /// Writes the number beside the file, and renames that to the file's name after it would survive a power cut. Waits until the new name would,
-    /// too. Call it under the lock.
+    /// Writes the number beside the file, and renames that to the file's name after it would survive a power cut. Waits until the new name
+    /// would, too, if the file system can. Call it under the lock.
     fn write(&self, instance: InstanceId) -> io::Result<()> {
         let line = number_line(self.alloc, instance)?;
         let mut how = to_write();
@@ -213,7 +212,7 @@ impl<R: fs::Files<File = File> + Drop> InstanceFile<R> {
         sync_folder(&fs::open(&self.rt, self.folder.as_str())?)
     }
 
-    /// Takes the next instance in this minute, and keeps it. Two processes that do so at once take two. Waits while another one does.
+    /// Takes the next instance in this minute, and keeps it. Waits while another process does so, and takes another one than that.
     ///
     /// # Errors
     ///
@@ -229,7 +228,8 @@ impl<R: fs::Files<File = File> + Drop> InstanceFile<R> {
         Ok(instance)
     }
 
-    /// Keeps an instance that was given, if it lies above the last one. If not, the last one stays, and is returned.
+    /// Keeps an instance that was given or that a restart took, if it lies above the one that the file holds or there is none. If not,
+    /// that one stays, and is returned.
     ///
     /// # Errors
     ///
@@ -238,8 +238,8 @@ impl<R: fs::Files<File = File> + Drop> InstanceFile<R> {
         ensures { IfOk result (λ passed. (last : Option ℕ) × (IfSome last (λ n. n < id_count)) × (passed ≡ passed_by last instance)) }
     {
         let _lock = self.locked()?;
-        // One that is not above is used all the same, with a warning: whoever gives it may have started all receivers anew. The last one stays, so
-        // that later numbers are above those that were used.
+        // One that is not above is used all the same: whoever gives it may have started all receivers anew. The kept one stays, so that
+        // the next number that is drawn lies above it.
         match passed_by(self.last()?, instance) {
             Some(last) => Ok(Some(last)),
             None => {
@@ -249,7 +249,7 @@ impl<R: fs::Files<File = File> + Drop> InstanceFile<R> {
         }
     }
 
-    /// Returns what to say of a call that failed. It takes no memory.
+    /// Returns what to say of a call that failed.
     pub fn into_fault(self, error: io::Error) -> InstanceFault {
         InstanceFault::File {
             path: self.path,

@@ -1,6 +1,5 @@
-//! Which instance a send takes, and the line that keeps the last one. An instance lies above the last one that a send of this user and sender took at
-//! the port (RFC 5740 section 4.2.1): a receiver that runs on passes over any other, or takes its objects for those that it has. `InstanceFile` and
-//! `normd` call this.
+//! Which instance (RFC 5740 section 4.2.1) a send draws, and the line that keeps one. A drawn one lies above the one that is kept for this
+//! user, sender and port. Our own choice: our receivers that run on may pass over another, or take its objects for those that they have.
 
 ghost use Rattle.std.specs.Prelude.{◌≡◌, ◌<◌, ◌^◌, ℕ, decimal, string_bytes, IfNone, IfOk, IfSome};
 ghost use Rattle.std.specs.Duration.{as_nanos};
@@ -21,8 +20,8 @@ pub fn minute_at(since_1970: Duration) -> InstanceId
     InstanceId((since_1970.as_secs() / 60 % u64::from(ID_COUNT)) as u16)
 }
 
-/// Returns the last instance that was taken, if `instance` does not lie above it: receivers that know the last one pass `instance` over, or take it
-/// for that one. `None` also if none was taken.
+/// Returns `last` if `instance` does not lie above it: receivers that know `last` may pass `instance` over, or take it for that one. `None`
+/// also if there is no `last`.
 pub(crate) fn passed_by(last: Option<InstanceId>, instance: InstanceId) -> Option<InstanceId>
     ensures { result ≡ passed_by last instance }
 {
@@ -45,10 +44,10 @@ fn id_after(id: InstanceId) -> InstanceId
     InstanceId(id.0.wrapping_add(1))
 }
 
-/// Returns the instance that a send takes in this minute. `last` is the last one that was taken, if one was, and the result lies above it
+/// Returns the instance that a send draws in this minute. `last` is the one that is kept, if one is, and the result lies above it
 /// ([`next_is_above`](crate::laws::next_is_above)).
-// By the minute and a kept number. The minute alone would be shared by two sends within it, and falls with the clock. A number alone begins anew
-// if its folder is lost, and may then be one that receivers had.
+// By the minute and a kept number. The minute alone would be shared by two sends within it, and falls with the clock. A number alone begins
+// anew if its folder is lost, and may then be one that receivers had.
 pub fn next_instance(last: Option<InstanceId>, minute: InstanceId) -> InstanceId
     ensures { result ≡ next_instance last minute }
 {
@@ -88,7 +87,7 @@ fn number_of(digits: &str) -> Option<InstanceId>
     None
 }
 
-/// Returns the number that a line of [`number_line`] keeps. `None` for any other text, for example with a leading zero or without its line feed.
+/// Returns the number that a line of [`number_line`] keeps. `None` for any other text.
 pub(crate) fn number_in(line: &[u8]) -> Option<InstanceId>
     ensures some { IfSome result (λ number. line.now ≡ number_line number) }
     ensures none { IfNone result ((number : ℕ) → number < 2 ^ 16 → line.now ≡ number_line number → ⊥) }

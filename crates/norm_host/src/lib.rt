@@ -1,13 +1,13 @@
-//! The outside of a process, as the traits of `norm_base`: streams ([`StdSource`], [`StdSink`]), files ([`FolderFiles`]), a clock ([`HostClock`]),
-//! and the network that a profile names ([`HostFabric`]). [`InstanceFile`] keeps the last instance that a send took. `normd` makes these objects, and
-//! runs the program on them.
+//! The outside of a process, as the traits of `norm_base`: streams ([`StdSource`], [`StdSink`]), files ([`FolderFiles`]), a clock
+//! ([`HostClock`]), and the network that a profile names ([`HostFabric`]). [`InstanceFile`] keeps, from send to send, the instance above
+//! which the next one that is drawn lies.
 #![tactic(auto)]
 
 mod folder;
 mod folder_cause;
 mod host_clock;
-// Sockets are in norm_udp, so that after a change of a file's or a stream's adapter nothing of them is proved again. They are not published again
-// here: the program meets them through `HostFabric`.
+// Sockets are in norm_udp, so that after a change of a file's or a stream's adapter nothing of them is proved again. They are not published
+// again here: the program meets them through `HostFabric`.
 mod host_fabric;
 mod instance_fault;
 mod instance_file;

@@ -1,4 +1,4 @@
-//! Standard output as a sink: [`StdSink`]. `normd`, `replay` and test programs make one.
+//! A writer of std, such as standard output, as a sink: [`StdSink`].
 
 ghost use Rattle.std.specs.Prelude.{◌≡◌, None, true, is_err, OnOk};
 ghost use Rattle.std.specs.Io.KnownBytes.{Appends};
@@ -8,8 +8,8 @@ ghost use Rattle.norm_host.specs.Streams.{writer_of};
 use norm_base::{Cause, Failed, Sink};
 use std::io::{self, Write};
 
-/// A writer of std as a sink. Each write flushes. Contracts cannot rely on what was written, except as the writer itself promises it: a write that
-/// was `Ok` wrote all octets. One that failed may have written some or all of them.
+/// A writer of std as a sink. A write that is `Ok` has flushed. Contracts cannot rely on what was written, except as the writer itself
+/// promises it: a write that was `Ok` wrote all octets. One that failed may have written some or all of them.
 #[derive(Drop)]
 pub struct StdSink<W> {
     writer: W,
@@ -34,7 +34,7 @@ impl<W: Write> StdSink<W> {
         self.cause.as_ref()
     }
 
-    /// Counts a failed write, and keeps why it failed in place of the cause before. Takes no memory.
+    /// Counts a failed write, and keeps why it failed in place of the cause before.
     fn keep(&mut self, error: io::Error)
         ensures writer { writer_of self.new ≡ writer_of self.old }
         ensures counted { Counts self.old.faults self.new.faults true }
@@ -57,7 +57,7 @@ impl<W: Write> Sink for StdSink<W> {
             self.keep(error);
             return Err(Failed);
         }
-        // Flushed at each write, so that whoever follows the output sees it at once, and a fault is reported at the line that failed.
+        // Flushed at each write, so that whoever follows the output sees it at once, and a fault is reported at the write that failed.
         if let Err(error) = self.writer.flush() {
             self.keep(error);
             return Err(Failed);

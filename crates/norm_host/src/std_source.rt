@@ -1,4 +1,4 @@
-//! Standard input as a source: [`StdSource`]. `normd`, `replay` and test programs make one.
+//! A reader of std, such as standard input, as a source: [`StdSource`].
 
 ghost use Rattle.std.specs.Prelude.{◌≡◌, ◌↔◌, ◌+◌, ◌^◌, ◌<◌, ◌≤◌, None, Some, true, IsTrue, length, is_err, IfOk, OnOk, OnErr};
 ghost use Rattle.std.specs.Io.KnownBytes.{ReadConsumes};
@@ -9,12 +9,12 @@ use norm_base::{Cause, Failed, Source};
 use std::io::{self, ErrorKind, Read};
 
 /// The most octets that a source gives in all its reads.
-// Our own choice, so that a count of octets always fits. No input is that long; beyond it a read fails.
+// Our own choice, so that a count of octets fits 63 bits. Beyond it a read fails.
 const MOST: u64 = (1 << 63) - 1;
 
-/// A reader of std as a source. Contracts cannot rely on what is left, except as the reader itself promises it: a read that was `Ok` consumed
-/// what it gave, 0 octets into a buffer with room is the reader's end, and a failed read consumed nothing. It gives fewer than 2^63 octets: a
-/// read fails if its buffer has room for more.
+/// A reader of std as a source. Contracts cannot rely on what is left, except as the reader itself promises it: a read that was `Ok`
+/// consumed what it gave, 0 octets into a buffer with room is the reader's end, and a failed read consumed nothing. It gives fewer than
+/// 2^63 octets: a read fails if its buffer has room for more.
 #[derive(Drop)]
 pub struct StdSource<R> {
     reader: R,
@@ -42,7 +42,7 @@ impl<R: Read> StdSource<R> {
         self.cause.as_ref()
     }
 
-    /// Counts a failed read, and keeps why it failed in place of the cause before. Takes no memory.
+    /// Counts a failed read, and keeps why it failed in place of the cause before.
     fn keep(&mut self, error: io::Error)
         ensures reader { reader_of self.new ≡ reader_of self.old }
         ensures given { self.new.given ≡ self.old.given }

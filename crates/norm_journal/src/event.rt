@@ -18,8 +18,8 @@ pub enum Event {
     Pull {
         by: Origin,
     },
-    /// A command was offered to the sender. If it had to wait, it is offered again in each turn. `job` comes with the first offer, or, for a
-    /// file, with the offer that accepts it.
+    /// A command was offered to the sender. If it had to wait, it is offered again in the next turn. `job` comes with the first offer, or,
+    /// for a file, with the offer that accepts it.
     // A command that waits is offered in each turn, and would otherwise stand in the journal with all its octets each time. A file's octets come
     // with the offer that accepts it, because a sender refuses by name and length alone.
     Job {
@@ -63,6 +63,6 @@ pub enum Event {
     News(News),
     /// The run ended with its summary.
     // The summary is an event, so that every printed line of a journal is that of one. A file that is not there is no event: the journal stops
-    // after the pull of its command.
+    // before the offer of its command.
     End,
 }

@@ -27,7 +27,7 @@ pub fn fronts_happen()
     ensures { FrontsHappen }
 {}
 
-/// Each producer's pulls are its commands in their order.
+/// In an accepted journal, the pulls of each producer are its first commands, in their order. The others are left to pull.
 #[tactic(auto, using(crate::proofs::PullLemmas::pulls_in_order))]
 pub fn pulls_in_order()
     ensures { PullsInOrder }
@@ -53,13 +53,14 @@ pub fn begins_honestly()
     ensures { BeginsHonestly }
 {}
 
-/// If the takes of a session are honest, the nodes have a lawful run: nothing comes too late. The script must be one that can be run.
+/// If the takes of a session are honest, the nodes have a lawful run: nothing comes too late. The script must be one that can be run, and
+/// the octets of files must be octets as they are read.
 #[tactic(auto, using(crate::proofs::TimeLemmas::begins_lawfully))]
 pub fn begins_lawfully()
     ensures { BeginsLawfully }
 {}
 
-/// A sender's answer to a file depends only on the file's name and length.
+/// Of a file, a sender's answer depends only on the name and the length.
 // Proof: the rules are given zeros of the file's length (file_of_length), so they need no second function by lengths.
 #[tactic(auto, using(crate::proofs::LengthLemmas::files_by_length))]
 pub fn files_go_by_length()
@@ -114,7 +115,7 @@ pub fn goes_on()
     ensures { GoesOn }
 {}
 
-/// Each command of a script has a name of its own.
+/// In a script that can be run, no two commands have the same producer and number.
 // Proof: that a name stands once is a count, so a line from the middle of a list is arithmetic.
 pub fn scripts_name_once()
     ensures { ScriptsNameOnce }

@@ -2,7 +2,8 @@
 //!
 //! An [`Event`] is one thing that a session did, with what it gave. A journal is the list of all of them in order. The judge is a definition
 //! (`specs/Accepting`): it goes through the events and gives the state after each one that may come. `norm_session`, `norm_node` and
-//! `norm_turns` call the functions that make a session's lines ([`gave_line`] and others), and count with [`Totals`].
+//! `norm_turns` call the functions that make a session's lines ([`gave_line`] and others). `norm_session` and `norm_program` count with
+//! [`Totals`].
 #![tactic(auto)]
 
 mod event;

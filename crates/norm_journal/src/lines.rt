@@ -1,5 +1,5 @@
-//! The lines that a session prints. Each call makes one line, in the memory of the line before. If memory runs out, the text may hold a prefix
-//! of the line.
+//! The lines that a session's events print, except the summary's, and [`of_line`] for nodes that hear several senders. Each call makes
+//! at most one line, in the memory of the line before. If memory runs out, the text may hold a prefix of the line.
 
 ghost use Rattle.std.specs.Prelude.{◌≡◌, ◌∷◌, [], ◌++◌, codes, decimal, length, IfOk, OnOk};
 ghost use Rattle.std.specs.Option.{option_map};
@@ -19,7 +19,7 @@ use norm_send_rules::{
 use norm_text::{Line, kind_word};
 use std::alloc::AllocError;
 
-/// Begins the line of an accepted command, in place of the line before. The caller adds what was accepted, and the line feed.
+/// Begins an `enq` line, in place of the line before. The caller adds what was accepted, and the line feed.
 fn begin_enq(
     text: &mut Line,
     by: Origin,
@@ -103,7 +103,7 @@ fn begin_mark(
     Ok(())
 }
 
-/// The line of a watermark. It ends with the quorum if the command gave one.
+/// `number` is the watermark's, and `quorum` the command's. If the command gave none, the line has none.
 fn mark_line(
     text: &mut Line,
     by: Origin,
@@ -190,7 +190,7 @@ fn receipt_line(
 /// The word for a refusal's reason, and its number if it has one.
 type Reason = (&'static str, Option<u64>);
 
-/// The reason for which nothing was enqueued. `None` if the refusal has no line: the command has to wait, or memory ran out.
+/// The reason for which nothing was enqueued. `None` if the refusal has no line, as when the command has to wait.
 fn enqueue_reason(fault: &EnqueueFault) -> Option<Reason>
     ensures { option_map (λ reason. (reason.0.now, reason.1)) result ≡ enqueue_reason fault.now }
 {
@@ -218,7 +218,7 @@ fn strike_reason(fault: &StrikeFault) -> Reason
     }
 }
 
-/// The reason for which a command was refused. `None` if the refusal has no line: the command has to wait, or memory ran out.
+/// The reason for which a command was refused. `None` if the refusal has no line, as when the command has to wait.
 fn reason_of(fault: &SendFault) -> Option<Reason>
     ensures { option_map (λ reason. (reason.0.now, reason.1)) result ≡ reason_of fault.now }
 {
@@ -277,7 +277,7 @@ pub fn refusal_line(text: &mut Line, by: Origin, fault: &SendFault) -> Result<bo
     }
 }
 
-/// Puts what each hand-up's line begins with: a node, the instance that it is in, and an object's index.
+/// Puts what each hand-up's line has after `up`: a node, the instance that it is in, and an object's index.
 fn put_part(
     text: &mut Line,
     node: NodeId,

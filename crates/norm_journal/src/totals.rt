@@ -23,7 +23,7 @@ fn fits(count: u64, more: u64) -> bool
 pub struct Totals {
     /// Accepted objects. A stream counts as one.
     pub objects: u64,
-    /// Their octets, without infos.
+    /// Their octets that were accepted, without infos.
     pub octets: u64,
     /// Data, files and ended streams that were handed up, over all receivers.
     pub handed: u64,
@@ -80,8 +80,8 @@ impl Totals {
         }
     }
 
-    /// Counts what the sender gave to a command: an accepted object or stream, and its octets. A refusal, a watermark, a restart and a strike count
-    /// nothing.
+    /// Counts what the sender gave to a command: an accepted object or stream, and accepted octets. A refusal, a close, a watermark, a restart and a
+    /// strike count nothing.
     pub fn count_gave(&mut self, gave: &Result<Receipt, SendFault>)
         requires { CountsFit (with_gave gave.now self.old) }
         ensures { self.new ≡ with_gave gave.now self.old }

@@ -72,7 +72,7 @@ fn plan_by_chance(
 
 /// A network in memory by chance. For each other member of an offer it draws one 32-bit word w of PCG32, which begins from the profile's seed
 /// `chance`. If w mod 1000 is below `loss`, the copy is lost. If w / 1000 mod 1000 is below `repeat`, it comes twice. It is ready after w / 1000000
-/// mod (`late` + 1) further offers. Ready copies are taken as in `ListFabric`. A call fails only if memory runs out.
+/// mod (`late` + 1) further kept offers. Ready copies are taken as in `ListFabric`. A call fails only if memory runs out.
 #[derive(Debug, Drop)]
 pub struct ChanceFabric {
     network: MemNetwork,
@@ -100,7 +100,8 @@ impl ChanceFabric {
         })
     }
 
-    /// Returns the datagram at this index, from 0, of those offered since the last start, and who offered it. `None` if there are not so many.
+    /// Returns the datagram at this index, from 0, of those kept since the last `Ok` start, and who offered it. `None` if there are not so
+    /// many.
     pub fn offered(&self, place: usize) -> Option<(NodeId, &[u8])>
         ensures { option_map (λ x. (x.0, x.1.now)) result ≡ first_of (drop place self.now.network.offered) }
     {

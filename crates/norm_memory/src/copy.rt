@@ -12,9 +12,9 @@ use std::cmp::Ordering;
 /// one of the earlier offer, then the one for the lower node.
 #[derive(Clone, Copy, Debug, PartialEq, Eq)]
 pub struct WaitingCopy {
-    /// It is ready after this many offers since the start.
+    /// It is ready after this many kept offers since the start.
     pub ready: u64,
-    /// The index of its offer, from 0, among those since the start.
+    /// The index of its offer, from 0, among those kept since the start.
     pub offer: usize,
     pub to: NodeId,
 }

@@ -12,8 +12,8 @@ use norm_base::{Datagram, Fabric, FabricFault, Local, Memory, NodeId, Profile};
 use std::alloc::Global;
 use std::marker::Model;
 
-/// A network in memory that loses nothing: each offered datagram comes once to each other member, in the order of the offers and of the members, and
-/// a take gives the first that was not taken yet. A call fails only if memory runs out.
+/// A network in memory that loses nothing within a session: each kept datagram comes once to each other member, in the order of the offers
+/// and of the members, and a take gives the first that was not taken yet. A call fails only if memory runs out.
 #[derive(Debug, Drop)]
 pub struct DirectFabric {
     network: MemNetwork,
@@ -40,7 +40,8 @@ impl DirectFabric {
         })
     }
 
-    /// Returns the datagram at this index, from 0, of those offered since the last start, and who offered it. `None` if there are not so many.
+    /// Returns the datagram at this index, from 0, of those kept since the last `Ok` start, and who offered it. `None` if there are not so
+    /// many.
     pub fn offered(&self, place: usize) -> Option<(NodeId, &[u8])>
         ensures { option_map (λ x. (x.0, x.1.now)) result ≡ first_of (drop place self.now.offered) }
     {

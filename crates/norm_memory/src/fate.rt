@@ -5,6 +5,6 @@
 pub struct Fate {
     /// How often it comes. 0 if it is lost.
     pub copies: u8,
-    /// After how many further offers of any member it is ready. 0 if at once.
+    /// After how many further kept offers of any member it is ready. 0 if at once.
     pub after: u32,
 }

@@ -10,8 +10,9 @@ use norm_base::{Datagram, Fabric, FabricFault, Local, Memory, NodeId, Profile};
 use std::alloc::Global;
 use std::marker::Model;
 
-/// A network in memory that gives the datagrams of a list, one for each take, and then nothing. It keeps what is offered and gives it to nobody, so
-/// it is not honest. A start does not begin the list again. A call fails only if memory runs out.
+/// A network in memory that gives the datagrams of a list, one for each take, and then nothing. It is not honest: it gives them whether
+/// they were offered or not. It keeps what is offered and gives it to nobody. A start does not begin the list again. A call fails only if
+/// memory runs out.
 // Each datagram of the list has at most 1,500 octets. A longer one would find no room in what is lent to `take`.
 #[derive(Debug, Drop)]
 pub struct FeedFabric {
@@ -53,7 +54,8 @@ impl FeedFabric {
         })
     }
 
-    /// Returns the datagram at this index, from 0, of those offered since the last start, and who offered it. `None` if there are not so many.
+    /// Returns the datagram at this index, from 0, of those kept since the last `Ok` start, and who offered it. `None` if there are not so
+    /// many.
     pub fn offered(&self, place: usize) -> Option<(NodeId, &[u8])>
         ensures { option_map (λ x. (x.0, x.1.now)) result ≡ first_of (drop place self.now.offered) }
     {

@@ -1,5 +1,5 @@
 //! The outside of a node in memory, by the traits of `norm_base`: sources, sinks, files, clocks and networks. `norm_host` runs sessions in one
-//! process over [`DirectFabric`] and [`ChanceFabric`]. Tests use the rest.
+//! process over [`DirectFabric`] and [`ChanceFabric`]. Tests use the other networks, and the sources, sinks, files and clocks.
 #![tactic(auto)]
 
 mod calls;

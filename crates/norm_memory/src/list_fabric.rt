@@ -15,9 +15,10 @@ use norm_base::{Datagram, Fabric, FabricFault, Local, Memory, NodeId, Profile};
 use std::alloc::Global;
 use std::marker::Model;
 
-/// A network in memory like [`DirectFabric`](crate::DirectFabric), except that rules say which copies are lost, repeated or late, and that listed
-/// offers and takes fail. A failed one is counted and does nothing else. Offers and takes have numbers from 1 since the last start that was `Ok`,
-/// failed ones too. Ready copies are taken in the order in which they became ready, then of their offers, then of the nodes that they are for.
+/// A network in memory like [`DirectFabric`](crate::DirectFabric), except that rules say which copies are lost, repeated or late, and that
+/// listed offers and takes fail. A failed one is counted and changes nothing else of the network. Offers and takes have numbers from 1
+/// since the last start that was `Ok`, failed ones too. Ready copies are taken in the order in which they became ready, then of their
+/// offers, then of the nodes that they are for.
 #[derive(Debug, Drop)]
 pub struct ListFabric {
     network: MemNetwork,
@@ -56,14 +57,15 @@ impl ListFabric {
         })
     }
 
-    /// Returns the datagram at this index, from 0, of those offered since the last start, and who offered it. `None` if there are not so many.
+    /// Returns the datagram at this index, from 0, of those kept since the last `Ok` start, and who offered it. `None` if there are not so
+    /// many.
     pub fn offered(&self, place: usize) -> Option<(NodeId, &[u8])>
         ensures { option_map (λ x. (x.0, x.1.now)) result ≡ first_of (drop place self.now.network.offered) }
     {
         self.network.offered(place)
     }
 
-    /// Returns how many takes were asked for since the last start, failed ones too.
+    /// Returns how many takes were asked for since the last `Ok` start, failed ones too.
     pub fn takes(&self) -> u64
         ensures { result ≡ self.now.takes.made }
     {

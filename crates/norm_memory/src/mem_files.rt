@@ -76,7 +76,8 @@ impl Model for MemFiles {
 }
 
 impl MemFiles {
-    /// Returns files with these names, which differ, and these octets. Their calls with these numbers, from 1, fail.
+    /// Returns files with these names, which are to differ, and these octets. Their calls with these numbers, from 1, fail, except a
+    /// `length` or `read_at` of a name that is not there.
     pub fn of(files: Vec<(String, Vec<u8>)>, failing: Vec<u64>) -> MemFiles
         ensures files { result.files ≡ named files.items }
         ensures calls { result.calls ≡ record { failing = failing.items; made = 0; faults = 0 } }

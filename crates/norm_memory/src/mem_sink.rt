@@ -12,7 +12,7 @@ use std::alloc::{AllocError, Global};
 use std::marker::Model;
 
 /// Octets in memory. A call fails, and changes nothing but its counts, if its number is listed or if memory runs out.
-// The ends never fall, and the last one is the end of the octets, so that the pieces in their order are all octets.
+// The ends never fall, and the last one, if any, is the end of the octets, so that the pieces in their order are all octets.
 #[derive(Debug, Drop)]
 pub struct MemSink {
     octets: Vec<u8>,

@@ -1,4 +1,5 @@
-//! What the networks in memory keep: the offers, the answers, and the copies that wait ([`MemNetwork`]).
+//! What the networks in memory except `FeedFabric` keep: the starts, the members, the offers, the answers, and the copies that wait
+//! ([`MemNetwork`]).
 
 ghost use Rattle.std.specs.Prelude.{◌≡◌, ◌≢◌, ◌≤◌, ◌+◌, ◌<◌, ◌^◌, ◌++◌, length, List, ℕ, drop, option_map, replicate, IfSome, IfNone, IfOk, OnOk, OnErr, []};
 ghost use Rattle.norm_memory.specs.Fates.{AreForOthers, copies_of};
@@ -20,7 +21,7 @@ fn session_members(alloc: Global, profile: &Profile) -> Result<Vec<NodeId>, Allo
     ensures { IfOk result (λ members. members.items ≡ members_of profile.now) }
 {
     let mut members = Vec::new(alloc);
-    // A profile's sender is a node, so this does not fail.
+    // A profile's sender is a node, so `unwrap` does not fail.
     members.push(NodeId::of(profile.sender).unwrap())?;
     for i in 0..u32::from(profile.receivers) {
         members.push(profile.receiver(i))?;
@@ -177,14 +178,15 @@ impl MemNetwork {
             self.answers.push(None)?;
             return Ok(None);
         };
-        // Before the copy leaves the heap: without memory the take did nothing, and the copy is still there.
+        // Before the copy leaves the heap: without memory the copy is still there.
         self.answers.push(Some((copy.to, copy.offer)))?;
         into.push(self.offers.bytes(copy.offer));
         self.waiting.take_first();
         Ok(Some(copy.to))
     }
 
-    /// Returns the datagram at this index, from 0, of those offered since the last start, and who offered it. `None` if there are not so many.
+    /// Returns the datagram at this index, from 0, of those kept since the last `Ok` start, and who offered it. `None` if there are not so
+    /// many.
     pub(crate) fn offered(&self, place: usize) -> Option<(NodeId, &[u8])>
         ensures { option_map (λ x. (x.0, x.1.now)) result ≡ first_of (drop place self.now.offered) }
     {

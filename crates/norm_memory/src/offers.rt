@@ -16,7 +16,7 @@ struct Offer {
 }
 
 /// Datagrams of at most 1,500 octets, with the members that offered them. The octets of all are in one vector.
-// One vector for all octets and none for each datagram, so that an offer takes memory only as the vectors grow.
+// One vector for all octets and none for each datagram, so that `push` takes memory only as the vectors grow.
 #[derive(Debug, Drop)]
 pub(crate) struct Offers {
     octets: Vec<u8>,

@@ -11,8 +11,8 @@ use std::alloc::{AllocError, Global};
 /// What becomes of some datagrams. If several rules name an offer and a member, the first one counts.
 #[derive(Clone, Copy, Debug, PartialEq, Eq)]
 pub enum Rule {
-    /// The offer of this number, from 1 since the last start and with those that failed, comes `copies` times to this member. It is ready after `after`
-    /// further offers.
+    /// The offer of this number, from 1 since the last `Ok` start and with those that failed, comes `copies` times to this member. It is
+    /// ready after `after` further offers that were `Ok`.
     Copies {
         offer: u64,
         to: NodeId,

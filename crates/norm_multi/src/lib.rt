@@ -1,6 +1,6 @@
 //! Receivers of several senders at once, without I/O (RFC 5740 section 5.3). [`Multi`] has a receiver for each sender, with a profile and a node of
-//! its own, and gives each datagram to the receiver of the sender that it belongs to. Each receiver does what it would do if its sender were
-//! alone.
+//! its own, and gives each datagram to the receiver of the sender that it belongs to, if it has one. Each receiver does what it would do if its
+//! sender were alone.
 #![tactic(auto)]
 
 mod beginning;

@@ -93,7 +93,7 @@ impl Multi {
 
     /// Delivers a datagram to the receiver of the sender that it belongs to, and returns that sender. A NACK or an ACK belongs to the sender that
     /// it names. Returns `None` if the octets spell no message, or a report, or if that sender is not one of these. Then nothing changes. If a
-    /// back-off begins, `draw` decides how long it lasts. The datagram is decoded twice: for its owner, and by the receiver.
+    /// back-off begins, `draw` decides how long it lasts. A datagram of one of these is decoded twice, for its owner and by the receiver.
     ///
     /// # Errors
     ///

@@ -1,4 +1,4 @@
-//! Hand-ups, each with its file and its line.
+//! Hand-ups: a line for each, and before it the file if the hand-up is one.
 
 ghost use Rattle.std.specs.Prelude.{◌≡◌, ℕ, [], false, IfOk, IfErr, OnOk, OnErr};
 ghost use Rattle.norm_turns.specs.Causes.{HasCause, FilesCause, counted};
@@ -81,7 +81,7 @@ impl ReceiverRun {
         Ok(true)
     }
 
-    /// Takes all hand-ups of the receiver, and puts the file and writes the line of each.
+    /// Takes all hand-ups of the receiver. Puts the file of each that is one, and writes the line of each.
     ///
     /// # Errors
     ///

@@ -69,8 +69,8 @@ impl HubRun {
         self.profile.step
     }
 
-    /// Begins the next turn. Its moment is its number times the profile's step. If the step is 0, it is the clock's, or the moment before if the
-    /// clock went backwards.
+    /// Begins the turn with this number. Its moment is that number times the profile's step. If the step is 0, it is the clock's, or the
+    /// moment before if the clock went backwards.
     fn begin_turn<C: Clock>(&mut self, number: u32, clock: &mut C)
         requires number { number ≡ self.old.turn + 1 }
         requires left { self.old.turn < self.old.p.turns }
@@ -84,7 +84,7 @@ impl HubRun {
         self.now = moment;
     }
 
-    /// Begins the turn with this number, and passes on what the network has ready. The hub itself sends nothing.
+    /// Begins the turn with this number, and passes on what the network has ready, as [`pass_all`]. The hub itself sends nothing.
     fn turn<F: Fabric, C: Clock>(
         &mut self,
         number: u32,
@@ -130,7 +130,7 @@ impl HubRun {
     }
 }
 
-/// Runs the hub between a session's nodes, each in a process of its own, for exactly the turns of a profile. It starts the network as the
+/// Runs the hub between a session's nodes, each in a process of its own, for all turns of a profile. It starts the network as the
 /// hub. Then it offers each datagram that it takes again, once and in order, as from its member. It prints nothing.
 ///
 /// # Errors

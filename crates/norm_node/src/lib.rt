@@ -2,7 +2,8 @@
 //! [`run_receiver`] and [`run_hub`].
 //!
 //! [`run_receiver`] does all turns of a [`ReceiverRun`]. Each turn (`turning`) takes datagrams (`taking`), prints what is handed up
-//! (`handing`, with the name of a file from `naming`), and sends what the receiver answers (`answering`). [`run_hub`] passes each datagram on.
+//! (`handing`, with the name of a file from `naming`), and sends what the receiver answers (`answering`). [`run_hub`] passes on each
+//! datagram that it takes.
 #![tactic(auto)]
 
 mod answering;

@@ -11,14 +11,14 @@ use norm_base::{Clock, Datagram, Fabric, Files, Local, NodeId, Profile, Sink};
 use norm_turns::SessionFault;
 use std::alloc::Global;
 
-/// Runs a node's receiver for exactly the turns of a profile. It starts the network for this node. It prints a line for each hand-up. If
+/// Runs a node's receiver for all turns of a profile. It starts the network for this node. It prints a line for each hand-up. If
 /// the hand-up is a file, it puts the file first. Each line is one write of the output.
 ///
 /// # Errors
 ///
 /// `Write`, `Fabric` or `Files` if a call of the output, the network or the files failed, or `Memory`.
 // It answers nothing more: a run is all turns of the profile, and what it did stands in the network, the lines and the files (`RunsReceiver`).
-// Whether all was done only the sender knows.
+// A receiver does not know whether all was done.
 pub fn run_receiver<K: Sink, F: Fabric, D: Files, C: Clock>(
     alloc: Global,
     profile: &Profile,

@@ -17,7 +17,7 @@ use std::marker::Model;
 /// A receiver that runs alone. Start the network for its node, then call [`turns`](ReceiverRun::turns), or in each turn:
 /// 1. [`begin_turn`](ReceiverRun::begin_turn), which gives the turn its moment.
 /// 2. [`take_all`](ReceiverRun::take_all), which delivers what the network has.
-/// 3. [`hand_all`](ReceiverRun::hand_all), which prints what was handed up.
+/// 3. [`hand_all`](ReceiverRun::hand_all), which puts the files that were handed up, and prints a line for each hand-up.
 /// 4. [`answer`](ReceiverRun::answer), which sends what the receiver has to say.
 #[derive(Drop)]
 pub struct ReceiverRun {

@@ -19,8 +19,8 @@ impl ReceiverRun {
         self.profile.step
     }
 
-    /// Begins the next turn. Its moment is its number times the profile's step. If the step is 0, it is the clock's, or the moment before if the
-    /// clock went backwards.
+    /// Begins the turn with this number. Its moment is that number times the profile's step. If the step is 0, it is the clock's, or the
+    /// moment before if the clock went backwards.
     pub fn begin_turn<C: Clock>(&mut self, number: u32, clock: &mut C)
         requires number { number ≡ self.old.turn + 1 }
         requires left { self.old.turn < self.old.p.turns }

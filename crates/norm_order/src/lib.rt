@@ -1,4 +1,4 @@
-//! The transport order of a sender's instance (RFC 5740 sections 4.1 and 5.1), as definitions: its entries, the segments of a stream, the
+//! The transport order of a sender's instance (RFC 5740 sections 4.2.1 and 5.1), as definitions: its entries, the segments of a stream, the
 //! symbols of a block, and what is handed up through a position.
 //!
 //! [`Up`] is a hand-up: receivers return it and the definitions list it. [`first_octets`] cuts its padding off,

@@ -14,7 +14,7 @@ pub enum Up {
         info: Option<Octets>,
         bytes: Octets,
     },
-    /// A stream begins. Its segments follow.
+    /// A stream begins.
     StreamOpen {
         index: u32,
     },
@@ -28,13 +28,14 @@ pub enum Up {
     StreamEnd {
         index: u32,
     },
-    /// The sender dropped this object, or the rest of this stream, before all of it came.
+    /// The sender dropped something of this object or stream that was not handed up. The rest of it is lost.
     Lost {
         index: u32,
     },
 }
 
-/// Returns the first `len` octets of these, in the same memory. What is left out is the padding of an object's last symbol, or of a segment.
+/// Returns the first `len` octets of these, in the same memory. Receivers cut off so what is not the user's: behind an object's octets the padding
+/// of its last symbol, and behind a segment's its padding and the room that its header had.
 pub fn first_octets(octets: Vec<u8>, len: usize) -> Octets
     ensures exact { result ≡ take len octets.items }
     ensures bytes { (i : ℕ) → slice_index octets.items i < 256 }

@@ -1,4 +1,4 @@
-//! What a TOML document gives: [`Document`]. The readers of this crate return it.
+//! What a TOML document gives: [`Document`]. The readers of this crate return it, except `load_profile`.
 
 use norm_base::Profile;
 

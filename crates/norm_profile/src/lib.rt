@@ -1,6 +1,6 @@
 //! Profiles of the nodes of a session, as TOML documents with the keys that scripts have too. [`load_profile`] reads one from a file, and
 //! [`load_document`] also returns the first instance that it gives. [`read_document`] and [`read_text`] read one from memory. A
-//! [`ProfileRefusal`] says which key is refused, and why.
+//! [`ProfileRefusal`] says why a document is refused, and names the key if it is for one.
 #![tactic(auto)]
 
 mod document;

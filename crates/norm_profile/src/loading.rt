@@ -95,7 +95,7 @@ fn read_piece<D: Files>(
     }
 }
 
-/// Reads this many octets of a file, in pieces of at most 4,096. A file that grew meanwhile is cut at this length, and one that shrank is a fault.
+/// Reads this many octets of a file, in pieces of at most 4,096. A file that grew meanwhile is cut at this length.
 fn read_all<D: Files>(
     alloc: Global,
     files: &mut D,
@@ -117,7 +117,7 @@ fn read_all<D: Files>(
     Ok(octets)
 }
 
-/// Loads the profile that a file holds as TOML, and the first instance that it gives. Reads the file once.
+/// Loads the profile that a file holds as TOML, and the first instance that it gives.
 ///
 /// # Errors
 ///
@@ -134,7 +134,7 @@ pub fn load_document<D: Files>(
     ensures cause { FileCause result (D.fault_count files.old) (D.fault_count files.new) }
 {
     let len = length_of(files, name)?;
-    // Before the first read, so that a wrong path costs no memory.
+    // Before the first read, so that a wrong path to a long file takes no memory for its octets.
     if len > MOST_OCTETS as u64 {
         return Err(LoadFault::Refused {
             why: ProfileRefusal::TooLong,

@@ -1,4 +1,4 @@
-//! [`ProfileRefusal`], which all readers of this crate return. `reason` prints it.
+//! [`ProfileRefusal`], which says why a document is refused. `reason` prints it.
 
 use norm_base::{Key, Text};
 

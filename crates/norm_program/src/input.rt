@@ -33,7 +33,7 @@ impl From<Failed> for InputFault {
     }
 }
 
-/// Reads up to the end of the input, 4,096 octets at a time. Takes memory for all of it: only memory limits how long it may be.
+/// Reads up to the end of the input, at most 4,096 octets at a time. Takes memory for all of it: only memory limits how long it may be.
 fn read_all<S: Source>(alloc: Global, input: &mut S) -> Result<Vec<u8>, InputFault>
     ensures octets { IfOk result (λ text. IsInput text.items (S.left input.old) (S.left input.new)) }
     ensures cause { ReadCause result (S.fault_count input.old) (S.fault_count input.new) }

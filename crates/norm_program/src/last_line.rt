@@ -1,4 +1,6 @@
-//! Writes the last line of the program, and returns the ending that goes with it. Commands call these when they end.
+//! Writes the last line of the program, except a tail's. [`end_session`], [`say_absent`] and [`stop_session`] also return the ending that goes
+//! with it. Commands call these when they end, and so do what they share (`input`, `commands`, `profiles`, `tail`) and `program`, for the usage
+//! line.
 
 ghost use Rattle.std.specs.Prelude.{◌≡◌, string_bytes, IfOk};
 ghost use Rattle.norm_program.specs.Ends.{refused_line, absent_line, Says, IsLastEnding, IsAbsentEnding, IsStoppedEnding};
@@ -23,7 +25,7 @@ pub(crate) fn refused_line(alloc: Global, n: u64) -> Result<String, AllocError>
     format!(in alloc; "refused line {n}\n")
 }
 
-/// Returns the last line that names a file which is not there, as the script or the words name it, without the folder.
+/// Returns the last line that names a file which is not there, as the script or the words name it, without the folder of the files.
 #[tactic(auto, unfolding(crate::specs::Ends::absent_line))]
 fn absent_line(alloc: Global, name: &str) -> Result<String, AllocError>
     ensures { IfOk result (λ text. string_bytes text ≡ absent_line name.now) }

@@ -17,7 +17,6 @@ pub(crate) struct Lent<'a, S, K, F, D, C> {
 }
 
 impl<'a, S, K, F, D, C> Lent<'a, S, K, F, D, C> {
-    /// Lends the five objects, all for the same lifetime.
     // Proof: a struct that is made where the lifetimes of more than two of its references differ cannot be lent to a call.
     pub fn of(
         input: &'a mut S,

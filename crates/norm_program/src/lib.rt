@@ -1,9 +1,12 @@
-//! The program as a library. `normd` makes the real objects, reads the words with [`arguments`], and exits with what [`run`] returns. Programs
-//! and tests call [`norm_main`] with objects of their own; it returns the status that `run` exits with.
+//! The program as a library. `normd` makes the real objects, reads the words with [`arguments`], and exits with what [`run`] returns, or with
+//! what [`needed`] returns if memory runs out before. `tests_program` calls [`norm_main`] with objects of its own, as other programs may; it
+//! returns the status that `run` exits with.
 //!
 //! `program` finds the command that the words ask for (`norm_args` says what they mean). `session`, `show`, `generate`, `send`, `recv` and `hub`
-//! are the commands; `tail` has what `session --tail` does after its turns. `lent` lends them the outside as one value. `words` reads the command line and `input` the input. `last_line` writes the
-//! last line, `status` has the endings and their statuses, and `reason` writes to standard error.
+//! are the commands; `tail` has what `session --tail` does after its turns, its last line too. `lent` lends them the outside as one value.
+//! `words` reads the command line, `input` the input, `commands` the script of a sender, and `profiles` the profile of a node. `boarded` runs
+//! what was read of a script. `last_line` writes any other last line, `status` has the endings and their statuses, `reason` writes to
+//! standard error, and [`laws`] are promises about the statuses.
 #![tactic(auto)]
 
 mod boarded;

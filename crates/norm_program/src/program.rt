@@ -1,5 +1,5 @@
-//! From the words to the ending: finds the command that the words ask for, runs it, and returns how it ended. `normd` calls [`run`]; programs and
-//! tests call [`norm_main`].
+//! From the words to the ending: finds the command that the words ask for, runs it, and returns how it ended. `normd` calls [`run`], and
+//! `tests_program` calls [`norm_main`].
 
 ghost use Rattle.std.specs.Prelude.{◌≡◌, map, string_bytes, Some, IfSome, MatchResult};
 ghost use Rattle.std.specs.Process.{exit_status};
@@ -88,7 +88,8 @@ fn end_other<R: Threads + Wait + Sync, S: Source, K: Sink, F: Fabric, D: Files, 
     }
 }
 
-/// Runs the node's task that the words ask for. Call it if they ask for no other task. Writes the usage line if they ask for nothing.
+/// Runs the node's task that the words ask for. Call it if they ask for no other task. Writes the usage line if they ask for nothing. If memory
+/// runs out for the words, returns `Memory` and runs nothing.
 fn end_others<R: Threads + Wait + Sync, S: Source, K: Sink, F: Fabric, D: Files, C: Clock>(
     rt: &R,
     alloc: Global,
@@ -104,8 +105,8 @@ fn end_others<R: Threads + Wait + Sync, S: Source, K: Sink, F: Fabric, D: Files,
     }
 }
 
-/// Runs what these words ask for and returns the ending. They are the words after the program's name. What each ending says is in `EndsBy`, and
-/// what the files hold afterwards in `KeepsFiles`.
+/// Runs what these words ask for and returns the ending. They are the words after the program's name. If memory runs out for them, returns
+/// `Memory` and runs nothing. What each ending says is in `EndsBy`, and what the files hold afterwards in `KeepsFiles`.
 fn end_of<R: Threads + Wait + Sync, S: Source, K: Sink, F: Fabric, D: Files, C: Clock>(
     rt: &R,
     alloc: Global,
@@ -146,8 +147,8 @@ pub fn norm_main<R: Threads + Wait + Sync, S: Source, K: Sink, F: Fabric, D: Fil
 }
 
 /// Runs the program as a process. `words` are those after its name, or why they could not be read. The exit code is the status of `norm_main` for
-/// these words. If words, a line, a profile or memory ended it, standard error says why. Call `say_cause` afterwards: it says what a failed call
-/// was about.
+/// words that were read. If words, a line, a profile, a refused tail or memory ended it, standard error says why. Call `say_cause`
+/// afterwards: it says what a failed call was about.
 pub fn run<R: Threads + Wait + Sync + Eprint, S: Source, K: Sink, F: Fabric, D: Files, C: Clock>(
     rt: &R,
     alloc: Global,

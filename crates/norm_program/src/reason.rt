@@ -1,5 +1,5 @@
-//! Writes to standard error, for people: why words, a line, a profile or memory ended the program, and what a failed call of the outside was
-//! about. [`run`](crate::run) calls [`explain`]; `normd` calls [`say_cause`] and [`needed`].
+//! Writes to standard error, for people: why words, a line, a profile, a refused tail or memory ended the program, and what a failed call
+//! of the outside was about. [`run`](crate::run) calls [`explain`] and [`explain_no_text`]; `normd` calls [`say_cause`] and [`needed`].
 
 ghost use Rattle.std.specs.Prelude.{◌≡◌, ◌∷◌, Some, map, string_bytes, Ok, Err, MatchResult};
 ghost use Rattle.std.specs.Fmt.{DisplaysOnOk};
@@ -227,7 +227,7 @@ pub(crate) fn explain(rt: &impl Eprint, ending: &Ending, words: &[String]) {
     }
 }
 
-/// Says on standard error that a word is not UTF-8, and names the program and its version.
+/// Says on standard error that a word is not UTF-8, also if it is the program's name, and names the program and its version.
 pub(crate) fn explain_no_text(rt: &impl Eprint) {
     let _ = eprintln!(rt; "a word is not UTF-8");
     let _ = eprintln!(rt; "{VERSION}");

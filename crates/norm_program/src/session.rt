@@ -22,7 +22,7 @@ use std::alloc::Global;
 use std::sync::Wait;
 use std::thread::Threads;
 
-/// Overrides `chance` and `turns`, each only if its option is given. No other key has an option.
+/// Overrides `chance` and `turns`, each only if its option is given. No other key has an option of `session`.
 // The options stand in the profile that is run, so that the clauses of a session speak of one profile and know of no options.
 fn profile_with(profile: Profile, options: Options) -> Profile
     requires { FitsOptions options }

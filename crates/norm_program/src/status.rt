@@ -30,7 +30,7 @@ impl Model for Status {
 }
 
 impl Status {
-    /// Returns the number with which the process exits, from 0 to 9.
+    /// Returns the number with which the process exits, 0 to 9 or 12.
     pub fn code(&self) -> u8
         ensures { result ≡ self.now }
     {
@@ -55,14 +55,14 @@ pub enum ProfileFault {
     Node { node: NodeId, first: u32, last: u32 },
 }
 
-/// Why a session made no tail.
+/// Why a session made no tail, or no further one.
 #[derive(Clone, Copy, Debug, PartialEq, Eq)]
 pub enum NoTail {
     /// After this turn a command was not pulled yet, or waits.
     Waiting {
         turn: u32,
     },
-    /// After this turn no watermark is open.
+    /// After this turn no watermark is open, and the session is not whole.
     NoRequest {
         turn: u32,
     },
@@ -85,14 +85,16 @@ pub enum NoTail {
         step: u32,
         grtt: u32,
     },
-    /// This many flushes were counted for the watermark. With the back-off factor `k`, too few are left for a repair.
+    /// This many flushes were counted since the watermark became the oldest, or a round made a want. With the back-off factor `k`, too few
+    /// are left for a repair.
     Flushes {
         count: u32,
         k: u32,
     },
 }
 
-/// How the program ended. [`Ending::status`] returns its exit status, and [`run`](crate::run) says the reason on standard error.
+/// How the program ended. [`Ending::status`] returns its exit status. [`run`](crate::run) says the reason on standard error, if the ending has one
+/// of its own.
 #[derive(Debug, Drop)]
 pub enum Ending {
     /// Everything was done. Of a receiver and the hub: all their turns were made.
@@ -101,7 +103,7 @@ pub enum Ending {
     Datagram,
     /// Memory ran out. There is no last line.
     Memory,
-    /// The words are not a command, or one is not UTF-8.
+    /// The words are not a command, or could not be read as UTF-8.
     Words,
     /// A line of the script has no meaning. `refusal` says which line and why.
     Refused { refusal: Refusal },
@@ -111,10 +113,10 @@ pub enum Ending {
     Profile { why: ProfileFault },
     /// A read of the input failed. Nothing of a script was run, and `show` wrote the lines before.
     Read,
-    /// A write of the output failed. That of a last line is not meant, except of `turns spent`.
+    /// A write of the output failed. That of a last line is not meant, except of `turns spent` and of a tail's.
     Write,
-    /// A call of the network failed, which [`say_cause`](crate::say_cause) explains. It is an error of the system, or a node alone over a network in
-    /// memory.
+    /// A call of the network failed, which [`say_cause`](crate::say_cause) explains. It is an error of the system, or a node alone or a
+    /// hub over a network in memory.
     Fabric,
     /// A call of the files failed, of a profile, a script's file or one that was handed up. [`say_cause`](crate::say_cause) explains it.
     Files,
@@ -124,7 +126,7 @@ pub enum Ending {
     Spent,
     /// The session made tails: so many turns, which might be `bound`.
     Tailed { turns: u64, bound: u64 },
-    /// The session was not whole after its turns, and made no tail.
+    /// The session was not whole after its turns, and made no tail, or no further one.
     TailRefused { why: NoTail },
 }
 
@@ -137,7 +139,8 @@ impl From<AllocError> for Ending {
 }
 
 impl Ending {
-    /// Returns the exit status. Several endings share one: 3 if something is refused, 7 if a file is absent or a call of the files failed.
+    /// Returns the exit status. Several endings share one: 0 if everything was done or tails were made, 3 if a line, a profile or a
+    /// node is refused, 7 if a file is absent or a call of the files failed.
     pub fn status(&self) -> Status
         ensures { result ≡ status_of self.now }
     {

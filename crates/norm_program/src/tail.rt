@@ -1,5 +1,5 @@
-//! `session --tail T`: after turn T the nodes of a session go on over a network that loses nothing, until no watermark is open. `session` calls
-//! [`end_tails`].
+//! `session --tail T`: after turn T, or the profile's last turn if that is earlier, the nodes of a session that is not whole go on over a
+//! network that loses nothing, until no watermark is open or a tail is refused. `session` calls [`end_tails`].
 
 ghost use Rattle.std.specs.Prelude.{◌≡◌, ◌+◌, ◌*◌, ◌^◌, ◌≤◌, ◌∷◌, [], ◌++◌, fold, IfOk, IfErr, OnOk, Some};
 ghost use Rattle.std.specs.Bool.{Decides};
@@ -35,7 +35,8 @@ use rand_pcg::Lcg64Xsh32;
 use std::alloc::{AllocError, Global};
 
 /// The last moment after which a tail may begin.
-// `run_tail` wants room for its moments. No session gets so far: its turns and 16 tails end before 2^57 microseconds, and no clock is so late.
+// `run_tail` wants room for its moments. No session gets so far: its turns and 16 tails end before 2^57 microseconds, and no real clock is
+// so late.
 const LAST: u64 = 1 << 63;
 
 /// How the turns of a session ended.
@@ -55,7 +56,7 @@ struct Tails {
     bound: u64,
     /// The moment of the last turn.
     last: Moment,
-    /// The words that were not used yet.
+    /// The draws that were not used yet.
     draws: Lcg64Xsh32,
     /// The counts of the summary.
     counts: Totals,
@@ -96,7 +97,7 @@ fn count_steps(counts: &mut Totals, steps: &[TailStep]) -> Result<(), SessionFau
     Ok(())
 }
 
-/// Writes the line of a hand-up or a change: in the sender's instance, and with the members that its book has as left.
+/// Writes the line of a hand-up or a change, if it has one: in the sender's instance, and with the members that its book has as left.
 fn write_step<K: Sink>(
     alloc: Global,
     line: &mut Line,
@@ -185,7 +186,7 @@ fn word_of(why: NoTail) -> &'static str
     }
 }
 
-/// Puts the words of the last line: how many turns tails took and might take, or the word of the refusal.
+/// Puts the words of the last line: how many turns tails took and might take, or `refused` and the word of the refusal.
 fn put_words(line: &mut Line, turns: u64, bound: u64, why: Option<NoTail>) -> Result<(), AllocError>
     ensures { OnOk result (line.new ≡ with_words line.old (last_words turns bound why)) }
 {
@@ -394,7 +395,7 @@ impl Tails {
         self.make_all(alloc, profile, turn, line, output)
     }
 
-    /// Makes the tails, and writes the summary and the last line.
+    /// Makes the tails, and writes the summary and the last line. If the session is whole, writes the summary alone.
     ///
     /// # Errors
     ///
@@ -438,7 +439,8 @@ fn end_of_turns(paused: &Paused) -> Turned
     }
 }
 
-/// Makes the tails of a session that stopped after its turns, and writes the summary and the last line. Returns the ending.
+/// Makes the tails of a session that stopped after its turns, and writes the summary and the last line. If it is whole, writes the summary
+/// alone. Returns the ending.
 pub(crate) fn end_tails<K: Sink>(
     alloc: Global,
     profile: &Profile,

@@ -18,7 +18,7 @@ use std::{env, io};
 // Two, because they end differently: a lack of memory with status 1, refused words with the usage line and status 2.
 #[derive(Clone, Copy, Debug, PartialEq, Eq)]
 pub enum WordsFault {
-    /// A word is not UTF-8.
+    /// A word, or the program's name, is not UTF-8.
     NotText,
     /// Memory ran out. Nothing is written to the output then.
     Memory,
@@ -47,7 +47,7 @@ impl<T: Drop> From<AllocFailed<T>> for WordsFault {
 ///
 /// # Errors
 ///
-/// `NotText` if a word is not UTF-8, and `Memory` if memory runs out.
+/// `NotText` if a word, or the program's name, is not UTF-8, and `Memory` if memory runs out.
 pub fn arguments<R: Env + Alloc<A = Global>>(rt: &R) -> Result<Vec<String>, WordsFault> {
     let mut words = Vec::new(rt.alloc());
     for word in env::args(rt)? {

@@ -9,7 +9,8 @@ ghost use Rattle.norm_receive_rules.specs.NackLaws.{NackLaws};
 ghost use Rattle.norm_receive_rules.specs.OpenLaws.{OpenLaws};
 ghost use Rattle.norm_receive_rules.specs.WantingLaws.{WantingLaws};
 
-/// Each hand-up is added after those before it and moves the hand-up point on. The point never goes back.
+/// Each hand-up is added after those before it and moves the hand-up point on. Handing up never moves
+/// the point back; a new instance begins at 0.
 #[tactic(auto, using(crate::proofs::HandUpLemmas::hand_up_laws))]
 pub fn hand_ups()
     ensures { HandUpLaws }
@@ -34,8 +35,8 @@ pub fn steps()
     ensures { StepLaws }
 {}
 
-/// Hand-ups and a squelch change only what is held, and no plan, symbol or info of it. A squelch that is received may also begin a back-off
-/// and raise the greatest index that is known.
+/// Hand-ups and a squelch change only what is held, and no plan, symbol or info of it. A squelch of the receiver's instance, as it is
+/// received, may also begin a back-off and raise the greatest index that is known.
 #[tactic(auto, using(crate::proofs::BesideLemmas::beside_laws))]
 pub fn beside()
     ensures { BesideLaws }
@@ -99,8 +100,8 @@ pub fn opens()
     ensures { OpenLaws }
 {}
 
-/// If anything is needed, something of the object at the hand-up point is. For a stream this holds while a block is left that could hold
-/// its end.
+/// If anything is needed once nothing more can be handed up, something of the object at the hand-up point is. For a stream this holds while a block
+/// is left that could hold its end.
 #[tactic(auto, using(crate::proofs::FrontLemmas::front_laws))]
 pub fn front()
     ensures { FrontLaws }

@@ -2,7 +2,7 @@
 //! hands up, and what it requests. norm_receiver is proved to follow them.
 //!
 //! The types are answers of what a receiver holds: whether it takes an object's transmission information ([`Fit`]), whether it keeps a
-//! symbol ([`Put`]), and what a block still needs ([`Missing`]). A [`Place`] is the hand-up point.
+//! symbol or an info ([`Put`]), and what a block still needs ([`Missing`]). A [`Place`] is the hand-up point.
 #![tactic(auto)]
 
 pub mod laws;

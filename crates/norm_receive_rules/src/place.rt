@@ -7,7 +7,7 @@ use fec_plan::Position;
 
 /// The next source symbol to hand up. If the last block that 24 bits can name was handed up, a stream goes on at block 16,777,216, which no
 /// message names.
-// No symbol has that block, so a stream that did not end before it waits until a squelch makes the rest of it lost.
+// No symbol has that block, so no more octets of a stream that did not end before it are handed up.
 #[derive(Clone, Copy, Debug, PartialEq, Eq)]
 pub struct Place {
     pub index: u32,
@@ -29,12 +29,12 @@ impl Place {
         at.symbol < self.symbol
     }
 
-    /// Whether everything up to and including a position was handed up. It was not if an object was lost: the hand-up point went past that
-    /// too.
+    /// Whether everything up to and including a position was handed up. `false` after any loss, even of an object after the position: the
+    /// hand-up point went past what was lost too, and which objects that were is not kept.
     pub fn all_handed_up(&self, at: &Position, has_lost: bool) -> bool
         ensures { result ≡ (position_before at.now (position self.now.index self.now.block self.now.symbol) && not has_lost) }
     {
-        // An acknowledgement says that all was handed up, and the lost object was not.
+        // An acknowledgement says that all up to its position was handed up, and the lost object may lie before it.
         if has_lost {
             return false;
         }

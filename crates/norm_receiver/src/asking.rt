@@ -47,8 +47,7 @@ impl Asking {
         ensures walked { (test : Meaning → Bool) (front : List ℕ) (w : Walked) → heard ≡ test (need_of need)
             → IsAt profile.now test self.old out.old front w → IsAt profile.now test self.new out.new front (walk_need profile.now w (need_of need)) }
     {
-        // A later need might still fit. But a NACK asks for a prefix of the needs (`fitting` of the rules): hand-ups go in order, so a later need
-        // can wait.
+        // A later need might still fit, but a NACK asks for a prefix of the needs: hand-ups go in order, so a later need can wait.
         if self.full {
             return;
         }

@@ -1,4 +1,4 @@
-//! Taking in datagrams, message by message (RFC 5740 section 5.2). [`Receiver::deliver`](crate::Receiver::deliver) calls it.
+//! Taking in a datagram, by the type of its message (RFC 5740 section 5.2).
 
 ghost use Rattle.std.specs.Prelude.{◌≡◌, Ok, IfOk, OnErr, true};
 ghost use Rattle.norm_cmdmsg.specs.View.{command_of};
@@ -119,7 +119,7 @@ impl Parts {
                 };
                 self.deliver_said(&command_naming(head, *object), &said, now, draw)
             }
-            // NORM_CMD(REPAIR_ADV). Our sender never sends it, because members hear each other's NACKs. Other implementations may.
+            // NORM_CMD(REPAIR_ADV). Our sender does not send it, but other implementations may.
             CommandMsg::RepairAdv { head, requests, .. } => self.hear_adv(head, requests),
             _ => Ok(()),
         }

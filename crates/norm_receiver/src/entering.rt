@@ -1,4 +1,4 @@
-//! Messages of the sender by their instance (RFC 5740 section 4.2.1): the current one, one that the receiver goes on to, or one that is over.
+//! Messages of the sender by their instance (RFC 5740 section 4.2.1): the current one, one that the receiver goes on to, or any other.
 
 ghost use Rattle.std.specs.Prelude.{◌≡◌, ◌<◌, ◌==◌, IfOk, OnErr, true, unwrap_or, option_and_then};
 ghost use Rattle.norm_receive_rules.specs.ReceiverState.{ReceiverState};
@@ -26,7 +26,7 @@ pub(crate) struct Naming {
 }
 
 impl Parts {
-    /// Returns the receiver as it begins this instance. It does not change this one.
+    /// Returns the receiver as it begins this instance.
     // A whole new state beside the old one: if memory runs out in the message that begins an instance, this one stays as it was.
     fn entering(&self, instance: InstanceId) -> Result<Parts, Memory>
         ensures profile { IfOk result (λ next. next.profile ≡ self.now.profile) }
@@ -64,8 +64,7 @@ impl Parts {
         self.numbers = self.numbers.backing_off(&self.profile, now, draw);
     }
 
-    /// Does what a message says of the object with this index, and then what [`may_need`](Parts::may_need) does. If memory runs out, no back-off
-    /// starts.
+    /// Does what a message says of the object with this index, and then what [`may_need`](Parts::may_need) does.
     fn take_in_at(
         &mut self,
         index: u32,
@@ -105,8 +104,7 @@ impl Parts {
         self.take_in_at(index, said, now, draw)
     }
 
-    /// Goes on to the instance of a message, and takes the message in. If its object id stands for no index, or memory runs out, the receiver stays
-    /// in its instance.
+    /// Goes on to the instance of a message, and takes the message in. If its object id stands for no index, nothing changes.
     fn go_on(
         &mut self,
         naming: &Naming,
@@ -126,13 +124,13 @@ impl Parts {
         };
         let mut next = self.entering(naming.instance)?;
         next.take_in_at(index, said, now, draw)?;
-        // Last: whatever fails above leaves the receiver in the instance before.
+        // Last: if memory runs out above, the receiver stays in the instance before.
         *self = next;
         Ok(())
     }
 
-    /// Takes in a message of a sender. Ignores it unless it comes from the profile's sender, in the current instance or one that the receiver
-    /// goes on to.
+    /// Takes in a message of a sender. Ignores it unless it comes from the profile's sender, in the current instance or one that the
+    /// receiver goes on to.
     pub(crate) fn deliver_said(
         &mut self,
         naming: &Naming,

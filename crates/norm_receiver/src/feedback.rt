@@ -1,5 +1,4 @@
-//! The datagrams of a receiver (RFC 5740 section 4.3): its acknowledgement, and the beginning of its NACK, to which repair requests are
-//! appended.
+//! The datagrams of a receiver (RFC 5740 section 4.3).
 
 ghost use Rattle.std.specs.Prelude.{◌≡◌, [], length};
 ghost use Rattle.norm_ext.specs.Octets.{octets_of};
@@ -26,7 +25,7 @@ impl Numbers {
     }
 }
 
-/// Clears the datagram, and writes the acknowledgement of a flush that named this position.
+/// Writes the acknowledgement of a flush that named this position.
 pub(crate) fn write_mark(profile: &Profile, numbers: &Numbers, at: FlushPlace, out: &mut Datagram)
     ensures { (s : ReceiverState) → numbers.now ≡ numbers_of s → out.new ≡ octets_of (ack_message profile.now s at) }
 {
@@ -49,7 +48,7 @@ pub(crate) fn write_mark(profile: &Profile, numbers: &Numbers, at: FlushPlace, o
     );
 }
 
-/// Clears the datagram, and writes a NACK up to where its requests begin.
+/// Writes a NACK up to where its requests begin.
 pub(crate) fn write_nack_front(profile: &Profile, numbers: &Numbers, out: &mut Datagram)
     ensures exact { (s : ReceiverState) → numbers.now ≡ numbers_of s → out.new ≡ octets_of (nack_message profile.now s []) }
     ensures size { length out.new ≡ 24 }

@@ -1,5 +1,4 @@
-//! What a receiver hears others ask for (RFC 5401 section 3.2.2, RFC 5740 section 5.3): the NACKs of other nodes, and the sender's
-//! REPAIR_ADV.
+//! What a receiver hears others ask for (RFC 5401 section 3.2.2, RFC 5740 section 5.3).
 
 ghost use Rattle.std.specs.Prelude.{◌≡◌, IfOk, OnErr, true};
 ghost use Rattle.norm_receive_rules.specs.ReceiverState.{ReceiverState};
@@ -16,8 +15,8 @@ use norm_fbmsg::NackMsg;
 use rx_heard::hear_requests;
 
 impl Parts {
-    /// Notes what requests ask for if a back-off is running. Otherwise ignores them, and takes no memory. Ignores all of them too if what is kept
-    /// might exceed its bound.
+    /// Notes what requests ask for if a back-off is running, and otherwise ignores them. Ignores all of them too if what is kept might
+    /// exceed its bound.
     fn overhear(&mut self, requests: &Requests<'_>) -> Result<(), Memory>
         ensures profile { self.new.profile ≡ self.old.profile }
         ensures state { IfOk result (λ _. (s : ReceiverState) → Stands (kept_of self.old) s
@@ -25,13 +24,12 @@ impl Parts {
         ensures refused { OnErr result ((s : ReceiverState) → Stands (kept_of self.old) s → Stands (kept_of self.new) s) }
         ensures wanted { OnErr result ((s : ReceiverState) → Stands (kept_of self.old) s → is_hearing s ≡ true) }
     {
-        // Outside of a back-off there is no NACK to suppress. So what others send takes no memory most of the time.
+        // Outside of a back-off there is no NACK to suppress.
         if self.numbers.backoff.is_none() {
             return Ok(());
         }
-        // Heard as a whole or not at all, and kept merged: spans that share no position, and the greatest count of each block. Without a bound, a
-        // member that lies could add some 184 spans to each list with each datagram. If too much were an error, two dozen datagrams would
-        // end the receiver. A message that is passed over costs a request that others made too.
+        // Heard as a whole or not at all. Without a bound, a member that lies could make the lists ever longer. If too much were an error,
+        // it could end the receiver. A message that is passed over may cost a request that others made too.
         hear_requests(
             &mut self.heard,
             &mut self.asked,

@@ -1,8 +1,7 @@
 //! The receiver of a session, without I/O (RFC 5740 sections 5.2 and 5.3).
 //!
-//! Callers meet [`Receiver`]; `norm_world`, `norm_node` and `replay` drive it. `delivering` decodes a datagram, `entering` checks its
-//! instance, and `receiving` does what the sender says. `hearing` notes what other receivers ask for. `ticking` decides what to send:
-//! `acknowledging` confirms a flush, and `nacking` asks for what `needs` and `stream_needs` find.
+//! Callers meet [`Receiver`]. `delivering` decodes a datagram, `entering` checks its instance, `receiving` does what the sender says, and
+//! `hearing` notes what others ask for. `ticking` decides what to send: `acknowledging` confirms a flush, and `nacking` writes a NACK.
 #![tactic(auto)]
 
 mod acknowledging;

@@ -36,7 +36,7 @@ pub(crate) enum Asks {
 }
 
 impl Parts {
-    /// Requests an object of which nothing is known, and its info, if the object is covered.
+    /// Requests an object that was not taken up, and its info, if the object is covered.
     fn ask_unknown(&self, index: u32, covered: bool, asking: &mut Asking, out: &mut Datagram)
         requires room { HasRoom asking.old.writer out.old }
         ensures room { HasRoom asking.new.writer out.new }
@@ -66,7 +66,7 @@ impl Parts {
         asking.add(&self.profile, Need::ObjectInfo { index }, heard, out);
     }
 
-    /// Requests as many symbols of an incomplete block as it lacks, whichever they are.
+    /// Requests as many symbols as an incomplete block lacks.
     fn ask_block(
         &self,
         index: u32,
@@ -103,7 +103,7 @@ impl Parts {
         }
     }
 
-    /// Requests the symbols that an object's blocks before `due` lack. It looks at incomplete blocks only, and stops if a request does not fit.
+    /// Requests the symbols that an object's blocks before `due` lack. It stops if a request does not fit.
     pub(crate) fn ask_blocks(
         &self,
         index: u32,
@@ -122,7 +122,7 @@ impl Parts {
             → IfSome (plan_of s.holding index) (λ found. IsAt self.now.profile (is_heard s.knows.heard s.holding) asking.new out.new front
             (walk_on self.now.profile (counts_from s.holding found due 0) w)) }
     {
-        // From one short block to the next: an object may have 262,144 blocks, most of them done.
+        // From one short block to the next: an object may have very many blocks, most of them done.
         let mut short = self.hold.first_short(index);
         while let Some(block) = short {
             if block >= due {
@@ -136,7 +136,7 @@ impl Parts {
         }
     }
 
-    /// Requests the missing symbols of data or a file, whose info was requested already.
+    /// Requests the symbols that due blocks of data or a file lack. Call it after `ask_info`.
     fn ask_counts(&self, index: u32, plan: &Plan, asking: &mut Asking, out: &mut Datagram)
         requires reached { self.now.hold.point.index ≤ index }
         requires plan { IsPlanOf self.now.hold index plan.now }
@@ -151,7 +151,7 @@ impl Parts {
         self.ask_blocks(index, plan, due, asking, out);
     }
 
-    /// Requests what is needed of an object: its info first, then symbols. One that was not taken up is requested whole, if it is covered.
+    /// Requests what is needed of an object: its info first. One that was not taken up is requested whole, if it is covered.
     fn ask_object(&self, index: u32, asking: &mut Asking, out: &mut Datagram)
         requires reached { self.now.hold.point.index ≤ index }
         requires room { HasRoom asking.old.writer out.old }
@@ -198,8 +198,7 @@ impl Parts {
         }
     }
 
-    /// Writes the NACK: the longest prefix of the needs whose requests fit `e` octets. Nothing has to be sent if nothing is needed, or others
-    /// asked for that whole prefix. It takes no memory.
+    /// Writes the NACK: the longest prefix of the needs whose requests fit `e` octets. It takes no memory.
     pub(crate) fn write_nack(&self, out: &mut Datagram) -> Asks
         ensures { (s : ReceiverState) → Stands (kept_of self.now) s → IsAsking self.now.profile s out.new result }
     {

@@ -64,8 +64,7 @@ fn blocks_flushed(flush: &Option<Position>, index: u32, all: u32) -> u32
     ensures most { result ≤ all }
 {
     match flush {
-        // Within data or a file, a flush names the last source symbol, so its block was sent too. Of the block of the farthest point more may still
-        // come.
+        // With a flush its own block was sent too. Of the block of the farthest point more may still come.
         Some(at) => blocks_before(index, all, at.index, u64::from(at.block) + 1),
         None => 0,
     }
@@ -81,7 +80,7 @@ pub(crate) fn blocks_due(numbers: &Numbers, index: u32, all: u32) -> u32
     seen.max(flushed)
 }
 
-/// Whether the info of a covered object is missing: its flags have INFO, and the info is not held.
+/// Whether an object is covered, its flags have INFO, and its info is not held.
 pub(crate) fn lacks_info(hold: &Hold, index: u32, flags: u8, covered: bool) -> bool
     requires { hold.now.point.index ≤ index }
     ensures { (s : Holding) → HoldStands hold.now s → result ≡ (covered && (says_info flags && not (is_some (info_of s index)))) }
@@ -112,7 +111,7 @@ pub(crate) fn is_done_before(hold: &Hold, index: u32, due: u32) -> bool
     }
 }
 
-/// Whether no symbols are needed of data or a file: its due blocks are done. Its info is looked at before.
+/// Whether no symbols are needed of data or a file: its due blocks are done.
 fn is_object_quiet(hold: &Hold, numbers: &Numbers, index: u32, plan: &Plan) -> bool
     requires reached { hold.now.point.index ≤ index }
     requires plan { IsPlanOf hold.now index plan.now }
@@ -122,7 +121,7 @@ fn is_object_quiet(hold: &Hold, numbers: &Numbers, index: u32, plan: &Plan) -> b
     is_done_before(hold, index, due)
 }
 
-/// Whether nothing is needed of an object. One that was not taken up is needed itself as soon as it is covered.
+/// Whether nothing is needed of an object. One that was not taken up is needed itself if it is covered.
 fn is_quiet(hold: &Hold, numbers: &Numbers, index: u32) -> bool
     requires { hold.now.point.index ≤ index }
     ensures { (s : Holding) → HoldStands hold.now s → HasSeenBlocks s → result ≡ is_nil (needs_of hold.now.p numbers.now.farthest numbers.now.flush s index) }
@@ -159,8 +158,7 @@ pub(crate) fn last_known(numbers: &Numbers) -> u64
     u64::from(seen.max(flushed)) + 1
 }
 
-/// Whether nothing is needed. After everything that is ready was handed up, it usually looks at the first object only: if the sender is past
-/// that object, something of it is needed. The exception is a stream that got its last block and no end, of which nothing can be requested.
+/// Whether nothing is needed. If everything that is ready was handed up, it rarely looks past the object at the hand-up point.
 pub(crate) fn is_all_quiet(hold: &Hold, numbers: &Numbers) -> bool
     ensures { (s : Holding) → HoldStands hold.now s → HasSeenBlocks s → result ≡ is_nil (needs_by hold.now.p numbers.now.farthest numbers.now.flush s) }
 {

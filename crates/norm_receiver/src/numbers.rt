@@ -1,4 +1,4 @@
-//! The numbers of a receiver: everything that it keeps except what it holds and what it heard.
+//! The numbers of a receiver: everything of its state in the rules except what it holds and what it heard.
 
 ghost use Rattle.std.specs.Prelude.{◌≡◌, ◌+◌, ◌*◌, ◌%◌, ◌<◌, ◌==◌, ◌&&◌, ◌||◌, not, max, false, true, nat_lt, nat_le, Some, None, is_none};
 ghost use Rattle.fec_plan.specs.Points.{IsBlock, further, further_point};
@@ -11,13 +11,13 @@ use norm_base::{InstanceId, Moment, NodeId, Profile};
 use norm_ext::is_above;
 use std::marker::Model;
 
-/// The numbers of a receiver. Each has the meaning that it has in the rules' state. A call that changes them returns new ones.
+/// The numbers of a receiver, as in the rules' state. A call that changes them returns new ones.
 #[derive(Clone, Copy, Debug, PartialEq, Eq)]
 pub struct Numbers {
     pub node: NodeId,
     /// The instance of the sender that is taken in. `None` until a message begins the first one.
     pub instance: Option<InstanceId>,
-    /// The greatest object index that a message of the sender named in this instance. 0 if none did.
+    /// The greatest object index named in this instance by an INFO, DATA, flush or squelch that was taken in. 0 if none was.
     pub known: u32,
     /// The farthest block of which an INFO or DATA came in this instance, kept or not. An INFO counts as block 0 of its object.
     pub farthest: Option<Point>,
@@ -33,7 +33,7 @@ pub struct Numbers {
     pub sequence: u16,
 }
 
-/// The position that a flush names. Its block has 24 bits.
+/// The position that a flush names, or that of a stream's end. Its block has 24 bits.
 #[derive(Clone, Copy, Debug, PartialEq, Eq)]
 pub struct FlushPlace {
     pub index: u32,
@@ -63,7 +63,7 @@ impl FlushPlace {
         }
     }
 
-    /// Returns this position, or the one that is due already if it is as far or farther: a flush that comes late must not lower it.
+    /// Returns the farther of this position and the one that is due already: a flush that comes late must not lower it.
     fn further(self, due: Option<FlushPlace>) -> Option<FlushPlace>
         ensures { result ≡ further self due }
     {
@@ -74,7 +74,7 @@ impl FlushPlace {
     }
 }
 
-/// Returns the moment this many microseconds later, or the last one if 64 bits would overflow.
+/// Returns the moment this many microseconds later, or the last one if that would overflow.
 fn moment_after(now: Moment, span: u64) -> Moment
     ensures { result ≡ moment_after now span }
 {
@@ -82,7 +82,7 @@ fn moment_after(now: Moment, span: u64) -> Moment
 }
 
 impl Numbers {
-    /// Returns the numbers of a receiver that is in no instance yet. No hold-off is in effect.
+    /// Returns the numbers of a receiver that is in no instance yet.
     pub(crate) fn new(node: NodeId) -> Numbers
         ensures { result ≡ opening_numbers node }
     {
@@ -130,7 +130,7 @@ impl Numbers {
         }
     }
 
-    /// Notes an index that a message named. Later object ids are read near the greatest one.
+    /// Notes an index that a message named.
     pub(crate) fn learning(&self, index: u32) -> Numbers
         ensures { result ≡ record self.now { known = max self.now.known index } }
     {
@@ -140,7 +140,7 @@ impl Numbers {
         }
     }
 
-    /// Notes the block of an INFO or DATA. One before the farthest changes nothing.
+    /// Notes the block of an INFO or DATA, if it is the farthest.
     pub(crate) fn seeing(&self, at: Point) -> Numbers
         ensures { result ≡ record self.now { farthest = further_point at self.now.farthest } }
     {
@@ -150,8 +150,7 @@ impl Numbers {
         }
     }
 
-    /// Notes a flush, which may raise the greatest flush position. If it is to be acknowledged, the further of it and the due position
-    /// becomes due.
+    /// Notes a flush. If `acknowledged`, the farther of its position and the one that is due already becomes due.
     pub(crate) fn flushed(&self, at: FlushPlace, acknowledged: bool) -> Numbers
         ensures { result ≡ record self.now { flush = further at self.now.flush; due = elim acknowledged [ true ↦ further at self.now.due | false ↦ self.now.due ] } }
     {
@@ -166,7 +165,7 @@ impl Numbers {
         }
     }
 
-    /// Whether a back-off may begin if something is needed. A running one never begins anew.
+    /// Whether a back-off may begin if something is needed: none is running, and no hold-off is in effect.
     pub(crate) fn may_back_off(&self, now: Moment) -> bool
         ensures { result ≡ (is_none self.now.backoff && not (nat_lt now self.now.holdoff)) }
     {
@@ -177,8 +176,7 @@ impl Numbers {
     pub(crate) fn backing_off(&self, profile: &Profile, now: Moment, draw: u32) -> Numbers
         ensures { result ≡ record self.now { backoff = Some (moment_after now (draw % (profile.now.k * profile.now.grtt + 1))) } }
     {
-        // Uniform over K round trips, by a draw that is handed in: our own choice. RFC 5401 section 3.2.2 has a truncated exponential distribution,
-        // by the size of the group.
+        // The remainder of a draw is our own choice. RFC 5401 section 3.2.2 has a truncated exponential distribution.
         let most = u64::from(profile.k) * u64::from(profile.grtt) + 1;
         Numbers {
             backoff: Some(moment_after(now, u64::from(draw) % most)),
@@ -206,11 +204,11 @@ impl Numbers {
         }
     }
 
-    /// Starts a hold-off of K + 2 round trips, in which no back-off begins.
+    /// Starts a hold-off of K + 2 round trips.
     pub(crate) fn holding_off(&self, profile: &Profile, now: Moment) -> Numbers
         ensures { result ≡ record self.now { holdoff = moment_after now ((profile.now.k + 2) * profile.now.grtt) } }
     {
-        // One round trip more than the sender's round of K + 1: only then what was asked for can have come.
+        // One round trip more than the sender's round of K + 1, for what was asked for to come.
         let span = (u64::from(profile.k) + 2) * u64::from(profile.grtt);
         Numbers {
             holdoff: moment_after(now, span),
@@ -227,14 +225,14 @@ impl Numbers {
         }
     }
 
-    /// Call as the acknowledgement is sent. None is due then until another flush asks for one.
+    /// Call as the acknowledgement is sent.
     pub(crate) fn acknowledged(&self) -> Numbers
         ensures { result ≡ record self.now { due = None } }
     {
         Numbers { due: None, ..*self }
     }
 
-    /// Call for each datagram that is sent. The sequence number after 65,535 is 0.
+    /// Call for each datagram that is sent.
     pub(crate) fn sent(&self) -> Numbers
         ensures { result ≡ record self.now { sequence = (self.now.sequence + 1) % 65536 } }
     {

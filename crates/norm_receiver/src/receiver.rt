@@ -1,4 +1,4 @@
-//! [`Receiver`], which callers drive. Each call passes its work to `Parts`.
+//! [`Receiver`], which passes its work to `Parts`.
 
 ghost use Rattle.std.specs.Prelude.{◌≡◌, [], true, not, length, IfOk, OnErr, IfNone, IfSome, IsSome};
 ghost use Rattle.norm_receive_rules.specs.ReceiverState.{ReceiverState, receiver_opening};
@@ -16,8 +16,8 @@ use norm_order::Up;
 use std::alloc::Global;
 use std::marker::Model;
 
-/// A NORM receiver without I/O (RFC 5740 sections 5.2 and 5.3). It hands up the sender's objects in order, instance by instance. In each turn:
-/// 1. [`deliver`](Receiver::deliver) each datagram that arrived, in any order. Any octets are allowed.
+/// A NORM receiver without I/O (RFC 5740 sections 5.2 and 5.3). In each turn:
+/// 1. [`deliver`](Receiver::deliver) each datagram that arrived. Any octets are allowed.
 /// 2. [`take_up`](Receiver::take_up) until it returns `None`.
 /// 3. [`tick`](Receiver::tick). Last, because an acknowledgement may leave only after the user has what it confirms.
 // It stands for some state of the rules at each moment. Otherwise the clauses of its calls would promise nothing.
@@ -39,7 +39,8 @@ impl Model for Receiver {
 }
 
 impl Receiver {
-    /// Creates a node's receiver, which is in no instance yet. The first INFO, DATA, FLUSH or SQUELCH of the profile's sender begins one.
+    /// Creates a node's receiver, which is in no instance yet. The first INFO, DATA, FLUSH or SQUELCH of the profile's sender whose object
+    /// id names an index begins one.
     ///
     /// # Errors
     ///
@@ -52,14 +53,14 @@ impl Receiver {
         Ok(Receiver { parts })
     }
 
-    /// Takes in a datagram of the sender, or what another node asks for. Any other octets change nothing. If a back-off begins, `draw`
-    /// decides how long it lasts.
+    /// Takes in a datagram. If a back-off begins, `draw` decides how long it lasts. If another instance begins, everything of the one
+    /// before is forgotten, also hand-ups that were not taken.
     ///
     /// # Errors
     ///
-    /// `Memory` if memory runs out. Everything is then as if the datagram had been lost. It can happen only for an INFO, DATA, flush or squelch of
-    /// the profile's sender in the current instance or a later one, and for requests of others while a back-off runs. Other octets take no
-    /// memory.
+    /// `Memory` if memory runs out. Everything is then as if the datagram had been lost. It can happen only for an INFO, DATA, flush or
+    /// squelch of the profile's sender in the current instance or one that the receiver goes on to, and while a back-off runs, for a NACK
+    /// or REPAIR_ADV.
     pub fn deliver(&mut self, bytes: &[u8], now: Moment, draw: u32) -> Result<(), Memory>
         ensures profile { self.new.p ≡ self.old.p }
         ensures stands { IfOk result (λ _. (s : ReceiverState) → StandsFor self.old s → StandsFor self.new (received self.old.p s bytes.now now draw)) }
@@ -69,7 +70,7 @@ impl Receiver {
         self.parts.deliver(bytes, now, draw)
     }
 
-    /// Takes the next hand-up. `None` if all were taken; then nothing changes. It takes no memory.
+    /// Takes the next hand-up. `None` if all were taken. It takes no memory.
     pub fn take_up(&mut self) -> Option<Up>
         ensures profile { self.new.p ≡ self.old.p }
         ensures stands { (s : ReceiverState) → StandsFor self.old s → StandsFor self.new (took s).0 × (result ≡ (took s).1) }
@@ -80,8 +81,7 @@ impl Receiver {
     }
 
     /// Sends the acknowledgement that is due. If none is due and a back-off has expired, sends a NACK if something is needed, unless others
-    /// have asked for everything that it would ask for. Call it after all hand-ups were taken. If nothing is sent, `out` may hold anything.
-    /// It takes no memory.
+    /// have asked for everything that it would ask for. If nothing is sent, `out` may hold anything. It takes no memory.
     pub fn tick(&mut self, now: Moment, out: &mut Datagram) -> Sent
         requires taken { self.old.hold.ups ≡ [] }
         ensures profile { self.new.p ≡ self.old.p }
@@ -91,14 +91,14 @@ impl Receiver {
         self.parts.tick(now, out)
     }
 
-    /// Returns the position that the next tick acknowledges, if one is due.
+    /// Returns the position that a tick would acknowledge now, if one is due.
     pub fn due(&self) -> Option<Position>
         ensures { (s : ReceiverState) → StandsFor self.now s → result ≡ s.knows.due }
     {
         self.parts.due()
     }
 
-    /// Returns how many hand-ups [`take_up`](Receiver::take_up) still returns before `None`. Takes constant time.
+    /// Returns how many hand-ups [`take_up`](Receiver::take_up) would return now before `None`.
     pub fn ups(&self) -> usize
         ensures exact { result ≡ length self.now.hold.ups }
         ensures stands { (s : ReceiverState) → StandsFor self.now s → result ≡ length s.holding.ups }
@@ -113,7 +113,8 @@ impl Receiver {
         self.parts.instance()
     }
 
-    /// Whether an object, or the rest of a stream, was lost in this instance. If so, the receiver acknowledges nothing more in it.
+    /// Whether an object, or the rest of a stream, was lost in this instance. If so, the receiver acknowledges no later flush of the
+    /// instance. An acknowledgement that was due before stays due.
     pub fn has_lost(&self) -> bool
         ensures { (s : ReceiverState) → StandsFor self.now s → lost_nothing s.holding ≡ not result }
     {

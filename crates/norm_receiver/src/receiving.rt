@@ -1,4 +1,4 @@
-//! What a receiver does with a message of the sender (RFC 5740 section 5.2), after `entering` checked its instance and its object id.
+//! What a receiver does with an INFO, DATA, flush or squelch (RFC 5740 section 5.2), after `entering` checked its instance and object id.
 
 ghost use Rattle.std.specs.Prelude.{◌≡◌, ◌^◌, ◌<◌, ◌%◌, ◌&&◌, IfOk, OnErr, IfSome, false, length};
 ghost use Rattle.fec_plan.specs.Points.{IsBlock, position, point as point_at, point_of};
@@ -32,7 +32,7 @@ pub(crate) enum Brought<'a> {
     Symbol { id: PayloadId, payload: &'a [u8] },
 }
 
-/// What a message of the sender says of an object.
+/// What an INFO, DATA, flush or squelch says of an object.
 #[derive(Debug, Drop)]
 pub(crate) enum Said<'a> {
     Info {
@@ -81,12 +81,12 @@ fn lets_put(word: Fit) -> bool
 {
     match word {
         Fit::Known | Fit::Taken => true,
-        // Without a plan that fits there is nothing to put it into.
+        // The object has no plan, or another one.
         Fit::Away | Fit::Unfit => false,
     }
 }
 
-/// Keeps the info of an object, unless [`Hold::put_info`] answers that it does not. That makes no difference to the caller.
+/// Does what [`Hold::put_info`] does, without saying whether the info was kept.
 fn keep_info(hold: &mut Hold, index: u32, info: &[u8]) -> Result<(), Memory>
     ensures profile { hold.new.p ≡ hold.old.p }
     ensures state { IfOk result (λ _. (s : Holding) → HoldStands hold.old s → HoldStands hold.new (put_info hold.old.p index info.now s)) }
@@ -96,7 +96,7 @@ fn keep_info(hold: &mut Hold, index: u32, info: &[u8]) -> Result<(), Memory>
     Ok(())
 }
 
-/// Keeps a symbol of an object, unless [`Hold::put`] answers that it does not. That makes no difference to the caller.
+/// Does what [`Hold::put`] does, without saying whether the symbol was kept.
 fn keep_symbol(hold: &mut Hold, index: u32, id: PayloadId, payload: &[u8]) -> Result<(), Memory>
     ensures profile { hold.new.p ≡ hold.old.p }
     ensures state { IfOk result (λ _. (s : Holding) → HoldStands hold.old s
@@ -126,22 +126,22 @@ fn see_brought(hold: &mut Hold, index: u32, brought: &Brought<'_>)
     hold.see(place_of(index, brought).point());
 }
 
-/// Keeps what is brought, notes its block as seen, and hands up everything that is ready.
+/// Keeps what is brought if the hold can, notes its block as seen, and hands up everything that is ready.
 fn keep(hold: &mut Hold, index: u32, brought: &Brought<'_>) -> Result<(), Memory>
     ensures profile { hold.new.p ≡ hold.old.p }
     ensures state { IfOk result (λ _. (s : Holding) → HoldStands hold.old s
         → HoldStands hold.new (handed_up hold.old.p (puts hold.old.p index brought.now (sees_block (point_of (place_of index brought.now)) s)))) }
     ensures refused { OnErr result (hold.new ≡ hold.old) }
 {
-    // Notes the block only after nothing can fail any more. The rules note it first, with the same result: what is put does not depend on it.
+    // Notes the block only after nothing can fail any more. The rules note it first, with the same result.
     put_brought(hold, index, brought)?;
     see_brought(hold, index, brought);
     hold.advance();
     Ok(())
 }
 
-/// Keeps what an INFO or DATA with transmission information brings, if that fits. Otherwise only notes its block as seen. If memory runs out, an
-/// object that it took up is forgotten again.
+/// Does what [`keep`] does if the transmission information of an INFO or DATA fits. Otherwise only notes the block as seen. If memory runs
+/// out, an object that was taken up by this message is forgotten again.
 fn keep_told(
     hold: &mut Hold,
     index: u32,
@@ -162,15 +162,14 @@ fn keep_told(
     let Err(fault) = keep(hold, index, brought) else {
         return Ok(());
     };
-    // The plan came with the info or symbol that found no memory. If it stayed, the datagram would have changed something, and could not count as
-    // lost.
+    // If the plan stayed, the datagram would have changed something, and could not count as lost.
     if word == Fit::Taken {
         hold.untake(index);
     }
     Err(fault)
 }
 
-/// Keeps what an INFO or DATA brings. Without transmission information that is possible only if the object was taken up before.
+/// Keeps what an INFO or DATA brings if the hold can: without transmission information, only if the object was taken up before.
 fn keep_object(
     hold: &mut Hold,
     index: u32,
@@ -202,7 +201,7 @@ impl Parts {
         self.hold.hand_up().all_handed_up(&at, self.hold.has_lost())
     }
 
-    /// Takes in an INFO or DATA of the object with this index, and notes the index as known, and its block if it is the farthest.
+    /// Takes in an INFO or DATA of the object with this index, and notes the index, and the block if it is the farthest.
     #[tactic(auto, using(crate::proofs::BlockLemmas::held_blocks))]
     fn receive_object(
         &mut self,
@@ -223,8 +222,8 @@ impl Parts {
         Ok(())
     }
 
-    /// Takes in a flush up to a symbol of the object with this index, and notes the index as known. Whether to acknowledge it is decided now: what is
-    /// handed up later is acknowledged only after another flush.
+    /// Takes in a flush up to a symbol of the object with this index. Whether to acknowledge it is decided now: what is handed up later is
+    /// acknowledged only after another flush.
     fn receive_flush(&mut self, index: u32, id: PayloadId, nodes: &[u8])
         requires { length nodes.now % 4 ≡ 0 }
         ensures profile { self.new.profile ≡ self.old.profile }
@@ -237,7 +236,7 @@ impl Parts {
         self.numbers = known.flushed(at, acknowledged);
     }
 
-    /// Takes in a squelch, after which the sender's window begins at this block. Notes the index as known.
+    /// Takes in a squelch, which says that the sender's window begins at this block.
     fn receive_squelch(&mut self, index: u32, block: u32) -> Result<(), Memory>
         requires { index < 4294967295 }
         ensures profile { self.new.profile ≡ self.old.profile }
@@ -250,7 +249,7 @@ impl Parts {
         Ok(())
     }
 
-    /// Does what a message says of the object with this index, and notes the index as known. It starts no back-off.
+    /// Does what a message says of the object with this index, and notes the index. It starts no back-off.
     pub(crate) fn receive(&mut self, index: u32, said: &Said<'_>) -> Result<(), Memory>
         requires whole { IsSaid said.now }
         requires last { index < 4294967295 }

@@ -14,15 +14,14 @@ use norm_ext::flags::{WANT_BLOCK, WANT_INFO, WANT_OBJECT, WANT_SEGMENT};
 use norm_ext::items::item_of;
 use norm_ext::{Form, RequestWriter};
 
-/// What a receiver needs. A NACK has one item, or one range, for each need that it has room for. Needs that follow each other share a repair
-/// request if their form and flags are the same.
+/// What a receiver needs. A NACK has one item, or one range, for each need before the first that does not fit.
 #[derive(Clone, Copy, Debug, PartialEq, Eq)]
 pub enum Need {
-    /// An object of which nothing is known, and its info.
+    /// An object that was not taken up, and its info.
     Object { index: u32 },
-    /// The info of an object that has a plan. Its flags have INFO, and the info is not held.
+    /// The info of an object that was taken up.
     ObjectInfo { index: u32 },
-    /// This many symbols of a block, of those that did not come.
+    /// This many more symbols of a block.
     Symbols { index: u32, block: u32, wanted: u8 },
     /// A source symbol of a stream, by its own name.
     Source { at: Position },
@@ -41,7 +40,7 @@ fn first_of(index: u32) -> Position
     }
 }
 
-/// Returns the position of a block's first symbol, which names one end of a range of blocks.
+/// Returns the position of a block's first symbol, which names the block in a range.
 fn first_in(index: u32, block: u32) -> Position
     requires { IsBlock block }
     ensures { result ≡ position index block 0 }
@@ -53,8 +52,8 @@ fn first_in(index: u32, block: u32) -> Position
     }
 }
 
-/// Appends the item or range that asks for a need. It joins the last request if that has its form and flags, and begins a new one otherwise. The
-/// writer must have the datagram that it wrote to before. Returns `false` if the requests would exceed the limit; then nothing changes.
+/// Appends the item or range that asks for a need. It joins the last request if that has its form and flags. `out` is the datagram that
+/// the writer wrote to before. Returns `false` if the requests would exceed the limit; then nothing changes.
 pub(crate) fn ask(
     profile: &Profile,
     need: Need,

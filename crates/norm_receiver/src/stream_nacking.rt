@@ -1,5 +1,4 @@
-//! What a NACK asks for of a stream (RFC 5740 section 5.3): symbols for its due blocks, source symbols up to a flush and before the end, and
-//! everything from a block on.
+//! What a NACK asks for of a stream apart from its info (RFC 5740 section 5.3).
 
 ghost use Rattle.std.specs.Prelude.{◌≡◌, ℕ, List, IfSome, false, not};
 ghost use Rattle.fec_plan.specs.Points.{IsBlock, point_before, point_of};
@@ -22,7 +21,7 @@ use fec_plan::{Plan, Position};
 use norm_base::Datagram;
 
 impl Parts {
-    /// Requests a source symbol if it is not held. Its block was not handed up whole.
+    /// Requests a source symbol if it is not held.
     fn ask_symbol(&self, at: Position, asking: &mut Asking, out: &mut Datagram)
         requires ahead { point_before (point_of at) (point_of self.now.hold.point) ≡ false }
         requires block { IsBlock at.block }
@@ -92,7 +91,7 @@ impl Parts {
         }
     }
 
-    /// Requests everything of a stream from block `rest` on, up to the last block that a message can name. Does nothing if `rest` is `None`.
+    /// Requests everything of a stream from block `rest` on. Does nothing if `rest` is `None`.
     fn ask_rest(
         &self,
         index: u32,

@@ -31,11 +31,13 @@ pub struct Run {
 pub struct StreamWants {
     /// Each block before this one is needed if it is incomplete.
     pub due: u32,
-    /// The source symbols of the flush's block up to the flush, if it is in this stream.
+    /// The source symbols of the flush's block up to and including the flush. `None` if the farthest flush is not in this stream.
     pub flushed: Option<Run>,
-    /// The source symbols of the end's block before the end, except those in `flushed`. `None` if the end is not known, or the stream not covered.
+    /// The source symbols of the end's block before the end, except those in `flushed`. `None` if the end is not known, or the stream not
+    /// covered.
     pub ended: Option<Run>,
-    /// The block from which on everything is needed, because the sender is past the stream and its end is not known.
+    /// The block from which on everything is needed, if the sender is past the stream and its end is not known. `None` otherwise, and if no
+    /// message can name the block.
     pub rest: Option<u32>,
 }
 
@@ -65,7 +67,7 @@ fn is_behind(farthest: &Option<Point>, flush: &Option<Position>, index: u32) -> 
     }
 }
 
-/// Returns the block before which all blocks are due: the greatest one that was seen, or the flush's if that is greater.
+/// Returns [`StreamWants::due`]: the greatest block that was seen, or the flush's if that is greater.
 fn stream_due(seen: u32, within: &Option<Position>) -> u32
     requires seen { IsBlock seen }
     requires within { IfSome within.now (λ at. IsBlock at.block) }
@@ -78,20 +80,20 @@ fn stream_due(seen: u32, within: &Option<Position>) -> u32
     }
 }
 
-/// Returns the greatest block that was seen of a stream, at most the last that a message can name. 0 if none was.
+/// Returns the greatest block that was seen of a stream. 0 if none was.
 fn block_seen(hold: &Hold, index: u32) -> u32
     requires { hold.now.point.index ≤ index }
     ensures block { IsBlock result }
     ensures seen { (s : Holding) → HoldStands hold.now s → HasSeenBlocks s → IfSome (plan_of s index) (λ found. says_stream found.flags ≡ true → result ≡ found.seen) }
 {
     match hold.seen(index) {
-        // The greatest block stands in the stream and not in the numbers: no block is seen of a stream without a plan.
+        // Of the stream and not of the numbers, whose farthest block may be another object's.
         Some(block) => block.min(LAST_BLOCK),
         None => 0,
     }
 }
 
-/// Returns the position of a covered stream's end, if that is known. It does not look for the end if the stream is not covered.
+/// Returns the position of a stream's end, if the stream is covered and the end is known.
 fn end_of(hold: &Hold, index: u32, covered: bool) -> Option<Position>
     requires { hold.now.point.index ≤ index }
     ensures exact { covered ≡ true → (s : Holding) → HoldStands hold.now s → result ≡ end_at hold.now.p s index }
@@ -129,8 +131,7 @@ pub(crate) fn is_done(hold: &Hold, index: u32, plan: &Plan, block: u32) -> bool
     }
 }
 
-/// Returns the block from which on everything is needed if the sender is past the stream and its end is not known: the greatest block seen,
-/// or the next one if that is done.
+/// Returns the greatest block seen, or the next one if that is done.
 fn open_block(hold: &Hold, index: u32, plan: &Plan, seen: u32) -> u32
     requires stream { IsStreamOf hold.now index plan.now }
     requires block { IsBlock seen }
@@ -149,7 +150,7 @@ fn symbols_through(plan: &Plan, symbol: u8, block: u32) -> u8
     (u16::from(symbol) + 1).min(u16::from(plan.source_len(block))) as u8
 }
 
-/// Returns how many source symbols of a block lie up to and including the flush, if that is in this block. Returns 0 otherwise.
+/// Returns how many source symbols of a block lie up to and including the flush. 0 if that is not in this block.
 fn symbols_flushed(plan: &Plan, within: &Option<Position>, block: u32) -> u8
     ensures { result ≡ symbols_named plan.now within.now block }
 {
@@ -159,7 +160,7 @@ fn symbols_flushed(plan: &Plan, within: &Option<Position>, block: u32) -> u8
     }
 }
 
-/// Returns the source symbols of the flush's block up to and including the flush. `None` if the flush is in another object.
+/// Returns [`StreamWants::flushed`].
 fn flush_run(plan: &Plan, within: &Option<Position>) -> Option<Run>
     requires { IfSome within.now (λ at. IsBlock at.block) }
     ensures exact { result ≡ flush_run plan.now within.now }
@@ -175,8 +176,7 @@ fn flush_run(plan: &Plan, within: &Option<Position>) -> Option<Run>
     }
 }
 
-/// Returns the source symbols of the end's block before the end, except those that a flush in this block names. `None` if the end is not known, or
-/// the stream not covered.
+/// Returns [`StreamWants::ended`].
 fn end_run(
     plan: &Plan,
     covered: bool,
@@ -200,8 +200,7 @@ fn end_run(
     }
 }
 
-/// Returns the block from which on everything of a stream is needed. `None` if its end is known, the sender is not past it, or no message can
-/// name the block.
+/// Returns [`StreamWants::rest`]: block `least`, if it is needed and a message can name it.
 fn rest_from(end: &Option<Position>, behind: bool, least: u32) -> Option<u32>
     ensures exact { result ≡ rest_at (is_none end.now && behind) least }
     ensures block { IfSome result (λ block. IsBlock block) }
@@ -212,16 +211,14 @@ fn rest_from(end: &Option<Position>, behind: bool, least: u32) -> Option<u32>
     if !behind {
         return None;
     }
-    // Block 16,777,215 is done and no end came: no request can name more of the stream. The stream waits for a squelch, and later objects are
-    // requested all the same. Only in this case may something be needed although nothing of the object at the hand-up point is
-    // (`norm_receive_rules::laws::front`).
+    // Block 16,777,215 is done and no end came: no request can name more of the stream. Later objects are requested all the same.
     if least > LAST_BLOCK {
         return None;
     }
     Some(least)
 }
 
-/// Returns what may be needed of a stream apart from its info. If the stream is covered, it searches all blocks that are held for the end.
+/// Returns what may be needed of a stream apart from its info. If the stream is covered, it searches the blocks for the end.
 pub(crate) fn stream_wants(hold: &Hold, numbers: &Numbers, index: u32, plan: &Plan) -> StreamWants
     requires { IsStreamOf hold.now index plan.now }
     ensures widths { AreBlocks result }
@@ -267,7 +264,7 @@ fn is_there(hold: &Hold, index: u32, plan: &Plan, run: Run) -> bool
     true
 }
 
-/// Whether no source symbol of a run is missing. True if there is no run.
+/// Whether no source symbol of a run is missing, if there is one.
 fn are_there(hold: &Hold, index: u32, plan: &Plan, run: Option<Run>) -> bool
     requires stream { IsStreamOf hold.now index plan.now }
     requires block { IfSome run (λ some. IsBlock some.block) }
@@ -285,7 +282,7 @@ fn is_nowhere(rest: &Option<u32>) -> bool
     rest.is_none()
 }
 
-/// Whether nothing is needed of a stream's due blocks, and of the source symbols up to a flush. It does not look for the end.
+/// Whether nothing is needed of a stream's due blocks, and of the source symbols up to and including a flush.
 fn is_quiet_to_flush(hold: &Hold, numbers: &Numbers, index: u32, plan: &Plan) -> bool
     requires { IsStreamOf hold.now index plan.now }
     ensures { (s : Holding) → HoldStands hold.now s → HasSeenBlocks s → IfSome (plan_of s index) (λ found.
@@ -299,14 +296,13 @@ fn is_quiet_to_flush(hold: &Hold, numbers: &Numbers, index: u32, plan: &Plan) ->
     are_there(hold, index, plan, flush_run(plan, &within))
 }
 
-/// Whether nothing is needed of a stream apart from its info. It looks for the end only if everything up to the flush is there: then few
-/// blocks are held from the next segment's on.
+/// Whether nothing is needed of a stream apart from its info.
 pub(crate) fn is_stream_quiet(hold: &Hold, numbers: &Numbers, index: u32, plan: &Plan) -> bool
     requires { IsStreamOf hold.now index plan.now }
     ensures { (s : Holding) → HoldStands hold.now s → HasSeenBlocks s → IfSome (plan_of s index) (λ found.
         result ≡ is_nil (stream_needs hold.now.p numbers.now.farthest numbers.now.flush s found)) }
 {
-    // First the tests that cost little. The end is a search over all blocks that are held.
+    // First the tests that cost little: the end is searched for block by block.
     if !is_quiet_to_flush(hold, numbers, index, plan) {
         return false;
     }

@@ -16,7 +16,7 @@ use rx_hold::Hold;
 use std::alloc::Global;
 
 impl Parts {
-    /// Creates a node's receiver, which is in no instance yet. Takes the memory of an empty hold; what is heard takes memory as it comes.
+    /// Creates a node's receiver, which is in no instance yet.
     pub(crate) fn new(alloc: Global, profile: &Profile, node: NodeId) -> Result<Parts, Memory>
         ensures profile { IfOk result (λ parts. parts.profile ≡ profile.now) }
         ensures state { IfOk result (λ parts. Stands (kept_of parts) (receiver_opening node)) }
@@ -41,7 +41,7 @@ impl Parts {
         self.hold.next_up()
     }
 
-    /// Returns how many hand-ups [`take_up`](Parts::take_up) still returns before `None`. Takes constant time.
+    /// Returns how many hand-ups [`take_up`](Parts::take_up) would return now before `None`.
     pub(crate) fn ups(&self) -> usize
         ensures exact { result ≡ length self.now.hold.ups }
         ensures state { (s : ReceiverState) → Stands (kept_of self.now) s → result ≡ length s.holding.ups }
@@ -55,7 +55,7 @@ impl Parts {
         self.numbers.instance
     }
 
-    /// Whether an object, or the rest of a stream, was lost in this instance. If so, the receiver acknowledges nothing more in it.
+    /// Whether an object, or the rest of a stream, was lost in this instance.
     pub(crate) fn has_lost(&self) -> bool
         ensures { (s : ReceiverState) → Stands (kept_of self.now) s → lost_nothing s.holding ≡ not result }
     {

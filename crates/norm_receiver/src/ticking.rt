@@ -1,4 +1,4 @@
-//! A tick of a receiver (RFC 5740 section 5.3): it sends an acknowledgement that is due, or the NACK after a back-off, or nothing.
+//! A tick of a receiver (RFC 5740 section 5.3): it sends at most one datagram.
 
 ghost use Rattle.std.specs.Prelude.{◌≡◌};
 ghost use Rattle.norm_receive_rules.specs.ReceiverState.{ReceiverState};
@@ -12,7 +12,7 @@ use crate::parts::Parts;
 use norm_base::{Datagram, Moment, Sent};
 
 impl Parts {
-    /// Sends a NACK if something is needed, unless others have asked for everything that it would ask for. In both cases a hold-off begins.
+    /// If something is needed, begins a hold-off, and sends a NACK unless others have asked for everything that it would ask for.
     fn ask_where_needed(&mut self, now: Moment, out: &mut Datagram) -> Sent
         ensures profile { self.new.profile ≡ self.old.profile }
         ensures sent { (s : ReceiverState) → Stands (kept_of self.old) s
@@ -20,7 +20,7 @@ impl Parts {
     {
         match self.write_nack(out) {
             Asks::Nothing => Sent::Nothing,
-            // Held off as after a NACK of its own: the same repair is under way, and a request for it would only be repeated.
+            // Held off as after a NACK of its own: the same repair was asked for.
             Asks::Heard => {
                 self.numbers = self.numbers.holding_off(&self.profile, now);
                 Sent::Nothing
@@ -32,7 +32,7 @@ impl Parts {
         }
     }
 
-    /// Ends the back-off if it has expired, and sends a NACK if one is called for.
+    /// Ends the back-off if it has expired, and then sends a NACK if one is called for.
     fn end_back_off(&mut self, now: Moment, out: &mut Datagram) -> Sent
         ensures profile { self.new.profile ≡ self.old.profile }
         ensures sent { (s : ReceiverState) → Stands (kept_of self.old) s
@@ -52,7 +52,7 @@ impl Parts {
             → IsSent (kept_of self.new) out.new result (ticked self.old.profile s now) }
     {
         match self.numbers.due {
-            // The acknowledgement first: a sender in hold mode may stand still for it, and a NACK loses nothing by one tick.
+            // The acknowledgement first: a sender in hold mode may stand still for it, and a NACK can wait for another tick.
             Some(at) => self.acknowledge(at, out),
             None => self.end_back_off(now, out),
         }

@@ -11,7 +11,7 @@ use norm_base::{Moment, NodeId, Octets, Origin, Sent};
 use norm_send_rules::{Job, News, Outcome, Receipt, SendFault};
 
 /// An event without its octets. `at` is the index of the rest in the list of its kind.
-// An entry is small, because a session has many times more events than different datagrams.
+// An entry is small, because a session may have many times more events than different datagrams.
 #[derive(Clone, Copy)]
 pub(crate) enum Entry {
     Turn { at: u32 },
@@ -22,7 +22,7 @@ pub(crate) enum Entry {
     /// A take of octets that were no latest offer, by its index among such takes.
     Apart { to: NodeId, at: u32 },
     Empty,
-    /// `at` may be that of other nodes' hand-ups too, since equal ones are kept once.
+    /// `at` may be that of other hand-ups too: one that equals the latest with its name is not kept again.
     Up { node: NodeId, at: u32 },
     Rare { at: u32 },
 }
@@ -88,7 +88,7 @@ impl Rare {
         }
     }
 
-    /// Whether a command was refused for good. Not if it has to wait: it is then offered again.
+    /// Whether a command was refused for good. Not if it has to wait.
     pub(crate) fn is_refused(&self) -> bool
         ensures { result ≡ is_refused (rare_event self.now) }
     {

@@ -25,14 +25,14 @@ use norm_send_rules::{Job, News, Receipt, SendFault};
 use std::alloc::Global;
 use std::marker::Model;
 
-/// The events of a session in their order. Contracts see the list of `norm_journal::Event`. A datagram is kept once for its offer and its
-/// takes, and a hand-up once for all receivers ([`octets`](Journal::octets) and [`hand_ups`](Journal::hand_ups) say if so). Each push adds its
-/// event at the end. It answers `Memory` if memory runs out or an index does not fit 32 bits. Then nothing changed.
+/// The events of a session in their order. Contracts see the list of `norm_journal::Event`. A datagram is mostly kept once for its offer
+/// and its takes, and a hand-up mostly once for all receivers ([`octets`](Journal::octets) and [`hand_ups`](Journal::hand_ups) say when).
+/// Each push adds its event at the end. It answers `Memory` if memory runs out or an index does not fit 32 bits. Then nothing changed.
 #[derive(Drop)]
 pub struct Journal {
     entries: Vec<Entry>,
     offers: Offers,
-    /// The octets that were taken and are not the latest offer with their name.
+    /// The octets that were taken and were not the latest offer with their name at that time.
     apart: Row,
     ups: Ups,
     rares: Vec<Rare>,
@@ -94,7 +94,7 @@ impl Journal {
 
     /// How many octets of datagrams are kept. If each take is of the latest offer with its source and sequence number, these are the octets that
     /// were offered, each once.
-    // Only tests and a bench call it. It stays for its clause: no other says that what was taken is not kept again.
+    // Only a bench calls it. It stays for its clause, which says when what was taken is not kept again.
     pub fn octets(&self) -> usize
         ensures { TakesOffered self.now → result ≡ sum_by length (offered self.now) }
     {
@@ -103,7 +103,7 @@ impl Journal {
 
     /// How many hand-ups are kept. If all with the same instance, part, index and offset are the same, each is kept once for any number of
     /// receivers.
-    // Only tests call it. It stays for its clause, as `octets` does.
+    // No other crate calls it. It stays for its clause, as `octets` does.
     // Proof: the names of what is kept are those of what came, and differ; length-from_keys makes that a count.
     pub fn hand_ups(&self) -> usize
         ensures { UpsAgree self.now → result ≡ distinct_count nat_eq (names_in self.now) }
@@ -112,7 +112,7 @@ impl Journal {
     }
 
     /// Returns hand-up `i` of all nodes, counted from 0 in the order of the events, with its node. `None` if there are no more.
-    // Only tests call this, `refused` and `expired`. They stay for programs that ask what became of a session.
+    // `normd` calls neither this nor `refused` nor `expired`. They stay for programs that ask what became of a session.
     pub fn up(&self, i: u64) -> Option<(NodeId, &Up)>
         ensures { option_map (λ hand. (hand.0, hand.1.now)) result ≡ slice_get (handed_up self.now) i }
     {
@@ -156,7 +156,8 @@ impl Journal {
         self.push_rare(Rare::Start)
     }
 
-    /// Adds that turn `t` began, at this moment: `t` times the profile's `step`, or what the clock gave if `step` is 0. It never falls.
+    /// Adds that turn `t` began, at this moment: `t` times the profile's `step`, or what the clock gave if `step` is 0. If the clock fell,
+    /// it is the moment of the turn before.
     pub fn push_turn(&mut self, t: u32, now: Moment) -> Result<(), Memory>
         ensures { Adds self.old self.new result (event.Turn t now) }
     {

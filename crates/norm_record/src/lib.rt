@@ -1,5 +1,5 @@
-//! The journal of a session as it is kept: a datagram is mostly kept once for its offer and its takes, and a hand-up once for all receivers. Contracts
-//! see it as the list of its events. `norm_session` writes a [`Journal`]. Tests read each event as a [`Seen`].
+//! The journal of a session as it is kept: a datagram is mostly kept once for its offer and its takes, and a hand-up mostly once for all
+//! receivers. Contracts see it as the list of its events. `norm_session` writes a [`Journal`]. Tests read each event as a [`Seen`].
 #![tactic(auto)]
 
 mod counts;

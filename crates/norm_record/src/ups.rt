@@ -18,7 +18,7 @@ pub(crate) struct HandUp {
 }
 
 /// Hand-ups. Contracts see the list of them. Of each name, the index of the latest one is known.
-// Receivers hand up the same octets, so each is kept once however many receivers there are.
+// Receivers of one sender mostly hand up the same, and then one is kept for all of them.
 #[derive(Drop)]
 pub(crate) struct Ups {
     kept: Vec<HandUp>,
@@ -83,7 +83,7 @@ fn is_same_info(a: &Option<Octets>, b: &Option<Octets>) -> bool
     }
 }
 
-/// It compares all octets, so it costs their length if the rest is the same.
+/// It compares octets, so it costs their length if the two are the same.
 fn is_same_up(a: &Up, b: &Up) -> bool
     ensures { Decides result (a.now ≡ b.now) }
 {

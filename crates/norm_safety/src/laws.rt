@@ -17,9 +17,9 @@ ghost use Rattle.norm_safety.specs.WorldLaws.{WorldLaws};
 /// Every lawful run is safe, whatever the network loses, repeats, reorders or delays, and however often the sender restarts:
 /// 1. Accepted objects, and what is written to streams, enter the transport order once each. This holds of every honest run ([`in_time`]).
 /// 2. Each receiver hands up an instance's order from its beginning, octet for octet, a stream segment by segment. It leaves out only what it reports
-/// as lost, and that only if the sender dropped data. It is in each instance once.
+/// as lost, and that only if the sender dropped data. It comes to each instance at most once.
 /// 3. A receiver is listed past a watermark only after it handed up everything before.
-/// 4. A watermark is satisfied if and only if its quorum was listed past it before it ended.
+/// 4. A watermark is satisfied if and only if its quorum, or every member if there are fewer, was listed past it before it ended.
 // Proof: hand-ups are exact first (Passed), and the relation GoesThrough follows at the end.
 #[tactic(auto, using(crate::proofs::SafeRun::safe_run))]
 pub fn safe_run()
@@ -33,9 +33,9 @@ pub fn each_front()
     ensures { FrontLaws }
 {}
 
-/// In lawful runs, everything that was sent is true of the orders. Each DATA and INFO carries the encoded symbol or the info of its object,
-/// with the object's transmission information and flags. Each flush names a closed source symbol of its instance's order. Each squelch
-/// names a point that is not after the drop point of its instance.
+/// In lawful runs, what the sender says of its orders is true. Each DATA and INFO carries the encoded symbol or the info of its object, with
+/// the object's transmission information and flags. Each flush names a closed source symbol of its instance's order. Each squelch names a
+/// point that is not after the drop point of its instance. Of NACKs, acknowledgements and REPAIR_ADV it says nothing.
 // Proof: octets of receivers say nothing of objects whatever is read of them: the first octet decides.
 #[tactic(auto, using(crate::proofs::SaidRun::said_run))]
 pub fn said_run()
@@ -63,7 +63,7 @@ pub fn credit_run()
 {}
 
 /// The fourth part of safety. In each run, a watermark is satisfied if and only if, at some moment before it ended, as many members as its
-/// quorum says were listed past it, or all if there were no more. Its outcome never changes.
+/// quorum says were listed past it, or all if there were no more. The outcome of one that ended never changes.
 pub fn satisfied_run()
     ensures { SatisfiedRun }
 {}
@@ -84,7 +84,7 @@ pub fn fresh_run()
 
 /// In each lawful run, if a receiver of the instance lacks no more symbols of a whole block than a request of a closing round counts, what
 /// is wanted then completes the block for it, whatever others asked, unless the sender dropped the block. With what the receiver holds, it
-/// makes as many different symbols as the block has source symbols.
+/// makes at least as many different symbols as the block has source symbols.
 #[tactic(auto, using(crate::proofs::FreshRun::closing_run))]
 pub fn closing_run()
     ensures { OfLawfulRuns ClosingCompletes }
@@ -105,8 +105,8 @@ pub fn rounds_ask_as_they_came()
 {}
 
 /// In each lawful run, coded repair is enough. If a NACK of a closing round counts missing symbols of a block, what is wanted then
-/// completes that block for the receiver that sent the NACK, whatever others asked, unless the sender dropped the block. And if a wanted
-/// symbol was never sent, nobody holds it.
+/// completes that block, as far as it is closed, for the receiver that sent the NACK, whatever others asked, unless the sender dropped the
+/// block. And if a wanted symbol was never sent, no receiver of the instance holds it.
 #[tactic(auto, using(crate::proofs::RepairRun::repair_run))]
 pub fn repair_run()
     ensures { OfLawfulRuns RepairSuffices }

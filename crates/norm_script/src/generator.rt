@@ -12,14 +12,14 @@ use itoa::Buffer;
 use norm_base::{Failed, Sink};
 
 /// How many lines set keys. They come first.
-// As many as `setting_row` has arms.
+// As many as `setting_row` makes.
 const SETTINGS: u32 = 11;
 
 /// The number of all lines: `SETTINGS`, and 100 commands for each of three producers.
 const ROWS: u32 = 311;
 
 /// A line with its line feed, of at most 1,024 octets.
-// The longest line has 500 octets as digits and eight more. On the stack, so that writing a script takes no memory.
+// A line has at most 500 octets, as two digits each, and eight more. On the stack, so that writing a script takes no memory.
 type Row = ArrayVec<u8, 1024>;
 
 fn put(row: &mut Row, octets: &[u8])
@@ -126,8 +126,8 @@ fn row_at(n: u32, k: u32) -> Row
     command_row(n, k - SETTINGS)
 }
 
-/// Writes the script of this number, one line with each write: three producers send 90 objects each to 16 receivers, over a network that loses one copy
-/// of a datagram in ten. Allocates no memory.
+/// Writes the script of this number, one line with each write: three producers send 90 objects each to 16 receivers, over a network that loses, on
+/// average, one copy of a datagram in ten, repeats some and delays some. Allocates no memory.
 ///
 /// # Errors
 ///

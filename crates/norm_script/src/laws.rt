@@ -14,13 +14,13 @@ pub fn reads_scripts()
     ensures { (text : List ℕ) → IfOk (script_of text) IsScript }
 {}
 
-/// Every script that can be read can be run. More can be run: scripts with longer contents and other names and quorums.
+/// Every script that can be read can be run. More can be run: scripts with contents of any length, also none, and other names and quorums.
 #[tactic(auto, using(crate::proofs::RunLemmas::run_laws))]
 pub fn scripts_can_run()
     ensures { (script : Commands) → IsScript script → CanRun script }
 {}
 
-/// A script that is written out reads back as itself.
+/// A script that can be read reads back as itself after it is written out.
 #[tactic(auto, using(crate::proofs::AgainLemmas::again_laws))]
 pub fn reads_back()
     ensures { (script : Commands) → IsScript script → script_of (script_octets script) ≡ Ok script }
@@ -32,8 +32,8 @@ pub fn reads_generated()
     ensures { (n : ℕ) → n ≤ 4294967295 → script_of (generate_text n) ≡ Ok (generated_script n) }
 {}
 
-/// The texts of one script differ only in comments, empty lines, the case of hexadecimal digits, the order of settings, and settings that repeat
-/// a default.
+/// The texts of one script differ only in comments, empty lines, the line feed of the last line, the case of hexadecimal digits, the order
+/// of settings, and settings that repeat a default.
 #[tactic(auto, using(crate::proofs::ValueLemmas::one_script_laws))]
 pub fn texts_of_one()
     ensures { OneScriptLaws }

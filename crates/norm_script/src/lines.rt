@@ -1,4 +1,4 @@
-//! Cuts a text into lines. The readers call [`first_line`] until no text is left.
+//! Cuts a text into lines. The readers call [`first_line`] for each line that they take.
 
 ghost use Rattle.std.specs.Prelude.{◌≡◌, ◌≤◌, ◌<◌, ◌∷◌, length};
 ghost use Rattle.norm_script.specs.Text.{text_lines};

@@ -25,7 +25,7 @@ const MOST_QUORUM: u32 = 16;
 // RFC 5740 section 4.1: 2^32 - 1 is NORM_NODE_ANY and names no member.
 const LAST_NODE: u32 = 4_294_967_294;
 
-/// What a line means by itself. The reader may still refuse the line: its key may be set twice, or its producer may not exist.
+/// What a line means by itself. The reader may still refuse the line, for example if its key was set before or its producer does not exist.
 #[derive(Debug, Drop)]
 pub enum Meaning {
     /// The line is empty or a comment.
@@ -137,7 +137,7 @@ fn write_of(alloc: Global, word: &[u8]) -> Result<Result<Verb, Why>, Memory>
     }
 }
 
-/// `NoInstance` if the word is no number of 16 bits. An instance that the sender had before is for the sender to refuse.
+/// `NoInstance` if the word is no number of 16 bits. Whether the sender may go on in this instance is for the sender to say.
 fn restart_of(word: &[u8]) -> Result<Verb, Why>
     ensures { result ≡ restart_of word.now }
 {
@@ -274,13 +274,13 @@ pub(crate) fn meaning_of(alloc: Global, line: &[u8]) -> Result<Result<Meaning, W
             octets: line.len() as u64,
         }));
     }
-    // Before the line is looked at: a comment has a meaning whatever octets follow its first.
+    // Before the line is looked at: a comment that is not too long has a meaning whatever octets follow its first.
     if is_passed_over(line) {
         return Ok(Ok(Meaning::Nothing));
     }
     match meaning_of_words(alloc, line)? {
         Ok(meaning) => Ok(Ok(meaning)),
-        // How an editor spelt the line comes before any other reason, since it is the cause of that. It is looked for only here, so that a
+        // How an editor spelt the line comes before this reason, since it may be the cause of it. It is looked for only here, so that a
         // carriage return in a comment refuses nothing.
         Err(why) => Ok(Err(spelling_of(line).unwrap_or(why))),
     }

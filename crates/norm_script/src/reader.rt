@@ -1,4 +1,5 @@
-//! Reads scripts: [`read`] one that sets its own profile, [`read_under`] one whose profile is given. The program calls both.
+//! Reads scripts: [`read`] one that sets its own profile, [`read_under`] one whose profile is given. The program calls both. [`read_script`] and
+//! [`read_commands`] do the same, and return only the number of a refused line.
 
 ghost use Rattle.std.specs.Prelude.{◌≡◌, ◌+◌, ◌≤◌, ◌==◌, count_by, length, MatchResult, Ok, IfOk};
 ghost use Rattle.norm_script.specs.Commands.{most_commands};
@@ -75,7 +76,7 @@ fn add(
     }
 }
 
-/// Takes in what a line means. Returns why the line is refused, if it is: a setting always is, since the head is over.
+/// Takes in what a line means. Returns why the line is refused, if it is: a setting always is.
 fn take_in(
     profile: &Profile,
     lines: &mut Vec<Line>,
@@ -154,7 +155,7 @@ pub fn read(alloc: Global, text: &[u8]) -> Result<Result<Script, Refusal>, Memor
 /// # Errors
 ///
 /// `Line` with the number of the first line without meaning, or `Memory` if memory runs out.
-// Only tests call this and `read_commands`. They stay for programs that answer with the line alone.
+// This and `read_commands` stay for programs that answer with the line alone.
 pub fn read_script(alloc: Global, text: &[u8]) -> Result<Script, ScriptFault>
     ensures { MatchResult result (λ script. script_of text.now ≡ Ok script) (IsRefused (script_of text.now)) }
 {

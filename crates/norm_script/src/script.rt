@@ -10,7 +10,7 @@ pub enum Verb {
     Data { info: Option<Octets>, bytes: Octets },
     /// Sends the file of this name. The name is the object's info.
     File { name: Text },
-    /// Begins a stream. Until it is closed, the sender refuses objects.
+    /// Begins a stream. Until it is closed, or the sender restarts, the sender refuses objects and other streams.
     Open,
     /// Appends octets to the open stream. If none is open, the sender refuses it.
     Write { bytes: Octets },

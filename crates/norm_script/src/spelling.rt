@@ -49,7 +49,7 @@ pub fn spelling_of(line: &[u8]) -> Option<Why>
     requires { 1 ≤ length line.now }
     ensures { result ≡ spelling_of line.now }
 {
-    // A mark and UTF-16 first: they spoil the whole file, and the tests below would name only what they look like.
+    // A mark and UTF-16 first: the tests below would name only what they look like.
     if begins_with_mark(line) {
         return Some(Why::ByteOrderMark);
     }

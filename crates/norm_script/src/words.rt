@@ -15,7 +15,7 @@ use std::alloc::Global;
 const MOST_DIGITS: usize = 16_384;
 
 /// The most octets of a file's name in a script.
-// Our own choice, for names that every file system takes, and that fit an info: the least `e` is 64 too.
+// Our own choice, for names that fit an info: the least `e` is 64 too.
 const MOST_NAME: usize = 64;
 
 /// Returns the octets before the first `octet`, and those after it. `None` if it does not occur.

@@ -66,7 +66,7 @@ pub enum SendFault {
     Enqueue(EnqueueFault),
     Mark(MarkFault),
     Strike(StrikeFault),
-    /// The id is not above that of the current instance, or it is more than 32,767 above that of the first one (RFC 5740 section 4.2.1).
+    /// The id is not above that of the current instance, or it is more than 32,767 above that of the first one. Both limits are our own.
     IdUsed { instance: InstanceId },
     /// Memory ran out. The sender returns this for the `Memory` of any part.
     Memory,
@@ -79,7 +79,9 @@ impl SendFault {
     {
         matches!(
             self,
-            // These three end when members confirm or watermarks end. Every other refusal stays, whenever the command comes again.
+            // These three can end without another command: as symbols are sent, members confirm, or watermarks end. In the mode
+            // `hold` nobody confirms without a watermark, so then a full window may stay full until a mark. Lack of memory may
+            // pass too, but is no want of room. Every other refusal stays until another command ends it, if one can.
             SendFault::Enqueue(EnqueueFault::WindowFull { .. })
                 | SendFault::Enqueue(EnqueueFault::Stream(StreamFault::Full { .. }))
                 | SendFault::Mark(MarkFault::TooMany { .. })

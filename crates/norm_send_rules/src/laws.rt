@@ -9,7 +9,8 @@ ghost use Rattle.norm_send_rules.specs.RepairLaws.{RepairLaws};
 ghost use Rattle.norm_send_rules.specs.RoomLaws.{RoomLaws};
 ghost use Rattle.norm_send_rules.specs.TickLaws.{TickLaws};
 
-/// A refused command leaves the state as it was, except that a mark cuts the open stream first. It does not if its quorum is refused.
+/// A refused command leaves the state as it was, except that a mark cuts the open stream first. It does not if its quorum is refused. Want
+/// of memory is no refusal here.
 #[tactic(auto, using(crate::proofs::RefusedLemmas::refused_leaves))]
 pub fn refused_leaves()
     ensures { RefusedLeaves }

@@ -2,7 +2,7 @@
 //! and answers. norm_sender is proved to follow them.
 //!
 //! The types are those of commands and their answers. A [`Job`] is answered by a [`Receipt`] or a [`SendFault`]. [`News`] reports a listing
-//! or the [`Outcome`] of a watermark, and a [`Want`] is an info or a symbol to repeat.
+//! or the [`Outcome`] of a watermark, and a [`Want`] is an info or a symbol to repeat or to send for the first time.
 #![tactic(auto)]
 
 mod deciding;

@@ -8,7 +8,7 @@ use norm_base::NodeId;
 pub enum Outcome {
     /// It has not ended, and this many members have not confirmed it.
     Open { left: u32 },
-    /// It was open until enough members had confirmed it.
+    /// Enough members had confirmed it.
     Satisfied,
     /// The sender gave it up. This many members had not confirmed it then.
     Expired { left: u32 },

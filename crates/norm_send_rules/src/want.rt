@@ -1,4 +1,5 @@
-//! What a sender has to send again, which it keeps until it is sent or dropped.
+//! What a sender has to send again, which it keeps until it is sent or dropped, or another instance begins. What it sends for the first
+//! time has the same type.
 
 use fec_plan::Position;
 

@@ -1,4 +1,4 @@
-//! Passes each command to its rule (RFC 5740 section 5.1). A refused command is given back, unless memory ran out.
+//! Passes each command to its rule (RFC 5740 section 5.1).
 
 ghost use Rattle.std.specs.Prelude.{ℕ, ◌≡◌, ◌≢◌, List, [], length, Some, Err, IfOk, IfErr, IsErr};
 ghost use Rattle.norm_base.specs.Settings.{InRange};
@@ -181,8 +181,7 @@ impl Parts {
         }
     }
 
-    /// Obeys a command. The window gets a copy of its octets. A refusal gives back the command as it came, without a copy,
-    /// unless memory ran out.
+    /// Obeys a command. A refusal gives back the command as it came, without a copy, unless memory ran out.
     pub(crate) fn command(&mut self, job: Job) -> Answer
         requires { IsStanding (kept_of self.old) }
         ensures range { InRange self.old.profile }

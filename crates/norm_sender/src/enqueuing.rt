@@ -1,6 +1,6 @@
 //! Enqueues data objects and files (RFC 5740 section 5.1).
 //!
-//! An object comes in pieces: `begin`, then `fill` until all its octets are there, then `finish`. Or `leave` at any time.
+//! An object may come in pieces: `begin`, then `fill` until all its octets are there, then `finish`. `leave` gives it up before that.
 
 ghost use Rattle.std.specs.Prelude.{ℕ, ◌≡◌, ◌+◌, ◌<◌, ◌≤◌, ◌||◌, List, [], length, not, None, Some, Ok, IfOk, IfErr, IsErr, MatchOption};
 ghost use Rattle.std.specs.List.{list_any};
@@ -27,8 +27,7 @@ use norm_send_rules::{EnqueueFault, Receipt};
 use tx_window::{info_len, plan_of};
 
 impl Parts {
-    /// Call after the window may have dropped entries or blocks: forgets what is wanted of them. A squelch is due if anything was. What the open
-    /// round asked for of them makes one due only as the round closes.
+    /// Call after the window may have dropped entries or blocks: forgets what is wanted of them. A squelch is due if anything was.
     pub(crate) fn retire(&mut self)
         requires { CanRetire self.old.union (drop_of self.old.window) }
         ensures rest { (self.new.profile ≡ self.old.profile) × (self.new.window ≡ self.old.window) × (self.new.book ≡ self.old.book) }
@@ -45,7 +44,7 @@ impl Parts {
         self.pace = self.pace.retired(dropped);
     }
 
-    /// Begins an object of `len` octets: admits it to the union, and drops what has to go for it. Takes all its memory before anything is dropped.
+    /// Begins an object of `len` octets: admits it to the union, and drops what has to go for it.
     ///
     /// # Errors
     ///
@@ -84,14 +83,14 @@ impl Parts {
                 Ok(())
             }
             Err(refusal) => {
-                // `begin` of the window may still run out of memory. Then nothing is dropped, and the union takes its part back.
+                // `begin` of the window may still run out of memory, before it drops anything.
                 self.union.withdraw();
                 Err(refusal)
             }
         }
     }
 
-    /// Copies the next octets of the begun object into the window, which sends and repairs them from there.
+    /// Copies the next octets of the begun object into the window.
     pub(crate) fn fill(&mut self, piece: &[u8])
         requires { MatchOption self.old.window.filling ⊥ (λ f. length f.octets + length piece.now ≤ f.len) }
         ensures profile { self.new.profile ≡ self.old.profile }

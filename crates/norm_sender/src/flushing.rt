@@ -1,5 +1,5 @@
-//! Flushes (RFC 5740 section 5.5.3): asks the members that are not past the oldest open watermark to confirm it. A tick flushes if it has nothing
-//! else to send.
+//! Flushes (RFC 5740 section 5.5.3): asks the members that are not past the oldest open watermark to confirm it. A tick flushes only if it
+//! has nothing else to send.
 
 ghost use Rattle.std.specs.Prelude.{◌≡◌, ◌<◌, Some};
 ghost use Rattle.norm_ext.specs.Octets.{octets_of};
@@ -17,9 +17,8 @@ use fec_plan::Position;
 use mark_book::keeps_oldest;
 use norm_base::{Datagram, Moment, Sent};
 
-/// The most flushes for one watermark while no round makes a want. After them it expires.
-// NORM_ROBUST_FACTOR of RFC 5740, 20 by default. After this many without a new want the watermark expires, as soon as no round is open: members
-// that are left are taken to be silent.
+/// The most flushes for one watermark while no round makes a want.
+// NORM_ROBUST_FACTOR of RFC 5740, 20 by default. After this many, members that are left are taken to be silent.
 const MOST_FLUSHES: u32 = 20;
 
 impl Parts {
@@ -69,7 +68,7 @@ impl Parts {
         if self.pace.flushes < MOST_FLUSHES {
             return self.flush_for(oldest.at, now, out);
         }
-        // The round may close with a want, and then flushes are counted anew. So a watermark is not given up while a receiver still asks.
+        // The round may close with a want, and then flushes are counted anew. So a watermark is not given up while a round is open.
         if self.pace.closes.is_some() {
             return Sent::Nothing;
         }

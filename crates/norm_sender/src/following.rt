@@ -20,7 +20,7 @@ impl Parts {
         ensures stands { (s t : SenderState) → IsBehind (kept_of self.old) s (with_book t s) → before ≡ option_map open_watermark (oldest s)
             → Agrees (kept_of self.new) (counted_anew s (with_book t s)) }
     {
-        // In hold mode the window drops nothing that a member may still need, so it has to know of each rise and each strike.
+        // In hold mode, what may go for room depends on what members are past, so the window has to know of each rise and each strike.
         self.window.note_past(self.book.least());
         if keeps_oldest(before, self.book.oldest()) {
             return;

@@ -23,7 +23,7 @@ use norm_ext::{Item, Requests, index_named};
 use norm_fbmsg::{AckBody, AckMsg, NackMsg, is_for};
 
 impl Parts {
-    /// Lists a member as past a position, unless it was already. Watermarks may be satisfied by that.
+    /// Lists a member as past a position, unless it was already.
     fn credit(&mut self, node: NodeId, at: Position)
         ensures profile { self.new.profile ≡ self.old.profile }
         ensures stands { SenderMoves (kept_of self.old) (kept_of self.new) (λ p s. credited node at s) }
@@ -140,7 +140,7 @@ impl Parts {
         }
     }
 
-    /// Hears a datagram. Ignores octets that spell no message, and every message except NACKs and acknowledgements.
+    /// Hears a datagram. Ignores octets that spell no message.
     pub(crate) fn deliver(&mut self, bytes: &[u8], now: Moment)
         ensures range { InRange self.old.profile }
         ensures profile { self.new.profile ≡ self.old.profile }

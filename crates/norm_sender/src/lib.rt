@@ -1,7 +1,6 @@
 //! The sender of a session without I/O (RFC 5740 section 5): it sends objects and streams, repairs them, and collects what members confirm.
 //!
-//! Callers make a [`Sender`], and drive it by commands, datagrams of receivers and ticks. `norm_world` does so in a session, and `driven_sender` for
-//! `replay` and tests.
+//! Callers drive a [`Sender`] by commands, datagrams of receivers and ticks.
 #![tactic(auto)]
 
 mod closing;

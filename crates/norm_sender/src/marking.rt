@@ -1,4 +1,5 @@
-//! Makes watermarks for the command `mark` (RFC 5740 section 5.5.3): a quorum of the members shall confirm what was enqueued before.
+//! Makes watermarks for the command `mark` (RFC 5740 section 5.5.3): all members shall confirm what was enqueued before, or a quorum of
+//! them. Quorums are our own choice.
 
 ghost use Rattle.std.specs.Prelude.{◌≡◌, ◌≢◌, Err, Some};
 ghost use Rattle.norm_base.specs.Settings.{InRange};
@@ -36,8 +37,7 @@ impl Parts {
         }
     }
 
-    /// Makes a watermark at `at`, the last position once the open stream is cut. The stream is cut after all memory was taken. A refused mark cuts
-    /// it too, unless memory ran out.
+    /// Makes a watermark at `at`, the last position once the open stream is cut. A refused mark cuts it too, unless memory ran out.
     fn mark_at(&mut self, at: Position, quorum: Option<u32>) -> Result<Receipt, MarkFault>
         requires { IsStanding (kept_of self.old) }
         ensures profile { self.new.profile ≡ self.old.profile }
@@ -61,8 +61,8 @@ impl Parts {
         }
     }
 
-    /// Cuts the open stream, and makes a watermark for everything that was enqueued. The stream stays uncut if the quorum is not possible or memory
-    /// runs out.
+    /// Cuts the open stream, and makes a watermark for everything that was enqueued. On an error there is no watermark; the stream stays
+    /// uncut if the quorum is not possible or memory runs out.
     pub(crate) fn mark(&mut self, quorum: Option<u32>) -> Result<Receipt, MarkFault>
         requires { IsStanding (kept_of self.old) }
         ensures range { InRange self.old.profile }
@@ -75,8 +75,7 @@ impl Parts {
         if let Some(fault) = self.book.quorum_fault(quorum) {
             return Err(fault);
         }
-        // Where the order would end is asked before the stream is cut: what takes memory comes first, and a lack of memory then leaves all as it
-        // was.
+        // Asked before the cut: what takes memory comes first, and a lack of memory then leaves all as it was.
         let Some(at) = self.window.end_cut() else {
             self.cut();
             return Err(MarkFault::NothingEnqueued);

@@ -1,4 +1,4 @@
-//! The numbers of a sender: what it keeps besides its objects, their wants and its receivers.
+//! The numbers of a sender: what it keeps besides its profile, its window, its union and its book.
 
 ghost use Rattle.std.specs.Prelude.{◌≡◌, ◌+◌, ◌%◌, ◌<◌, ◌||◌, false, true, nat_lt, Some};
 ghost use Rattle.norm_base.specs.Settings.{Settings};
@@ -83,7 +83,7 @@ impl Pace {
         above <= rise(self.first, self.instance) || above > MOST_RISE
     }
 
-    /// Call after each datagram, with the profile's gap in microseconds. The sequence number after 65,535 is 0.
+    /// Call after each datagram, with the profile's gap in microseconds.
     pub(crate) fn sent(&self, gap: u32, now: Moment) -> Pace
         ensures { result ≡ record self.now { next_send = moment_after now gap; sequence = (self.now.sequence + 1) % 65536 } }
     {
@@ -104,7 +104,7 @@ impl Pace {
         }
     }
 
-    /// Call after something was dropped. A squelch is due if a want went with it (`dropped`), or if one was due before.
+    /// Call after something may have been dropped. A squelch is due if a want went with it (`dropped`), or if one was due before.
     pub(crate) fn retired(&self, dropped: bool) -> Pace
         ensures { result ≡ record self.now { squelch_due = self.now.squelch_due || dropped } }
     {
@@ -114,19 +114,19 @@ impl Pace {
         }
     }
 
-    /// Call after a flush was sent. The next one may be sent two round trips later.
+    /// Call after a flush was sent. The next one of this instance may be sent two round trips later.
     pub(crate) fn flushed(&self, now: Moment) -> Pace
         ensures { self.now.flushes < 4294967295 → result ≡ record self.now { flushes = self.now.flushes + 1; last_flush = Some now } }
     {
         Pace {
-            // It stops at 20 long before: `flush_in_turn` gives the watermark up there.
+            // It stops at 20 long before (`flush_in_turn`).
             flushes: self.flushes.saturating_add(1),
             last_flush: Some(now),
             ..*self
         }
     }
 
-    /// Call after another watermark became the oldest: it gets all its flushes.
+    /// Call after another watermark became the oldest: flushes are counted from 0 again.
     pub(crate) fn counted_anew(&self) -> Pace
         ensures { result ≡ record self.now { flushes = 0 } }
     {
@@ -153,8 +153,8 @@ impl Pace {
         }
     }
 
-    /// The numbers after the round closed. If it made a want, flushes are counted from 0 again. If it asked for anything before the window
-    /// (`early`), a squelch is due.
+    /// The numbers after the round closed. If it made a want, flushes are counted from 0 again. If a request of it counts from before the
+    /// window (`early`), a squelch is due.
     pub(crate) fn closed(&self, wanted: bool, early: bool) -> Pace
         ensures { result ≡ closed_at wanted early self.now }
     {
@@ -166,7 +166,7 @@ impl Pace {
         }
     }
 
-    /// Whether the gap after the last datagram is over, of whatever instance that was. True if none was sent.
+    /// Whether the gap after the last datagram is over. True if none was sent.
     pub(crate) fn may_send(&self, now: Moment) -> bool
         ensures { nat_lt now self.now.next_send ≡ elim result [ true ↦ false | false ↦ true ] }
     {

@@ -1,4 +1,4 @@
-//! The parts that a sender is made of. The calls of each rule are in the file of that rule.
+//! The parts that a sender is made of.
 
 ghost use Rattle.norm_base.specs.Settings.{InRange};
 

@@ -13,7 +13,7 @@ use norm_base::InstanceId;
 use norm_send_rules::{Receipt, SendFault};
 
 impl Parts {
-    /// Begins a new instance: nothing of it is enqueued, wanted, asked for or flushed yet. Open watermarks are cut.
+    /// Begins a new instance: nothing of it is enqueued, wanted, asked for, flushed or confirmed yet. Open watermarks are cut.
     fn begin_anew(&mut self, instance: InstanceId)
         ensures profile { self.new.profile ≡ self.old.profile }
         ensures stands { SenderMoves (kept_of self.old) (kept_of self.new) (λ p s. begun_anew instance s) }

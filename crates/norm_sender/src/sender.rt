@@ -1,4 +1,4 @@
-//! The type that callers drive. Each call passes its work to the sender's parts.
+//! The type that callers drive.
 
 ghost use Rattle.std.specs.Prelude.{ℕ, ◌≡◌, ◌≢◌, ◌+◌, ◌≤◌, ◌++◌, List, [], IfOk, IfErr, IfNone, IsErr, IsSome, Some, None, Ok, Err, MatchOption, length};
 ghost use Rattle.norm_base.specs.Members.{receivers_of};
@@ -39,28 +39,24 @@ use tx_window::Window;
 /// 1. [`deliver`](Sender::deliver) each datagram that arrived, in any order. Any octets are allowed.
 /// 2. [`tick`](Sender::tick) writes the datagram to send, if there is one.
 ///
-/// Call [`news`](Sender::news) until it returns `None`, to learn what changed of the members. None of these calls takes memory.
+/// Call [`news`](Sender::news) until it returns `None`, to learn what members confirmed and which watermarks ended. None of these calls
+/// takes memory.
 ///
 /// [`command`](Sender::command) may come between any two calls. A file may come in pieces: [`begin_file`](Sender::begin_file), then
-/// [`file_piece`](Sender::file_piece) until all its octets are there, then [`end_file`](Sender::end_file). Or, at any time,
-/// [`leave_file`](Sender::leave_file). From the first of these calls to the last, no other call may come.
+/// [`file_piece`](Sender::file_piece) until all its octets are there, then [`end_file`](Sender::end_file), or at any time
+/// [`leave_file`](Sender::leave_file). Between these, no other call that changes the sender may come.
 ///
-/// What calls cost. There are at most 16 members. The *late watermarks* begin with the first one that is open or whose end was not reported. If
-/// one stays open, they grow with each mark.
+/// What calls cost. There are at most 16 members. The *late watermarks* begin with the first one that is open or whose end was not
+/// reported.
 ///
-/// - A tick costs the octets of its datagram. For a parity symbol it costs those of all source symbols of the block, which are summed up. The
-///   search for the lowest want passes what is not wanted once a round. A tick that ends a round also visits the objects between the first and the
-///   last that the round asked for. If it asked for anything of one, the tick visits the blocks and the symbols of it that are wanted then. A tick
-///   that may flush visits the members and the late watermarks.
-/// - A NACK costs what its requests name: for a range, the objects in it. An acknowledgement visits the members and the late watermarks.
-/// - `news`, [`untold`](Sender::untold), a mark and a strike visit the members and the late watermarks. A mark also closes a segment of the open
-///   stream. A restart cuts the late watermarks, and gives up the window entry by entry.
-/// - An object costs its octets, which are copied once, and the marks that are kept of its blocks. An object that waits for room costs what is
-///   looked at of the window.
-/// - Opening a stream costs its whole buffer. A write costs its octets, which are copied once. If blocks go for room, or went before, a write and
-///   the end also visit the marks of the stream's blocks.
-/// - [`idle`](Sender::idle) takes constant time: it compares counts that are kept, and looks at two entries of the window at most.
-///   [`open_requests`](Sender::open_requests), [`flushes`](Sender::flushes) and [`instance`](Sender::instance) return what is kept.
+/// - A tick costs mostly the octets of its datagram, or for a parity symbol those of all source symbols of the block. A tick that ends a
+///   round also visits the objects from the first to the last that the round asked for. One that may flush visits the members and the late
+///   watermarks.
+/// - A NACK costs what its requests name.
+/// - An acknowledgement, a mark, a strike, `news` and [`untold`](Sender::untold) may visit all members and late watermarks. A restart also
+///   visits the window's entries.
+/// - An object or a write costs mostly its octets, which are copied once. Opening a stream costs its whole buffer.
+/// - [`repairable`](Sender::repairable) visits the window's entries. The other calls that change nothing take constant time.
 // It stands for some state of the rules at each moment, or for one in which a file is being taken in. Otherwise the clauses of its calls would
 // promise nothing.
 #[derive(Debug, Drop)]
@@ -118,8 +114,8 @@ impl Sender {
         })
     }
 
-    /// Hears a datagram: a NACK of a receiver, even of a struck one, or an acknowledgement of a member, if it is to this sender and its current
-    /// instance. Ignores any other octets. Takes no memory.
+    /// Hears a datagram: a NACK of a receiver, even of a struck one, or an acknowledgement of a member, if it is to this sender and its
+    /// current instance. Ignores any other octets.
     pub fn deliver(&mut self, bytes: &[u8], now: Moment)
         requires { self.old.window.filling ≡ None }
         ensures profile { self.new.p ≡ self.old.p }
@@ -129,8 +125,8 @@ impl Sender {
         self.parts.deliver(bytes, now);
     }
 
-    /// Closes the repair round if its time has come, even if no datagram may be sent yet. Then writes the datagram to send now, if there is one. This
-    /// may expire the oldest watermark. Takes no memory.
+    /// Closes the repair round if its time has come, even if no datagram may be sent yet. Then writes the datagram to send now, if there is
+    /// one. This may expire the oldest watermark.
     pub fn tick(&mut self, now: Moment, out: &mut Datagram) -> Sent
         requires { self.old.window.filling ≡ None }
         ensures profile { self.new.p ≡ self.old.p }
@@ -144,9 +140,8 @@ impl Sender {
     ///
     /// # Errors
     ///
-    /// The fault of the rules, with the command; or `Memory` without it, if memory ran out anywhere. `Memory` changes nothing. Neither does any other
-    /// fault, except that a mark cuts the open stream, as in [`mark`](Sender::mark). A command that waits for room is refused before any memory is
-    /// taken for it.
+    /// The fault of the rules, with the command; or `Memory` without it, if memory ran out anywhere. `Memory` changes nothing. Neither does
+    /// any other fault, except that a mark cuts the open stream, as in [`mark`](Sender::mark).
     pub fn command(
         &mut self,
         by: Origin,
@@ -187,7 +182,7 @@ impl Sender {
         self.parts.begin_file(name, len)
     }
 
-    /// Copies the next octets of the begun file into the window. Takes no memory.
+    /// Copies the next octets of the begun file into the window.
     pub fn file_piece(&mut self, piece: &[u8])
         requires { MatchOption self.old.window.filling ⊥ (λ f. length f.octets + length piece.now ≤ f.len) }
         ensures profile { self.new.p ≡ self.old.p }
@@ -198,8 +193,8 @@ impl Sender {
         self.parts.fill(piece);
     }
 
-    /// Adds the begun file to the order, so that ticks send it. Returns the receipt that [`command`](Sender::command) would give for all its octets.
-    /// Takes no memory.
+    /// Adds the begun file to the order, so that ticks send it. Returns the receipt that [`command`](Sender::command) would give for all
+    /// its octets.
     pub fn end_file(&mut self, by: Origin, now: Moment) -> Receipt
         requires { MatchOption self.old.window.filling ⊥ (λ f. length f.octets ≡ f.len) }
         ensures profile { self.new.p ≡ self.old.p }
@@ -213,7 +208,7 @@ impl Sender {
     }
 
     /// Gives up the begun file. What was dropped for it stays dropped.
-    // The sender goes on in the state in which room was made for the file. A session ends there, but no clause asks that of a caller.
+    // The sender goes on in the state in which room was made for the file.
     pub fn leave_file(&mut self)
         requires { IsSome self.old.window.filling }
         ensures profile { self.new.p ≡ self.old.p }
@@ -224,8 +219,8 @@ impl Sender {
         self.parts.leave();
     }
 
-    /// Cuts the open stream, and asks that `quorum` members, or all of them, confirm everything that was enqueued before. The watermark is satisfied
-    /// at once if enough members are past it.
+    /// Cuts the open stream, and asks that `quorum` members, or all if it is `None` or fewer are left, confirm everything that was enqueued
+    /// before. The watermark is satisfied at once if enough members are past it.
     ///
     /// # Errors
     ///
@@ -264,7 +259,7 @@ impl Sender {
         self.parts.restart(instance)
     }
 
-    /// Strikes a member for good: nothing waits for it any more. Takes no memory.
+    /// Strikes a member for good: no acknowledgement of it is waited for any more. Takes no memory.
     ///
     /// # Errors
     ///
@@ -278,8 +273,8 @@ impl Sender {
         self.parts.strike(node)
     }
 
-    /// Returns the next change to report: a member that is newly listed past a position, or, once all of these are reported, a watermark that ended.
-    /// Each change is reported once, and of a member only the last position. `None` if there is nothing to report; then nothing changes.
+    /// Returns the next change to report: a member that is newly listed past a position, or, once all of these are reported, a watermark
+    /// that ended. Of a member only the latest position is reported. `None` if there is nothing to report.
     pub fn news(&mut self) -> Option<News>
         requires { self.old.window.filling ≡ None }
         ensures profile { self.new.p ≡ self.old.p }
@@ -290,7 +285,7 @@ impl Sender {
         self.parts.news()
     }
 
-    /// How many changes [`news`](Sender::news) would report now, until it returns `None`.
+    /// How many changes [`news`](Sender::news) has still to report.
     pub fn untold(&self) -> usize
         ensures { (s : SenderState) → Stands self.now s → result ≡ length s.untold_nodes + length s.untold_marks }
     {
@@ -313,14 +308,14 @@ impl Sender {
     }
 
     /// How many flushes were sent since another watermark became the oldest, a round made a want, or the instance began. At most 20.
-    // This, `repairable` and `window` are for callers that compute how long a watermark may stay open, as `norm_tail` does.
+    // This and `repairable` are for callers that compute how long a watermark may stay open.
     pub fn flushes(&self) -> u32
         ensures { (s : SenderState) → Stands self.now s → result ≡ s.flushes }
     {
         self.parts.flushes()
     }
 
-    /// How many infos and encoded symbols the window has. All of them may still have to be repaired. Visits each entry of the window.
+    /// How many infos and encoded symbols the window has. All of them may still have to be repaired.
     pub fn repairable(&self) -> u64
         ensures { (s : SenderState) → Stands self.now s → result ≡ repairable self.now.p s }
     {
@@ -334,7 +329,7 @@ impl Sender {
         self.parts.instance()
     }
 
-    /// The book of members and watermarks, which can tell more of them than [`news`](Sender::news): for example who a watermark waits for.
+    /// The book of members and watermarks, which tells for example who a watermark waits for.
     pub fn book(&self) -> &Book
         ensures { result.now ≡ self.now.book }
     {

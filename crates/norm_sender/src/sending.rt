@@ -72,7 +72,7 @@ impl Parts {
         ensures stands { SenderMoves (kept_of self.old) (kept_of self.new) (λ p s. noted (Symbol at) s) }
     {
         self.window.note_sent(at);
-        // The window asks whether all was sent before it drops an object, the union which parity was never sent. Each keeps its own marks.
+        // The window asks whether source symbols were sent before it drops an entry, the union which parity was never sent.
         self.union.note_sent(at);
     }
 

@@ -30,7 +30,7 @@ fn stream_plan(profile: &Profile) -> Plan
 }
 
 impl Parts {
-    /// Opens a stream: admits it to the union, and drops what has to go for its buffer. Takes all its memory before anything is dropped.
+    /// Opens a stream: admits it to the union, and drops what has to go for its buffer.
     ///
     /// # Errors
     ///
@@ -66,8 +66,8 @@ impl Parts {
         }
     }
 
-    /// Lets receivers ask for all closed segments of the window's last object. That is a stream with this index, which is open or was just ended.
-    /// Call it after each change that may close a segment. Takes no memory.
+    /// Lets receivers ask for all kept closed segments of the stream with this index, the window's last entry. Call it after each change
+    /// that may close a segment.
     fn grow(&mut self, index: u32)
         requires { IsGrowing (kept_of self.old) index }
         ensures rest { self.new ≡ record self.old { union = self.new.union } }
@@ -78,8 +78,8 @@ impl Parts {
         self.union.grow(index, segments);
     }
 
-    /// Writes octets to the open stream. If there is no room, its first blocks are dropped if they may go, and before them all entries before the
-    /// stream. Takes no memory.
+    /// Writes octets to the open stream. If there is no room, its first blocks are dropped if they may go, and before them all entries
+    /// before the stream.
     ///
     /// # Errors
     ///

@@ -12,8 +12,7 @@ use norm_base::NodeId;
 use norm_send_rules::{Receipt, StrikeFault};
 
 impl Parts {
-    /// Strikes a member. Watermarks are satisfied if enough of the members that are left are past them, and in hold mode entries that only
-    /// this member had not confirmed may go for room.
+    /// Strikes a member. In hold mode, entries that only this member had not confirmed may then go for room.
     pub(crate) fn strike(&mut self, node: NodeId) -> Result<Receipt, StrikeFault>
         ensures range { InRange self.old.profile }
         ensures profile { self.new.profile ≡ self.old.profile }

@@ -1,4 +1,4 @@
-//! What a sender reports of its members, and the numbers that callers ask for.
+//! What a sender reports of its members and watermarks, and the numbers that callers ask for.
 
 ghost use Rattle.std.specs.Prelude.{◌≡◌, ◌+◌, length, IfNone};
 ghost use Rattle.norm_base.specs.Settings.{InRange};
@@ -13,7 +13,7 @@ use norm_base::InstanceId;
 use norm_send_rules::News;
 
 impl Parts {
-    /// Takes the next change to report out of the book: each is reported once.
+    /// Takes the next change to report out of the book.
     pub(crate) fn news(&mut self) -> Option<News>
         ensures range { InRange self.old.profile }
         ensures profile { self.new.profile ≡ self.old.profile }

@@ -57,7 +57,8 @@ impl Parts {
         self.send_want(&want, 0, now, out)
     }
 
-    /// Sends the want that is first in transport order, and takes it out. If nothing is wanted, sends what is new, or flushes.
+    /// Sends the want that is first in transport order, and takes it out. If nothing is wanted, sends what is new, or flushes if that is
+    /// due.
     fn send_wanted(&mut self, now: Moment, out: &mut Datagram) -> Sent
         requires { IsStanding (kept_of self.old) }
         ensures profile { self.new.profile ≡ self.old.profile }
@@ -92,7 +93,7 @@ impl Parts {
         ensures stands { (s : SenderState) → Agrees (kept_of self.old) s → WantsHold self.old.profile s
             → IsSent (kept_of self.new) out.new result (sends_first self.old.profile now s) }
     {
-        // Before any repair: until receivers know of the drop they ask for what is gone, in each round.
+        // Before any repair: until receivers know of the drop, they may ask for what is gone again.
         if self.pace.squelch_due {
             return self.squelch(now, out);
         }
@@ -108,7 +109,7 @@ impl Parts {
             → IsSent (kept_of self.new) out.new result (ticked self.old.profile s now) }
     {
         hold_range(&self.profile);
-        // Before the look at the gap: a round closes at its moment, whether a datagram may be sent then or not.
+        // Before the look at the gap: a round closes even if no datagram may be sent then.
         self.close_where_due(now);
         if !self.pace.may_send(now) {
             return Sent::Nothing;
@@ -116,7 +117,7 @@ impl Parts {
         self.send_first(now, out)
     }
 
-    /// Whether no squelch is due, nothing is wanted, nothing new is left to send, and no round is open.
+    /// Whether the sender is idle, as [`Sender::idle`](crate::Sender::idle) says.
     pub(crate) fn is_idle(&self) -> bool
         ensures { (s : SenderState) → Agrees (kept_of self.now) s → result ≡ is_idle self.now.profile s }
     {

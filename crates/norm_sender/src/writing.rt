@@ -15,7 +15,7 @@ use norm_cmdmsg::{CommandMsg, write_command};
 use norm_ext::{CmdHead, Extensions, Fti, ObjHead, extensions_of, fti_words, object_id};
 use norm_objmsg::{DataMsg, InfoMsg, write_data, write_info};
 
-/// How many block numbers fit into a message.
+/// How many blocks of an object a message can name.
 // RFC 5510 section 5.1: 24 bits name a block.
 const BLOCK_COUNT: u32 = 16_777_216;
 
@@ -64,7 +64,7 @@ fn command_head(profile: &Profile, pace: &Pace) -> CmdHead
     }
 }
 
-/// Writes an INFO up to where its info begins: the caller appends that from the window. The datagram must be empty.
+/// Writes an INFO up to where its info begins.
 fn put_info_front(head: &ObjHead, fti: &Fti, out: &mut Datagram)
     requires empty { out.old ≡ [] }
     requires backoff { head.now.backoff < 16 }
@@ -83,7 +83,7 @@ fn put_info_front(head: &ObjHead, fti: &Fti, out: &mut Datagram)
     );
 }
 
-/// Writes a DATA up to where its payload begins: the caller appends that from the window. The datagram must be empty.
+/// Writes a DATA up to where its payload begins.
 fn put_data_front(head: &ObjHead, id: &PayloadId, fti: &Fti, out: &mut Datagram)
     requires empty { out.old ≡ [] }
     requires backoff { head.now.backoff < 16 }
@@ -103,7 +103,7 @@ fn put_data_front(head: &ObjHead, id: &PayloadId, fti: &Fti, out: &mut Datagram)
     );
 }
 
-/// Writes a FLUSH up to where its nodes begin: the caller appends them from the book. The datagram must be empty.
+/// Writes a FLUSH up to where its nodes begin.
 fn put_flush_front(head: &CmdHead, object: u16, id: &PayloadId, out: &mut Datagram)
     requires empty { out.old ≡ [] }
     requires backoff { head.now.backoff < 16 }
@@ -123,7 +123,7 @@ fn put_flush_front(head: &CmdHead, object: u16, id: &PayloadId, out: &mut Datagr
     );
 }
 
-/// Writes a whole SQUELCH: it lists no objects, so nothing is appended. The datagram must be empty.
+/// Writes a whole SQUELCH: it lists no objects, so nothing is appended.
 fn put_squelch(head: &CmdHead, object: u16, id: &PayloadId, out: &mut Datagram)
     requires empty { out.old ≡ [] }
     requires backoff { head.now.backoff < 16 }

@@ -1,8 +1,8 @@
-//! Work that is done while the producers' threads run. Only `producing` uses it.
+//! Work beside the producers: [`Work`].
 
 ghost use Rattle.std.specs.Prelude.{◌≡◌};
 
-/// What a session does while another thread runs the producers. [`Lent`] makes it of a closure.
+/// What a session does while another thread runs the producers, or after they ran if that thread cannot be started.
 // Proof: what is lent for the work stands behind a type parameter. A scope whose closures hold the loans themselves is dear to prove.
 pub(crate) trait Work {
     type Given;
@@ -16,7 +16,7 @@ pub(crate) trait Work {
         ensures { run_gives self result };
 }
 
-/// A borrowed closure as [`Work`]. It returns the loan together with the closure's result.
+/// A borrowed closure as [`Work`]. It returns the loan with the closure's result.
 #[derive(Drop)]
 pub(crate) struct Lent<'a, F> {
     pub(crate) f: &'a mut F,

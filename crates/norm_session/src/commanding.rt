@@ -1,5 +1,5 @@
-//! The command of a turn: [`Run::pull`] takes the next line from the producers, and [`Run::command`] offers it to the sender. If the sender
-//! has no room for it, the command waits and is offered again in each turn.
+//! The command of a turn: [`Run::command`] pulls the next line from the producers, and offers it to the sender. If the sender has no room
+//! for it, the command waits, and is offered again in each turn while it waits.
 
 ghost use Rattle.std.specs.Prelude.{◌≡◌, ◌≢◌, ◌<◌, true, false, None, Some, Err, Option, length, IfOk, IfErr, IfNone, IfSome, OnOk};
 ghost use Rattle.norm_base.specs.Network.{Network};
@@ -48,7 +48,7 @@ pub(crate) fn origin_of(line: &Line) -> Origin
     }
 }
 
-/// The job of a data object. It copies the octets.
+/// The job of a data object, with a copy of its octets.
 fn data_of(info: &Option<Octets>, bytes: &Octets) -> Result<Job, Memory>
     ensures { IfOk result (λ job. job ≡ Job.Data info.now bytes.now) }
 {
@@ -65,7 +65,7 @@ fn data_of(info: &Option<Octets>, bytes: &Octets) -> Result<Job, Memory>
     }
 }
 
-/// The job of a write. It copies the octets.
+/// The job of a write, with a copy of its octets.
 fn write_of(bytes: &Octets) -> Result<Job, Memory>
     ensures { IfOk result (λ job. job ≡ Job.Write bytes.now) }
 {
@@ -78,7 +78,7 @@ fn write_of(bytes: &Octets) -> Result<Job, Memory>
 /// # Errors
 ///
 /// `Memory` if memory runs out.
-// A copy for each offer, since the sender keeps what it accepts and the script's line is printed afterwards.
+// A copy for each offer, since the sender takes the job.
 fn job_of(verb: &Verb) -> Result<Option<Job>, Memory>
     ensures job { IfOk result (λ job. job ≡ job_of verb.now) }
 {
@@ -102,7 +102,7 @@ fn job_of(verb: &Verb) -> Result<Option<Job>, Memory>
     }
 }
 
-/// Returns a copy of the job for the journal if `tells` is true. Otherwise it takes no memory. `Memory` if memory runs out.
+/// Returns a copy of the job for the journal if `tells` is true. `Memory` if memory runs out.
 fn told_of(tells: bool, job: &Job) -> Result<Option<Job>, Memory>
     ensures { IfOk result (λ told. told ≡ told_at tells job.now) }
 {
@@ -113,7 +113,7 @@ fn told_of(tells: bool, job: &Job) -> Result<Option<Job>, Memory>
     Ok(Some(copy))
 }
 
-/// Returns the sender's answer without the job that a refusal gives back.
+/// Drops the job of a refused command: each offer makes another copy.
 fn without_job(answer: Result<Receipt, (Option<Job>, SendFault)>) -> Gives
     ensures { result ≡ answer_of answer }
 {
@@ -154,11 +154,11 @@ fn offer_job(world: &mut World, by: Origin, job: Job, now: Moment) -> Result<Giv
     Ok(gave)
 }
 
-/// Counts the sender's answer to a command.
+/// Counts an object or a stream that the sender accepted, and the octets of an object or a write.
 ///
 /// # Errors
 ///
-/// `Memory` if a count does not fit 64 bits. Then nothing is counted.
+/// `Memory` if a count does not fit 64 bits.
 fn count(totals: &mut Totals, gave: &Gives) -> Result<(), Memory>
     ensures { OnOk result (totals.new ≡ with_gave gave.now totals.old) }
 {
@@ -192,8 +192,8 @@ fn within_lines(waiting: Option<usize>, lines: usize) -> Option<usize>
 }
 
 impl Run {
-    /// Pulls a line that was handed over, if it is the next one of its producer, and returns its index. Otherwise passes over it and returns
-    /// `None`. `Memory` if memory runs out.
+    /// Pulls a line that was handed over, if it is the next one of its producer, and returns its index. Otherwise passes over it and
+    /// returns `None`.
     fn pull_one(&mut self, script: &Script, arrived: Arrived) -> Result<Option<usize>, SessionFault>
         ensures place { IfOk result (λ pulled. IfSome pulled (λ place. place < length script.now.lines)) }
         ensures goes { IfOk result (λ pulled. IfSome pulled (λ place. (x : Context) (network : Network) (written : Pieces) → x.script ≡ script.now
@@ -215,8 +215,8 @@ impl Run {
         Ok(Some(place))
     }
 
-    /// Pulls the next line and returns its index in the script. If no producer has handed over its next line yet, it yields the processor and
-    /// tries again. It does not return if no such line ever comes.
+    /// Pulls the next line and returns its index in the script. Waits until a producer has handed over its next line, for ever if none
+    /// does.
     ///
     /// # Errors
     ///
@@ -248,8 +248,7 @@ impl Run {
         unreachable!()
     }
 
-    /// Counts and notes what the sender gave to a command, and writes its line. `job` is for the journal, if one is kept. The command waits if
-    /// the sender only had no room for it.
+    /// Counts and notes what the sender gave to a command, and writes its line if it has one. `job` is for the journal, if one is kept.
     pub(crate) fn note_job<K: Sink>(
         &mut self,
         line: &Line,
@@ -277,7 +276,7 @@ impl Run {
         write_line(has, &self.line, &notice, output)
     }
 
-    /// Offers a command that has its octets with it to the sender as this job, and notes the answer.
+    /// Offers a command that names no file to the sender as this job, and notes the answer.
     fn give_job<K: Sink>(
         &mut self,
         line: &Line,
@@ -299,7 +298,7 @@ impl Run {
         self.note_job(line, place, instance, told, gave, output)
     }
 
-    /// Offers the command of the line with this index, for the first time or again. A file is read only if the sender accepts it.
+    /// Offers the command of the line with this index, for the first time or again.
     fn offer_command<K: Sink, D: Files>(
         &mut self,
         script: &Script,
@@ -352,12 +351,12 @@ impl Run {
         self.offer_command(script, place, true, files, output)
     }
 
-    /// Does the command of a turn. If a command waits, it is offered again. Otherwise the next one is pulled and offered, if one is left.
+    /// Does the command of a turn: offers the one that waits again, or else pulls and offers the next, if one is left.
     ///
     /// # Errors
     ///
-    /// `Write` if the write of the command's line failed, `Files` if a call of the files failed, `Absent` if the command's file is not there, or
-    /// `Memory` if memory runs out or a count does not fit 64 bits.
+    /// `Write` if the write of the command's line failed, `Files` if a call of the files failed, `Absent` if the command's file is not
+    /// there, or `Memory` if memory runs out or a count does not fit 64 bits.
     pub fn command<R: Wait, A: Arrivals, K: Sink, D: Files>(
         &mut self,
         rt: &R,

@@ -18,7 +18,7 @@ impl Run {
     ///
     /// # Errors
     ///
-    /// `Write` if the write failed, or `Memory`, after which nothing was written. The journal may have the end already after either.
+    /// `Write` if the write failed, or `Memory`, after which nothing was written.
     pub fn summarize<K: Sink>(&mut self, output: &mut K) -> Result<(), SessionFault>
         ensures goes { OnOk result ((x : Context) (network : Network) (here : At x self.old Between network (K.pieces output.old))
             → is_done (judged_of x self.old here.world Between) ≡ true → At x self.new Over network (K.pieces output.new)) }

@@ -1,4 +1,4 @@
-//! A receiver's hand-ups, and its tick. [`Run::serve_all`] does both for each receiver in each turn.
+//! A receiver's hand-ups, and its tick.
 
 ghost use Rattle.std.specs.Prelude.{◌≡◌, ℕ, List, true, false, IfOk, IfErr, OnOk};
 ghost use Rattle.norm_base.specs.Members.{is_receiver};
@@ -22,7 +22,8 @@ use norm_journal::{Totals, up_line};
 use norm_order::Up;
 use norm_turns::{SessionFault, up_notice, write_line};
 
-/// Counts a hand-up and adds it to the journal. `Memory` also if a count does not fit 64 bits.
+/// Adds a hand-up to the journal, and counts it if it is an object, the end of a stream or a loss. `Memory` also if a count does not fit 64
+/// bits.
 fn note_up(
     totals: &mut Totals,
     journal: &mut KeptJournal,
@@ -44,11 +45,12 @@ fn note_up(
 }
 
 impl Run {
-    /// Takes a receiver's next hand-up, counts and notes it, and writes its line. Returns false if none is left. Then nothing changed.
+    /// Takes a receiver's next hand-up, notes it, and writes its line. Counts it if it is an object, the end of a stream or a loss. Returns
+    /// false if none is left.
     ///
     /// # Errors
     ///
-    /// `Write` if the write failed, or `Memory` if memory runs out or a count does not fit 64 bits.
+    /// `Write` if the write failed, or `Memory`, also if a count does not fit 64 bits.
     pub fn hand_up<K: Sink>(&mut self, output: &mut K, node: NodeId) -> Result<bool, SessionFault>
         requires { is_receiver self.old.world.p node ≡ true }
         ensures goes { IfOk result (λ more. (x : Context) (nodes : List ℕ) (network : Network)

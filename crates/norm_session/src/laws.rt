@@ -2,8 +2,7 @@
 
 ghost use Rattle.norm_session.specs.Laws.{IsAtOnePlace};
 
-/// A run that keeps its journal is at one stage of its turn. So it comes to another stage only if events join its journal, and by
-/// `norm_journal::laws::calls_are_due` each event comes by the call of the outside that is due.
+/// A run that keeps its journal is at one stage of its turn. So it comes to another stage only if events join its journal.
 #[tactic(auto, using(crate::proofs::LawLemmas::one_place))]
 pub fn one_place()
     ensures { IsAtOnePlace }

@@ -1,4 +1,4 @@
-//! The lines of a script that were not pulled yet. [`Run::pull`](crate::Run::pull) takes from them.
+//! The lines of a script that were not pulled yet.
 
 ghost use Rattle.std.specs.Prelude.{◌≡◌, ◌==◌, ◌<◌, IfOk, IfSome, MatchBool, length};
 ghost use Rattle.norm_session.specs.Left.{IsFirstOf, IsTaken, is_of, lines_at};
@@ -9,8 +9,8 @@ use std::alloc::Global;
 use std::marker::Model;
 
 /// The indices of the lines that were not pulled yet, in the script's order.
-// Indices and not a next number for each producer, so that the order of the script is the order of the list. A line is taken once; if it stayed
-// here, it would be pulled again.
+// Indices and not a next number for each producer, so that the order of the script is the order of the list. A line is taken once; if it
+// stayed here, it would be pulled again.
 #[derive(Drop)]
 pub(crate) struct Left {
     places: Vec<usize>,
@@ -35,7 +35,7 @@ fn is_of(lines: &[Line], producer: u32, place: usize) -> bool
 }
 
 impl Left {
-    /// All lines of a script, whatever their producer. `Memory` if memory runs out; [`take`](Left::take) needs none.
+    /// All lines of a script. `Memory` if memory runs out.
     pub(crate) fn all(alloc: Global, lines: &[Line]) -> Result<Left, Memory>
         ensures { IfOk result (λ left. lines_at lines.now left ≡ lines.now) }
     {
@@ -71,8 +71,7 @@ impl Left {
         None
     }
 
-    /// Removes the line with this index if it is the next one of this producer. Returns whether it was. Looks at each line that is left until it
-    /// finds one of this producer.
+    /// Removes the line with this index if it is the next one of this producer. Returns whether it was.
     pub(crate) fn take(&mut self, lines: &[Line], producer: u32, place: usize) -> bool
         ensures { MatchBool result (IsTaken lines.now self.old self.new producer place) (self.new ≡ self.old) }
     {

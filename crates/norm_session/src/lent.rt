@@ -2,14 +2,14 @@
 
 ghost use Rattle.std.specs.Prelude.{◌≡◌};
 
-/// The objects of the outside that turns call, borrowed for all turns of a run. The caller keeps them and sees what the turns did.
+/// The objects of the outside that turns call, borrowed for all turns of a run.
 #[derive(Drop)]
 pub struct Lent<'a, K, F, D, C> {
     /// Takes the lines.
     pub output: &'a mut K,
     /// Takes and gives datagrams.
     pub fabric: &'a mut F,
-    /// Gives the octets of files that commands name.
+    /// Gives the lengths and octets of files that commands name.
     pub files: &'a mut D,
     /// Gives the moments of turns if the profile's `step` is 0.
     pub clock: &'a mut C,

@@ -1,6 +1,6 @@
-//! A session (RFC 5740 section 5): the nodes of a script's profile, turn by turn over a network. `norm_program` calls [`run_session`] for all
-//! members and [`run_send`] for a sender whose receivers are elsewhere. [`run_until`] stops between two turns, for a caller that goes on with the
-//! nodes. [`Run`] is the same step by step. The judge of journals (`norm_journal`) accepts each event of it.
+//! A session (RFC 5740 section 5): the nodes of a script's profile, turn by turn over a network. [`run_session`] is for all members, and
+//! [`run_send`] for a sender whose receivers are elsewhere. [`run_until`] stops after a turn, for a caller that goes on with the nodes.
+//! [`Run`] is the same step by step. The judge of journals (`norm_journal`) accepts each event of it.
 #![tactic(auto)]
 
 mod arrivals;

@@ -12,7 +12,7 @@ use std::alloc::Global;
 use std::marker::Model;
 
 /// The journal of a run, or `None` if its sender is alone: nobody reads that journal, and it would grow with each datagram. Each push adds
-/// its event if the journal is kept, or answers `Memory` if it cannot grow. Otherwise it does nothing and needs no memory.
+/// its event if the journal is kept, or answers `Memory` if it cannot grow.
 #[derive(Drop)]
 pub(crate) struct KeptJournal {
     kept: Option<Journal>,
@@ -28,7 +28,7 @@ impl Model for KeptJournal {
 }
 
 impl KeptJournal {
-    /// An empty journal, or none if the sender is alone. It takes no memory.
+    /// An empty journal, or none if the sender is alone.
     pub(crate) fn new(alloc: Global, alone: bool) -> KeptJournal
         ensures { result ≡ kept_of alone [] }
     {
@@ -46,7 +46,7 @@ impl KeptJournal {
         self.kept.is_some()
     }
 
-    /// Whether the job of an offer is noted, except for a file: only if a journal is kept, and only with the first offer of a command.
+    /// Whether the job of a command that names no file is noted: with its first offer, if a journal is kept.
     pub(crate) fn tells(&self, first: bool) -> bool
         ensures { result ≡ (first && is_some self.entry.now) }
     {
@@ -87,8 +87,8 @@ impl KeptJournal {
         }
     }
 
-    /// Notes an offer of a command and the sender's answer. `job` comes with the first offer, or, for a file, with the offer that accepts it. It
-    /// may be `None` if no journal is kept.
+    /// Notes an offer of a command and the sender's answer. `job` comes with the first offer, or, for a file, with the offer that accepts
+    /// it. It may be `None` if no journal is kept.
     pub(crate) fn push_job(
         &mut self,
         by: Origin,
@@ -103,7 +103,7 @@ impl KeptJournal {
         }
     }
 
-    /// Notes that the sender refused a file by its name and its length in octets, before any octet was read.
+    /// Notes that the sender refused a file of `len` octets before any of them was read.
     pub(crate) fn push_length(
         &mut self,
         by: Origin,
@@ -129,7 +129,7 @@ impl KeptJournal {
         }
     }
 
-    /// Notes an offer, with a copy of the octets.
+    /// Notes that a datagram was offered to the network, with a copy of the octets.
     pub(crate) fn push_offer(&mut self, from: NodeId, octets: &[u8]) -> Result<(), Memory>
         ensures { OnOk result (self.new ≡ noted self.old (event.Offer from octets.now)) }
     {
@@ -139,7 +139,7 @@ impl KeptJournal {
         }
     }
 
-    /// Notes a take. It copies the octets only if they are not those of the latest offer with their name.
+    /// Notes that a datagram was taken from the network.
     pub(crate) fn push_took(&mut self, to: NodeId, octets: &[u8]) -> Result<(), Memory>
         ensures { OnOk result (self.new ≡ noted self.old (event.Took to octets.now)) }
     {
@@ -159,7 +159,7 @@ impl KeptJournal {
         }
     }
 
-    /// Notes a hand-up. If other receivers handed up the same, it is kept once for all.
+    /// Notes a hand-up, and takes its octets over.
     pub(crate) fn push_up(
         &mut self,
         node: NodeId,

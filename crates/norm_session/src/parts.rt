@@ -1,5 +1,4 @@
-//! A run that is taken apart. [`run_session`](crate::run_session) gets its journal this way, and [`run_until`](crate::run_until) all that a caller
-//! needs to go on.
+//! A run that is taken apart.
 
 ghost use Rattle.std.specs.Prelude.{◌≡◌};
 ghost use Rattle.norm_world.specs.WorldKept.{IsReady};

@@ -1,4 +1,4 @@
-//! A session that stops between two turns, without its summary: [`run_until`]. Whoever called it may go on with the nodes.
+//! A session that stops after a turn, without its summary: [`run_until`].
 
 ghost use Rattle.std.specs.Prelude.{◌≡◌, ◌≤◌, IfOk, IfErr, IsSome};
 ghost use Rattle.norm_script.specs.Scripts.{CanRun};
@@ -22,7 +22,7 @@ use std::alloc::Global;
 use std::sync::Wait;
 use std::thread::Threads;
 
-/// A session that stopped between two turns: what a caller needs to go on with its nodes, and what its summary would have said.
+/// A session that stopped after a turn: what a caller needs to go on with its nodes, and what its summary would have said.
 #[derive(Drop)]
 pub struct Paused {
     pub journal: Journal,
@@ -42,8 +42,7 @@ pub struct Paused {
     pub world: World,
 }
 
-/// Runs a script's session as [`run_session`](crate::run_session) does, but no further than turn `until`, and writes no summary. It does the turns
-/// up to `until`, or to the first after which everything is done, or to the profile's last.
+/// Runs a script's session as [`run_session`](crate::run_session) does, but no further than turn `until`, and writes no summary.
 ///
 /// # Errors
 ///
@@ -84,7 +83,7 @@ pub fn run_until<
 }
 
 impl Run {
-    /// Takes a run apart between two turns. Its journal has to be kept.
+    /// Takes a run apart after a turn.
     fn pause(self, script: &Script) -> Paused
         requires { IsSome self.journal }
         ensures { IsTakenApart script.now self result }

@@ -1,4 +1,4 @@
-//! Producers in threads of their own. Each submits the indices of its lines to a ring, and the thread that runs the session pulls from it.
+//! Producers beside a session. Each submits the indices of its lines to a ring, and the thread that runs the session pulls from it.
 
 ghost use Rattle.std.specs.Prelude.{◌≡◌, ◌≤◌, All, IfErr, IfOk, length, max};
 ghost use Rattle.norm_turns.specs.Causes.{HasCause, counted};
@@ -20,7 +20,7 @@ use std::sync::Wait;
 use std::thread;
 use std::thread::Threads;
 
-/// The most producers of a session. Each has a thread of its own.
+/// The most producers of a session.
 // The key `producers` goes up to 4. A script with a greater number is refused.
 const MOST_PRODUCERS: usize = 4;
 
@@ -43,7 +43,7 @@ impl<R: Wait> Arrivals for Pulled<'_, R> {
     }
 }
 
-/// Submits a line's index. If the ring is full, it yields the processor and tries again. It gives up if the seat has no submission left.
+/// Submits a line's index. Tries again while the ring is full, and gives up if the seat has no submission left.
 fn insist<R: Wait>(rt: &R, ring: &Gate, seat: &mut Seat, place: u32)
     requires { seat.old.gate ≡ ring.now.id }
     ensures { seat.new.gate ≡ seat.old.gate }
@@ -83,7 +83,7 @@ fn produce<R: Wait, G: Turnstile>(
     }
 }
 
-/// Runs all producers, each in a thread of its own. If a thread cannot be started for one, that one submits in this thread.
+/// Runs all producers, each in a thread of its own if that can be started, one of them in this thread.
 fn produce_all<R: Threads + Wait + Sync, G: Turnstile + Sync>(
     rt: &R,
     lines: &[Line],
@@ -102,8 +102,7 @@ fn produce_all<R: Threads + Wait + Sync, G: Turnstile + Sync>(
     );
 }
 
-/// Does the work while another thread runs the producers. If that thread cannot be started, the producers run before the work. So the work
-/// finds all that they submit in the ring, and does not wait for a line that nobody will submit.
+/// Does the work while another thread runs the producers, or after they ran if that thread cannot be started.
 fn work_beside<R: Threads + Wait + Sync, G: Turnstile + Sync, W: Work<Given = A> + Drop, A>(
     rt: &R,
     lines: &[Line],
@@ -140,7 +139,7 @@ fn work_beside<R: Threads + Wait + Sync, G: Turnstile + Sync, W: Work<Given = A>
     )
 }
 
-/// Calls a closure while another thread runs the producers, or after they ran if that thread cannot be started.
+/// As [`work_beside`], for a closure.
 fn beside_producers<R: Threads + Wait + Sync, G: Turnstile + Sync, F: FnMut() -> A, A>(
     rt: &R,
     lines: &[Line],
@@ -159,8 +158,8 @@ fn beside_producers<R: Threads + Wait + Sync, G: Turnstile + Sync, F: FnMut() ->
     made
 }
 
-/// A ring with a slot for each line, so that producers can end before anything is pulled, with a seat for each producer. `Memory` if memory runs
-/// out.
+/// A ring with a slot for each line, so that producers can end before anything is pulled, with a seat for each producer. `Memory` if memory
+/// runs out.
 fn ring_for(alloc: Global, script: &Script) -> Result<(Gate, Vec<Seat>, PullSeat), Memory>
     requires { CanRun script.now }
     ensures seats { IfOk result (λ made. All (λ s. s.gate ≡ made.0.id) made.1.items) }
@@ -172,8 +171,7 @@ fn ring_for(alloc: Global, script: &Script) -> Result<(Gate, Vec<Seat>, PullSeat
     Gate::new(alloc, u32::from(script.profile.producers), places)
 }
 
-/// Runs a script up to turn `until` at the latest, in this thread. Its lines come out of the ring: waits for each, for ever if no producer submits
-/// it.
+/// Runs a script up to turn `until` at the latest, in this thread. Its lines come out of the ring.
 fn run_pulled<R: Wait, K: Sink, F: Fabric, D: Files, C: Clock>(
     rt: &R,
     alloc: Global,
@@ -213,8 +211,7 @@ fn run_pulled<R: Wait, K: Sink, F: Fabric, D: Files, C: Clock>(
     )
 }
 
-/// Runs a script up to turn `until` at the latest, with its sender alone or with all members. Its producers submit in threads of their own, and
-/// one loop pulls.
+/// Runs a script up to turn `until` at the latest, with its producers in other threads, or before if none can be started.
 pub(crate) fn run_produced<
     R: Threads + Wait + Sync,
     K: Sink,

@@ -30,12 +30,12 @@ use norm_world::World;
 use std::alloc::Global;
 use std::marker::Model;
 
-/// What the sender answers to a file. If a read fails there is no answer, and the run stops.
+/// What the sender answers to a file.
 #[derive(Drop)]
 pub(crate) enum FileGave {
     /// It was accepted. If a journal is kept, `job` has the octets that were read.
     Accepted { job: Option<Job>, receipt: Receipt },
-    /// It was refused by its name and its length, before any octet was read.
+    /// It was refused before any octet was read.
     Refused { name: Octets, fault: SendFault },
 }
 
@@ -55,7 +55,7 @@ impl Model for Copied {
 }
 
 impl Copied {
-    /// No octets yet, with room for `len` octets if they are kept. `Memory` if memory runs out.
+    /// No octets yet, with room for `len` of them if they are kept. `Memory` if memory runs out.
     fn of(alloc: Global, keeps: bool, len: u64) -> Result<Copied, Memory>
         ensures { IfOk result (λ copied. copied ≡ octets_at keeps []) }
     {
@@ -63,7 +63,7 @@ impl Copied {
             return Ok(Copied { octets: None });
         }
         let mut octets = Vec::new(alloc);
-        // All room before the first read, so that a lack of memory is reported before a large file is read in vain.
+        // All room before the first read, so that a lack of memory for it is reported before a large file is read in vain.
         octets.reserve(len as usize)?;
         Ok(Copied {
             octets: Some(octets),
@@ -116,8 +116,8 @@ fn fault_of(alloc: Global, fault: FileFault, name: &str) -> SessionFault
     }
 }
 
-/// Returns the length of a file in octets. Nothing is read.
-// Asked each time a file is offered, also while its command waits: the file is sent as it is when it is accepted, and takes no memory before.
+/// Returns the length of a file in octets.
+// Asked each time a file is offered, also while its command waits: the file may change before it is accepted.
 // `FolderFiles` may repeat an old length up to 64 times.
 fn length_of<D: Files>(alloc: Global, files: &mut D, name: &str) -> Result<u64, SessionFault>
     ensures same { D.contents files.new ≡ D.contents files.old }
@@ -174,8 +174,8 @@ fn read_piece<D: Files>(
     }
 }
 
-/// Reads all octets of the file that was begun, in pieces as long as the buffer, and hands them to the world. Returns the octets if they
-/// are kept.
+/// Reads all octets of the file that was begun, in pieces that are at most as long as the buffer, and hands them to the world. Returns the
+/// octets if they are kept.
 fn read_all<D: Files>(
     alloc: Global,
     world: &mut World,
@@ -205,7 +205,7 @@ fn read_all<D: Files>(
     Ok(copied.into_octets())
 }
 
-/// Returns the job of a file if its octets are kept. It copies the name, and takes the octets over.
+/// Returns the job of a file if its octets are kept.
 fn job_of_file(alloc: Global, name: &str, octets: Option<Octets>) -> Result<Option<Job>, Memory>
     ensures { IfOk result (λ job. job ≡ option_map (λ (bytes : List ℕ). Job.File name.now bytes) octets) }
 {
@@ -218,7 +218,7 @@ fn job_of_file(alloc: Global, name: &str, octets: Option<Octets>) -> Result<Opti
     }
 }
 
-/// Reads a file that was begun, in pieces of one symbol. Returns the job for the journal if its octets are kept.
+/// Reads a file that was begun, in pieces of at most one symbol. Returns the job for the journal if its octets are kept.
 fn read_job<D: Files>(
     alloc: Global,
     world: &mut World,
@@ -243,7 +243,7 @@ fn read_job<D: Files>(
     Ok(job)
 }
 
-/// Reads a file that was begun and adds it to the transport order. If reading fails, the file is given up.
+/// Reads a file that was begun and adds it to the transport order. If reading fails or memory runs out, the file is given up.
 fn accept_file<D: Files>(
     alloc: Global,
     world: &mut World,
@@ -278,7 +278,7 @@ fn accept_file<D: Files>(
     }
 }
 
-/// The answer for a file that was not begun. If the sender gave the name back, it refused the file. If it did not, memory ran out.
+/// The answer for a file that was not begun. If the sender did not give the name back, memory ran out.
 fn refusal_of(back: Option<Octets>, fault: SendFault) -> Result<FileGave, SessionFault>
     ensures { result ≡ refusal_of back fault }
 {
@@ -289,7 +289,7 @@ fn refusal_of(back: Option<Octets>, fault: SendFault) -> Result<FileGave, Sessio
     }
 }
 
-/// Offers a file to the sender, and reads it unless the sender refuses it by its name and its length. If `keeps` is true, the octets are
+/// Offers a file to the sender, and reads it unless the sender refuses it. If `keeps` is true, the octets are
 /// kept for the job in the journal.
 fn offer_file<D: Files>(
     alloc: Global,
@@ -319,7 +319,7 @@ fn offer_file<D: Files>(
     }
 }
 
-/// The length of a symbol in octets, which is also that of a read.
+/// The length of a symbol in octets, which is also the most that one read asks for.
 fn symbol_len(profile: &Profile) -> u16
     ensures { 0 < result }
 {
@@ -327,8 +327,7 @@ fn symbol_len(profile: &Profile) -> u16
 }
 
 impl Run {
-    /// Notes a file that the sender refused by its name and its length, and writes the refusal's line if it has one. The command waits if the
-    /// sender only had no room for the file.
+    /// Notes a file that the sender refused before any octet was read, and writes the refusal's line if it has one.
     fn note_length<K: Sink>(
         &mut self,
         by: Origin,

@@ -16,8 +16,8 @@ use std::marker::Model;
 /// 1. [`start`](Run::start), which starts the network.
 /// 2. [`turns`](Run::turns), which does all turns, or those up to a given one, over a [`Lent`](crate::Lent). It begins each with
 ///    [`begin_turn`](Run::begin_turn) and [`command`](Run::command). Then come [`tick_sender`](Run::tick_sender) and the offer,
-///    [`take_all`](Run::take_all) and [`serve_all`](Run::serve_all). After the command, the sender's tick and each take,
-///    [`tell_all`](Run::tell_all) reports the sender's news.
+///    [`take_all`](Run::take_all) and [`serve_all`](Run::serve_all). After the command, the sender's tick and each
+///    datagram that was taken, [`tell_all`](Run::tell_all) reports the sender's news.
 /// 3. [`summarize`](Run::summarize), which ends the run.
 // Proof: a function's clause is said of every context (Context), from one stage of a turn to another.
 // Proof: so a run keeps nothing of what it was begun over, and the clause of a turn is that of its functions, one after the other.
@@ -30,7 +30,7 @@ pub struct Run {
     pub(crate) world: World,
     pub(crate) journal: KeptJournal,
     /// The line that is printed. Its memory is used again for the next one.
-    // A run prints many short lines, and none of them then takes memory of its own.
+    // A run prints many short lines.
     pub(crate) line: Line,
     pub(crate) totals: Totals,
     pub(crate) draws: Lcg64Xsh32,

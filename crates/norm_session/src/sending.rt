@@ -34,7 +34,7 @@ impl Run {
         Ok(sent)
     }
 
-    /// Offers a node's datagram to the network, and notes the offer.
+    /// Offers a node's datagram to the network, and notes the offer if a journal is kept.
     ///
     /// # Errors
     ///
@@ -61,7 +61,7 @@ impl Run {
     ///
     /// # Errors
     ///
-    /// `Fabric` if the network failed, or `Memory`.
+    /// As for [`offer`](Run::offer).
     pub(crate) fn offer_sent<F: Fabric>(
         &mut self,
         fabric: &mut F,

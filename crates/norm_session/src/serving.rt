@@ -13,7 +13,8 @@ use norm_base::{Datagram, Fabric, NodeId, Sent, Sink};
 use norm_turns::SessionFault;
 
 impl Run {
-    /// Does a receiver's part of a turn: takes all its hand-ups, ticks it, and offers its datagram. Does nothing if the node is not a receiver.
+    /// Does a receiver's part of a turn: takes all its hand-ups, ticks it, and offers its datagram if it gave one. Does nothing if the node
+    /// is not a receiver.
     ///
     /// # Errors
     ///

@@ -1,4 +1,4 @@
-//! A whole session (RFC 5740 section 5): [`run_session`] for all members, [`run_send`] for the sender alone. `norm_program` calls both.
+//! A whole session (RFC 5740 section 5): [`run_session`] for all members, [`run_send`] for the sender alone.
 
 ghost use Rattle.std.specs.Prelude.{◌≡◌, ◌≤◌, List, Ok, Err, IfOk, IfErr};
 ghost use Rattle.norm_journal.specs.declared.event.Event.{Event};
@@ -33,16 +33,16 @@ pub struct Ended {
     pub whole: bool,
 }
 
-/// How a run of a script ended: its journal, or `None` if its sender is alone, and whether everything was done.
+/// How a run of a script ended: its journal, or `None` if its sender is alone, and whether it was whole.
 #[derive(Drop)]
 struct Made {
     journal: Option<Journal>,
     whole: bool,
 }
 
-/// Runs a script's session, turn by turn. It ends when all commands were pulled, none waits, no watermark is open and the sender is idle, or
-/// when the profile's turns are spent. It does at least one turn. Each line is one write of the output, and the summary is the last line.
-/// The producers run in threads of their own. If none can be started, they submit all their lines before the first turn.
+/// Runs a script's session, turn by turn. It ends when all commands were pulled, none waits, no watermark is open and the sender is idle,
+/// or when the profile's turns are spent. It does at least one turn. Each line is one write of the output, and the summary is the last
+/// line. The producers run beside it in other threads. If none can be started, they submit all their lines before the first turn.
 ///
 /// # Errors
 ///
@@ -84,22 +84,20 @@ pub fn run_session<
             journal: journal.unwrap(),
             whole,
         }),
-        // Only the fault: the events that were kept are dropped. The clause says that there is a journal up to it that fits network and output.
+        // Only the fault: the events that were kept are dropped.
         Err(fault) => Err(fault),
     }
 }
 
-/// Runs only the sender of a script's session, whose receivers are elsewhere. The network is started for the sender's node. In each turn, it
-/// offers what the sender sends and takes what comes to the sender, and it ends as [`run_session`] does. A datagram for any other node is
-/// passed over, and the summary counts no hand-up. Each line is one write of the output, and the summary is the last line. No journal is
-/// kept, so memory does not grow with what is offered and taken. Returns whether everything was done. If not, the turns were spent.
+/// Runs only the sender of a script's session, whose receivers are elsewhere, as [`run_session`] does with all members. The network is
+/// started for the sender's node. A datagram for any other node is passed over, and the summary counts no hand-up. No journal is kept.
+/// Returns whether everything was done. If not, the turns were spent.
 ///
 /// # Errors
 ///
-/// `Write`, `Fabric` or `Files` if a call of the output, the network or the files failed; `Absent` if a command's file is not there; or
-/// `Memory`, also if the board has no room for an outcome or a count does not fit 64 bits.
-// No journal is kept, since nobody would read it and it would grow with each datagram. The clause says only that some journal fits what was
-// offered, taken and written.
+/// Those of [`run_session`].
+// No journal is kept, since nobody would read it and it would grow with each datagram. The clause says that a journal fits what
+// was offered, taken and written.
 pub fn run_send<
     R: Threads + Wait + Sync,
     K: Sink,
@@ -135,7 +133,7 @@ pub fn run_send<
     }
 }
 
-/// Runs a script up to turn `until` at the latest, with its sender alone or with all members, over what its producers hand over.
+/// Runs a script up to turn `until` at the latest, over what its producers hand over.
 pub(crate) fn run_turns<R: Wait, A: Arrivals, K: Sink, F: Fabric, D: Files, C: Clock>(
     rt: &R,
     alloc: Global,
@@ -163,7 +161,7 @@ pub(crate) fn run_turns<R: Wait, A: Arrivals, K: Sink, F: Fabric, D: Files, C: C
     turned.and(Ok(run))
 }
 
-/// Runs a script, with its sender alone or with all members: its turns, and then the summary.
+/// Runs a script: its turns, and then the summary.
 fn run_script<
     R: Threads + Wait + Sync,
     K: Sink,
@@ -216,7 +214,7 @@ fn made_of(
 }
 
 impl Run {
-    /// Returns the journal of the run, or `None` if its sender is alone. The nodes are dropped.
+    /// Returns the journal of the run, or `None` if its sender is alone.
     fn into_journal(self) -> Option<Journal>
         ensures { result ≡ self.journal }
     {

@@ -31,7 +31,7 @@ fn local_of(profile: &Profile, alone: bool) -> Local
     }
 }
 
-/// The journal of a run at its beginning. It has the network's start already, which has to come next.
+/// The journal of a run at its beginning. If it is kept, it has the network's start already.
 fn begun_journal(alloc: Global, alone: bool) -> Result<KeptJournal, Memory>
     ensures { IfOk result (λ journal. journal ≡ kept_of alone (event.Start ∷ [])) }
 {
@@ -41,7 +41,7 @@ fn begun_journal(alloc: Global, alone: bool) -> Result<KeptJournal, Memory>
     Ok(journal)
 }
 
-/// Starts the network. Call it right after [`Run::begun`], whose journal says already that it started.
+/// Starts the network. Call it right after [`Run::begun`].
 fn start_network<F: Fabric>(
     script: &Script,
     alone: bool,
@@ -57,7 +57,7 @@ fn start_network<F: Fabric>(
 }
 
 impl Run {
-    /// A run at its beginning. Its journal has the network's start already, so start the network next.
+    /// A run at its beginning. If its journal is kept, it has the network's start already: start the network next.
     fn begun(alloc: Global, script: &Script, alone: bool) -> Result<Run, Memory>
         ensures { IfOk result (λ run. (x : Context) (network : Network) → IsBegun x script.now alone network → At x run Between network x.written) }
     {
@@ -89,7 +89,7 @@ impl Run {
     ///
     /// # Errors
     ///
-    /// `Fabric` if the network failed, or `Memory`. Then nothing was done.
+    /// `Fabric` if the network failed, or `Memory`.
     pub fn start<F: Fabric>(
         alloc: Global,
         script: &Script,

@@ -1,4 +1,4 @@
-//! Takes datagrams from the network and delivers them. [`Run::take_all`] does this part of a turn.
+//! Takes datagrams from the network, and delivers those for nodes of this run.
 
 ghost use Rattle.std.specs.Prelude.{◌≡◌, ℕ, Some, None, IfOk, IfErr, OnOk};
 ghost use Rattle.norm_base.specs.Network.{Network};
@@ -16,8 +16,8 @@ use norm_turns::{MOST_TAKES, SessionFault, next_draw};
 use producer_gate::Board;
 
 impl Run {
-    /// Delivers a datagram to the sender, or to a receiver with the next draw. Does nothing if the node is not a member, or if it is a receiver
-    /// and the sender is alone.
+    /// Delivers a datagram to the sender, or to a receiver with the next draw. Does nothing if the node is no member, or a receiver while
+    /// the sender is alone.
     fn deliver(&mut self, to: NodeId, bytes: &[u8]) -> Result<(), SessionFault>
         ensures goes { OnOk result (Delivers self.old self.new to bytes.now) }
         ensures memory { IfErr result (λ fault. fault ≡ SessionFault.Memory) }
@@ -38,7 +38,7 @@ impl Run {
         Ok(())
     }
 
-    /// Delivers and notes a datagram that was taken. Returns true.
+    /// Delivers a datagram that was taken, if its node is in this run, and notes the take. Returns true.
     fn take_in(&mut self, to: NodeId, bytes: &[u8]) -> Result<bool, SessionFault>
         ensures goes { IfOk result (λ took. GoesOn self.old self.new (Some (to, bytes.now)) took) }
         ensures stops { IfErr result (λ fault. StopsAfter self.old (Some (to, bytes.now)) fault) }
@@ -59,7 +59,8 @@ impl Run {
         Ok(false)
     }
 
-    /// Takes a datagram from the network and delivers it. Returns false if the network has none ready.
+    /// Takes a datagram from the network and delivers it, or passes over it if its node is not in this run. Returns false if the network
+    /// has none ready.
     ///
     /// # Errors
     ///
@@ -82,8 +83,8 @@ impl Run {
         }
     }
 
-    /// Takes and delivers datagrams until the network has none ready, at most `MOST_TAKES` of them. After each it reports the sender's news
-    /// ([`tell_all`](Run::tell_all)).
+    /// Calls [`take`](Run::take) until the network has none ready, at most `MOST_TAKES` times. After each datagram it reports the sender's
+    /// news ([`tell_all`](Run::tell_all)).
     ///
     /// # Errors
     ///

@@ -1,5 +1,4 @@
-//! The sender's news: a receiver is past a position, or a watermark ended. Each change is noted, an outcome is published on the board, and
-//! then its line is written.
+//! The sender's news: a receiver is past a position, or a watermark ended.
 
 ghost use Rattle.std.specs.Prelude.{◌≡◌, ◌∷◌, [], ℕ, IfOk, IfErr, OnErr, OnOk};
 ghost use Rattle.norm_base.specs.Network.{Network};
@@ -21,7 +20,7 @@ use norm_send_rules::News;
 use norm_turns::{SessionFault, left_by, news_notice, write_line};
 use producer_gate::Board;
 
-/// Publishes the outcome of a watermark on the board. The board gets no other change. `Memory` if it has no room.
+/// Publishes a change on the board if it is the outcome of a watermark. `Memory` if the board has no room.
 fn publish(board: &mut Board, news: &News) -> Result<(), Memory>
     ensures posted { OnOk result (board.new ≡ posting board.old (entries_in (event.News news.now ∷ []))) }
     ensures same { OnErr result (board.new ≡ board.old) }
@@ -36,7 +35,7 @@ fn publish(board: &mut Board, news: &News) -> Result<(), Memory>
 }
 
 impl Run {
-    /// Counts a change and adds it to the journal. `Memory` also if a count does not fit 64 bits.
+    /// Adds a change to the journal, and counts it if it is a watermark that ended. `Memory` also if a count does not fit 64 bits.
     fn note_news(&mut self, news: News) -> Result<(), SessionFault>
         ensures noted { OnOk result (self.new
             ≡ record self.old { journal = noted self.old.journal (event.News news); totals = with_news news self.old.totals }) }
@@ -51,8 +50,8 @@ impl Run {
         Ok(())
     }
 
-    /// Reports the sender's next change: notes it, publishes it on the board if it is an outcome, and writes its line. Returns false if none is
-    /// left. Then nothing was done.
+    /// Reports the sender's next change: notes it, publishes it on the board if it is an outcome, and writes its line, if it has one.
+    /// Returns false if none is left.
     ///
     /// # Errors
     ///
@@ -80,7 +79,7 @@ impl Run {
         Ok(true)
     }
 
-    /// Reports all changes of the sender, each with its line. Call it after the command, after the sender's tick and after each take.
+    /// Reports all changes of the sender. Call it after the command, after the sender's tick and after each datagram that was taken.
     ///
     /// # Errors
     ///

@@ -1,4 +1,4 @@
-//! The turns of a run. [`Run::turns`] does all of them, and a caller that drives a run itself asks [`Run::is_done`] after each turn.
+//! The turns of a run. A caller that does them itself, and not by [`Run::turns`], asks [`Run::is_done`] after each.
 
 ghost use Rattle.std.specs.Prelude.{◌≡◌, ◌≤◌, ℕ, ◌==◌, ◌&&◌, ◌||◌, not, length, min, nat_le, is_none, slice_get, option_and_then, OnOk, IfErr};
 ghost use Rattle.norm_journal.specs.Judged.{is_done, is_whole};
@@ -32,7 +32,7 @@ pub(crate) fn turns_of(profile: &Profile) -> u32
     profile.turns
 }
 
-/// The last turn of a run that goes no further than turn `until`.
+/// The last turn that a run may do if it goes no further than turn `until`.
 fn last_turn(profile: &Profile, until: u32) -> u32
     requires { 1 ≤ until }
     ensures value { result ≡ min until profile.now.turns }
@@ -118,7 +118,7 @@ impl Run {
         1 <= self.turn
     }
 
-    /// Whether the last turn was done. It is the first after which the run is whole, or the profile's last. Call it between turns.
+    /// Whether the last turn was done: the first after which the run is whole, or the profile's last. Call it between turns.
     pub fn is_done(&self, script: &Script) -> bool
         ensures { (x : Context) (w : Rules) (place : Place) → HasAll x self.entry.now → x.script ≡ script.now → StandsFor self.entry.now.world w
             → result ≡ is_done (judged_of x self.entry.now w place) }
@@ -137,8 +137,8 @@ impl Run {
         self.profile.step
     }
 
-    /// Begins the next turn. Its moment is its number times the profile's `step`. If `step` is 0, it is the clock's, which is asked once, or the
-    /// moment before if the clock went backwards.
+    /// Begins the next turn. Its moment is its number times the profile's `step`. If `step` is 0, it is the clock's, which is asked once,
+    /// or that of the turn before if the clock went backwards.
     ///
     /// # Errors
     ///
@@ -148,7 +148,7 @@ impl Run {
         ensures stops { IfErr result (λ fault. StopsBeginning self.old fault (C.moments clock.old) (C.moments clock.new)) }
         ensures cause { NeedsMemory result }
     {
-        // Never `None`: a profile has at most 4,000,000 turns.
+        // `None` is beyond any profile's last turn: a profile has at most 4,000,000 turns.
         let Some(turn) = self.turn.checked_add(1) else {
             return Err(SessionFault::Memory);
         };
@@ -262,7 +262,8 @@ impl Run {
         Ok(())
     }
 
-    /// Does all turns up to turn `until`, or to the first after which the run is whole, or to the profile's last.
+    /// Does all turns up to turn `until`, or to the first after which the run is whole, or to the profile's last. Call it before any other
+    /// turn.
     ///
     /// # Errors
     ///

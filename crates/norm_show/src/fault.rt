@@ -1,4 +1,4 @@
-//! The errors that end [`show`](crate::show) before the end of its input.
+//! The errors of [`show`](crate::show).
 
 ghost use Rattle.std.specs.Prelude.{◌≡◌};
 ghost use Rattle.norm_show.specs.declared.fault.ShowFault.TheVariants as fault;
@@ -37,7 +37,7 @@ impl fmt::Display for NoDatagram {
     }
 }
 
-/// What ended [`show`](crate::show) before the input's end.
+/// Why [`show`](crate::show) failed.
 #[derive(Clone, Copy, Debug, PartialEq, Eq)]
 pub enum ShowFault {
     /// The line with this number, counted from 1, is no datagram.

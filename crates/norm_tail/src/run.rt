@@ -31,14 +31,15 @@ pub struct TailEnd {
 /// Lets the nodes of a world go on over a network that loses nothing, until the oldest watermark is done. Turns are the profile's step apart, and
 /// the first comes a step after `last`, which no event of the world may pass. Each delivery to a receiver uses one of `draws`.
 ///
-/// In a turn the sender ticks. If the tick ends the watermark, which only an expiry does, the turn ends there. Otherwise a copy of its datagram,
+/// In a turn the sender ticks. If the tick ends the watermark, the turn ends there. Otherwise a copy of its datagram,
 /// if it gave one, comes to each receiver. Then each receiver in order ticks after its hand-ups were taken, and a copy of its datagram, if it gave
 /// one, comes to each other member, the sender first. The sender's news are taken after its tick and after each copy that comes to it.
 ///
 /// # Errors
 ///
-/// The first [`TailFault`] that applies, with nothing changed, or `Memory` if memory runs out. Then what happened stays.
-// It takes the allocator, as each call does that makes something in memory: the steps have to last after it.
+/// The first [`TailFault`] that applies, with nothing changed, or `Memory` if memory runs out. Then what happened in the world stays, `draws`
+/// may have gone on, and the steps are lost.
+// It takes the allocator for the steps, which have to last after it.
 pub fn run_tail(
     alloc: Global,
     world: &mut World,

@@ -51,7 +51,7 @@ fn is_open(world: &World, mark: u32) -> bool
     says_open(world.sender().book().outcome(mark))
 }
 
-/// Does a turn. It ends after the sender's tick and news if these end the watermark. `Memory` if memory runs out.
+/// Does a turn. It ends after the sender's tick and news if the tick ended the watermark. `Memory` if memory runs out.
 fn turn(
     world: &mut World,
     profile: &Profile,

@@ -79,7 +79,7 @@ fn put_few(text: &mut Vec<u8>, octets: &[u8])
     text.extend_from_slice(&digits[..2 * octets.len()]).unwrap();
 }
 
-/// Appends the digits of 64 octets. It never fails, since the text has room for them.
+/// Appends the lower-case digits of 64 octets. It never fails, since the text has room for them.
 #[inline(always)]
 fn put_lanes(text: &mut Vec<u8>, octets: &[u8])
     requires whole { length octets.now ≡ 64 }

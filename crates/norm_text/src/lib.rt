@@ -1,5 +1,5 @@
-//! Makes printed lines. [`Line`] builds a line word by word, and [`push_digits`] writes octets in hexadecimal. Sessions, nodes,
-//! `normd show` and journals print with it.
+//! Makes printed lines. [`Line`] builds a line word by word, and [`push_digits`] writes octets in hexadecimal. Sessions, tails, nodes,
+//! `normd show`, journals and `replay`, for example, print with it.
 #![tactic(auto)]
 
 mod digits;

@@ -55,7 +55,7 @@ impl Line {
         Ok(Line { octets })
     }
 
-    /// Begins another line in the same memory, with its first word, and room for this many octets of contents in hexadecimal.
+    /// Begins another line, which reuses the memory, with its first word and room for this many octets of contents in hexadecimal.
     pub fn restart(&mut self, first: &[u8], contents: usize) -> Result<(), AllocError>
         ensures { OnOk result (self.new ≡ first.now) }
     {

@@ -8,7 +8,7 @@ use rand_core::SeedableRng;
 use rand_core::utils::NextWord;
 use rand_pcg::Lcg64Xsh32;
 
-/// The draws at the beginning of a run, from the profile's `chance`. Receivers that run alone all begin with the same ones.
+/// The draws at the beginning of a run, from the profile's `chance`. Receivers that run alone with one `chance` begin with the same ones.
 #[tactic(auto, unfolding(norm_journal::specs::Draws::first_draws))]
 pub fn first_draws(profile: &Profile) -> Lcg64Xsh32
     ensures { result ≡ first_draws profile.now }

@@ -19,7 +19,8 @@ pub enum SessionFault {
     Files,
     /// A command's file is not there. If its name cannot be copied, the fault is `Memory`.
     Absent { name: Text },
-    /// Memory ran out. It also stands for what does not fit: a count above 64 bits, or an outcome for which the board has no room.
+    /// Memory ran out. It also stands for what does not fit, for example a count above 64 bits, or an outcome for which the board has no
+    /// room.
     Memory,
 }
 

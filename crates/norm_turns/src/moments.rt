@@ -13,6 +13,6 @@ pub fn moment_of<C: Clock>(turn: u32, step: u32, so_far: Moment, clock: &mut C) 
         return Moment(u64::from(turn) * u64::from(step));
     }
     let now = clock.now();
-    // A clock that falls holds the moment. Time that runs backwards would end no back-off and no gap.
+    // A clock that falls holds the moment. Time that runs backwards would prolong back-offs and gaps.
     if now.0 < so_far.0 { so_far } else { now }
 }

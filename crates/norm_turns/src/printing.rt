@@ -45,7 +45,7 @@ pub fn write_line<K: Sink>(
 ///
 /// `Write` if the write failed, and then a prefix of the line may have been written. `Memory` if memory runs out, and then nothing was
 /// written.
-// Only tests call it: a session prints as its events join the journal. It stays for programs that print what came without one.
+// For what comes without a journal: `norm_program` calls it for tails.
 pub fn write_up<K: Sink>(
     line: &mut Line,
     node: NodeId,

@@ -24,8 +24,8 @@ use std::alloc::Global;
 // The key `receivers` goes up to 16. The loop ends earlier if fewer are left.
 const MOST_RECEIVERS: u32 = 16;
 
-/// The receivers that are not listed past a watermark, in the order of their ids. Empty if no watermark has this number. `Memory` if memory runs
-/// out.
+/// The members that are not listed past a watermark, in the order of their ids. A struck receiver is none of them. Empty if no watermark
+/// has this number. `Memory` if memory runs out.
 fn left_past(alloc: Global, sender: &Sender, mark: u32) -> Result<Vec<NodeId>, Memory>
     ensures { IfOk result (λ left. (s : SenderState) → Stands sender.now s → left.items ≡ left_past s mark) }
 {
@@ -39,8 +39,8 @@ fn left_past(alloc: Global, sender: &Sender, mark: u32) -> Result<Vec<NodeId>, M
     Ok(left)
 }
 
-/// Returns the receivers that are not listed past the watermark of this change, in the order of their ids. If the change is a listing, there are
-/// none.
+/// Returns the members that are not listed past the watermark of this change, in the order of their ids. A struck receiver is none of them.
+/// If the change is a listing, there are none.
 ///
 /// # Errors
 ///
@@ -54,14 +54,14 @@ pub fn left_by(alloc: Global, sender: &Sender, news: &News) -> Result<Vec<NodeId
     }
 }
 
-/// Writes the line of a change that a sender reported, in one piece. The line of an expired watermark names the receivers that are not
+/// Writes the line of a change that a sender reported, in one piece. The line of an expired watermark names the members that are not
 /// listed past it. A watermark that is open has no line. The line is made in the memory of `line`.
 ///
 /// # Errors
 ///
 /// `Write` if the write failed, and then a prefix of the line may have been written. `Memory` if memory runs out, and then nothing was
 /// written.
-// Only tests call it. It stays for programs that print without a journal, as `write_up` does.
+// For what comes without a journal, as `write_up`: `norm_program` calls it for tails.
 pub fn write_news<K: Sink>(
     alloc: Global,
     line: &mut Line,

@@ -8,8 +8,8 @@ ghost use Rattle.norm_udp.specs.Addresses.{port_of, member_with, member_from, Is
 use norm_base::{NodeId, Profile};
 use std::net::{Ipv4Addr, SocketAddr, SocketAddrV4};
 
-/// A member with an address that shows which member it is: the one that a datagram came from, or the member's own.
-// What is received goes up as this value, so that nothing on its way can tell it as another member's.
+/// A member and its address at 127.0.0.1.
+// What is received goes up as this value: its node cannot be replaced by one that the address does not belong to.
 #[derive(Clone, Copy, Debug)]
 pub(crate) struct Located {
     pub(crate) profile: Profile,
@@ -47,7 +47,7 @@ pub(crate) fn address_of(profile: &Profile, node: NodeId) -> SocketAddr
     address_at(port_of(profile, node))
 }
 
-/// Returns a member with its own address: its socket is bound to it, and copies for the member are sent to it.
+/// Returns a member with its address, to which its own socket is bound.
 #[tactic(auto, using(crate::proofs::AddressLemmas::known))]
 pub(crate) fn with_address(profile: &Profile, node: NodeId) -> Located
     requires { is_node profile.now node ≡ true }
@@ -72,7 +72,7 @@ pub(crate) fn member_at(profile: &Profile, place: u8) -> NodeId
     NodeId::of(profile.sender + u32::from(place)).unwrap()
 }
 
-/// Returns the member at this port. The members have the ports after the hub's, in the order of their ids. `None` for any other port.
+/// Returns the member at this port. The members have the ports after the hub's, in the order of their ids.
 fn member_with(profile: &Profile, port: u16) -> Option<NodeId>
     ensures { result ≡ member_with profile.now port }
 {

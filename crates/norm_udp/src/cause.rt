@@ -1,14 +1,14 @@
-//! What a failed call was about: [`SocketCause`]. `sockets` and `socket` make all of it, except `Within`, which `norm_host` makes.
+//! What a failed call was about: [`SocketCause`].
 
 use norm_base::FabricKind;
 use std::net::SocketAddr;
 use std::{fmt, io};
 
-/// What a failed call was about and why it failed, mostly in the system's words. It is for people: no clause speaks of it.
+/// What a failed call was about and why it failed, for people.
 #[derive(Debug, Drop)]
 pub enum SocketCause {
-    /// A socket could not be made, bound to this address, or set to never wait. Also if a node alone is no member of the profile: with the address of
-    /// the hub.
+    /// A socket could not be made, bound to this address, or set to never wait. Also if a node alone is no member of the profile, with the
+    /// hub's address.
     Bind {
         address: SocketAddr,
         error: io::Error,
@@ -23,12 +23,12 @@ pub enum SocketCause {
         address: SocketAddr,
         error: io::Error,
     },
-    /// The receive failed at this address, for another reason than that nothing is there.
+    /// The receive failed at this address, for another reason than that nothing is there or a datagram was lost.
     Receive {
         address: SocketAddr,
         error: io::Error,
     },
-    /// A node of its own, or the hub, cannot start over a network within one process, of this kind.
+    /// A member alone, or the hub, cannot start over this kind of network, which lies within one process. `norm_host` makes it.
     Within {
         fabric: FabricKind,
     },

@@ -30,7 +30,7 @@ use std::time::{Clock, Duration};
 // Our own choice, so that the look ends even if the clock stands still. A millisecond has time for fewer calls of the system.
 const MOST_LOOKS: u32 = 16_384;
 
-/// Returns the gap between a node's datagrams in microseconds: the profile's for a sender alone, and 0 for any other.
+/// Returns the gap between a node's datagrams in microseconds: the profile's for a sender alone, else 0.
 fn gap_of(profile: &Profile, local: &Local) -> u64 {
     match local {
         Local::One(node) => {
@@ -44,7 +44,8 @@ fn gap_of(profile: &Profile, local: &Local) -> u64 {
     }
 }
 
-/// Receives the next datagram that the sieve lets through. `None` if [`Open::look`] returns it, or after [`MOST_PASSED`] that the sieve passed over.
+/// Receives the next datagram that the sieve lets through. `None` if [`Open::look`] returns it, or after [`MOST_PASSED`] that the sieve
+/// passed over.
 fn look_through(
     open: &mut Open,
     sieve: &mut Sieve,
@@ -69,14 +70,16 @@ fn look_through(
     Ok(None)
 }
 
-/// A network of UDP sockets at 127.0.0.1: the hub at the profile's port, and the members at the next ports, in the order of their ids. In this order:
-/// [`send_by`](UdpFabric::send_by) if threads are to send, `start`, `offer` and `take` at will, and [`drain`](UdpFabric::drain) before the process
-/// ends. To whom datagrams go depends on the members in this process. If all are here, each has its socket, and what one offers goes to each other. A
-/// member alone offers to the hub. The hub offers a member's datagram to each other member, and its `take` returns the member that sent one.
+/// A network of UDP sockets at 127.0.0.1: the hub at the profile's port, and the members at the next ports, in the order of their ids. In
+/// this order: [`send_by`](UdpFabric::send_by) if threads are to send, `start`, `offer` and `take` at will, and [`drain`](UdpFabric::drain)
+/// before the process ends. To whom datagrams go depends on the members in this process. If all are here, what one offers goes to each
+/// other. A member alone offers to the hub. The hub offers a member's datagram to each other member, and its `take` returns the member that
+/// sent one.
 ///
-/// A datagram is lost if nobody is there to receive it, or if a buffer or the lane of a thread is full. Any other error fails the call. Nobody receives
-/// a datagram of more than 1,500 octets, and the hub none of an address of no member. A receiver alone passes over an instance of its sender that does
-/// not fit its profile ([`PassesOver`]). Contracts cannot rely on what was sent or received.
+/// A datagram is lost if nobody is there to receive it, or if a buffer or the lane of a thread is full. Any other error of a send or a
+/// receive fails the call, or may fail a later one if a thread sends. Nobody receives a datagram of more than 1,500 octets, and the hub
+/// none of an address of no member. A receiver alone passes over an instance of its sender that does not fit its profile ([`PassesOver`]).
+/// Contracts cannot rely on what was sent or received.
 #[derive(Drop)]
 pub struct UdpFabric<R> {
     rt: R,
@@ -124,8 +127,8 @@ impl<R: Net + Wait + Clock + Drop> UdpFabric<R> {
         self.senders = senders;
     }
 
-    /// Closes the node's sockets. Each thread still sends what was offered before, and then closes its own; only after that is a sender's port free. If
-    /// its lane stays full for some ten milliseconds, it keeps them until the next `close` or `start`.
+    /// Closes the node's sockets. Each thread still sends what was offered before, and then closes its own; only after that is a sender's
+    /// port free. A thread whose lane stays full for some ten milliseconds keeps them.
     pub fn close(&mut self)
         ensures faults { self.new.faults ≡ self.old.faults }
         ensures passed { passed_by self.new ≡ 0 }
@@ -137,20 +140,20 @@ impl<R: Net + Wait + Clock + Drop> UdpFabric<R> {
         self.sieve = Sieve::open();
     }
 
-    /// Waits until threads have sent all that was offered, for some seconds at most for each thread. Call it before the process ends, because its
-    /// threads end with it. Returns why a thread could not send, if no call reported it; that does not count as a failed call.
+    /// Waits until threads have sent all that was offered, for some seconds at most for each thread. Call it before the process ends,
+    /// because its threads end with it. Returns why a thread could not send, if a failure was not reported yet.
     pub fn drain(&self) -> Option<SocketCause>
         ensures { tells_sending result ≡ true }
     {
         self.senders.drain(&self.rt)
     }
 
-    /// Returns what the last failed call was about. `None` if none failed yet, except for want of memory.
+    /// Returns what the last failed call was about, apart from those for want of memory. `None` if there was none.
     pub fn cause(&self) -> Option<&SocketCause> {
         self.cause.as_ref()
     }
 
-    /// Counts a failed call. Its cause takes the place of the last one's.
+    /// Counts a failed call, and keeps its cause in place of the last one's.
     fn keep(&mut self, cause: SocketCause)
         ensures counted { Counts self.old.faults self.new.faults true }
         ensures sieve { self.new.sieve ≡ self.old.sieve }
@@ -163,12 +166,12 @@ impl<R: Net + Wait + Clock + Drop> UdpFabric<R> {
     fn now(&self) -> u64 {
         match self.rt.monotonic() {
             Ok(time) => u64::try_from(time.as_micros()).unwrap_or(0),
-            // A clock that fails costs pauses of another length, and no datagram.
+            // A clock that fails costs pauses of another length.
             Err(_) => 0,
         }
     }
 
-    /// Notes that a datagram is offered. If the node has a gap, it reads the clock and notes when.
+    /// Notes that a datagram is offered, and when if the node has a gap.
     fn note_offer(&mut self)
         ensures { self.new.faults ≡ self.old.faults }
     {
@@ -180,7 +183,7 @@ impl<R: Net + Wait + Clock + Drop> UdpFabric<R> {
         }
     }
 
-    /// Looks once and never waits. [`find`](UdpFabric::find) notes what was found.
+    /// Looks once and does not wait. Notes nothing.
     fn look(&mut self, into: &mut Datagram) -> Result<Option<Located>, SocketCause>
         requires { into.old ≡ [] }
         ensures none { IfOk result (λ node. IfNone node (into.new ≡ [])) }
@@ -191,8 +194,8 @@ impl<R: Net + Wait + Clock + Drop> UdpFabric<R> {
         look_through(&mut self.open, &mut self.sieve, &mut self.buffer, into)
     }
 
-    /// Looks until a datagram is there, and at most until this moment in microseconds of the clock or [`MOST_LOOKS`] times. If none came, it notes
-    /// that. If the moment is over already, it reads the clock once and does not look.
+    /// Looks until a datagram is there, and at most until this moment in microseconds of the clock or [`MOST_LOOKS`] times. If none came,
+    /// it notes that.
     fn look_until(
         &mut self,
         until: u64,
@@ -218,7 +221,7 @@ impl<R: Net + Wait + Clock + Drop> UdpFabric<R> {
         Ok(None)
     }
 
-    /// Sleeps, and looks once more. `last` is when the node last answered that nothing is there after it was busy. Soon after that, the sleep is short.
+    /// Sleeps, and looks once more. `last` is [`Pace::last`].
     fn look_after_sleep(
         &mut self,
         last: Option<u64>,
@@ -235,9 +238,8 @@ impl<R: Net + Wait + Clock + Drop> UdpFabric<R> {
         self.look(into)
     }
 
-    /// Looks again after a look that found nothing, as [`Pace::pause`] says: not at all, until a sender's gap is over, or after a sleep. If it still
-    /// finds nothing, it notes that; after a sleep there is nothing to note. Reads the clock once. While a gap lasts, also after each look that found
-    /// nothing.
+    /// After a look that found nothing, does what [`Pace::pause`] says: looks until a moment, sleeps and looks once, or does not look. If
+    /// it still finds nothing, it notes that, except after a sleep.
     fn look_later(&mut self, into: &mut Datagram) -> Result<Option<Located>, SocketCause>
         requires { into.old ≡ [] }
         ensures none { IfOk result (λ node. IfNone node (into.new ≡ [])) }
@@ -256,17 +258,17 @@ impl<R: Net + Wait + Clock + Drop> UdpFabric<R> {
         }
     }
 
-    /// Sends a member's datagram, or has a thread send it. Fails, and sends nothing, if a thread failed to send an earlier one.
+    /// Sends a member's datagram, or has a thread send it. Fails, and sends nothing, if it finds a thread's failure that no call reported.
     fn send(&self, from: NodeId, bytes: &[u8]) -> Result<(), SocketCause>
         requires { length bytes.now ≤ datagram_room }
         ensures { IfErr result (λ cause. is_sending cause ≡ true) }
     {
-        // The next call of the node reports what a thread failed at. If none did, a fault would pass for data that the network lost.
+        // So that a later call reports what a thread failed at. If none did, a fault would pass for data that the network lost.
         self.senders.check(&self.rt)?;
         self.open.send(&self.rt, &self.senders, from, bytes)
     }
 
-    /// Takes the next datagram, at once or after a pause. Fails if a receive failed, or if a thread failed to send a datagram.
+    /// Takes the next datagram, at once or after a pause. Fails also if it finds a thread's failure that no call reported.
     fn find(&mut self, into: &mut Datagram) -> Result<Option<Located>, SocketCause>
         requires { into.old ≡ [] }
         ensures none { IfOk result (λ node. IfNone node (into.new ≡ [])) }

@@ -1,4 +1,4 @@
-//! What a sender's datagram says of its sender: [`heard_in`]. `sieve` and `norm_watch` call it.
+//! What a sender's datagram says of its sender: [`heard_in`].
 
 ghost use Rattle.std.specs.Prelude.{◌≡◌, Some};
 ghost use Rattle.norm_cmdmsg.specs.View.{command_of};
@@ -17,7 +17,7 @@ pub struct Heard {
     pub instance: InstanceId,
     /// The transport id of the object that INFO, DATA, a flush or a squelch names.
     pub object: Option<u16>,
-    /// EXT_FTI of INFO or DATA. `None` if it has none, and for a command.
+    /// The first EXT_FTI of INFO or DATA that has three words. `None` if there is none, and for a command.
     pub fti: Option<Fti>,
     /// The flags of INFO or DATA. 0 for a command.
     pub flags: u8,
@@ -47,7 +47,7 @@ fn command_heard(head: &CmdHead, object: Option<u16>) -> Heard
     }
 }
 
-/// Only a flush and a squelch name an object.
+/// The object is that of a flush or a squelch.
 fn any_command_heard(msg: &CommandMsg<'_>) -> Heard
     ensures { message_heard (command_of msg.now) ≡ Some result }
 {

@@ -1,5 +1,4 @@
-//! A lane: datagrams on their way from a node to the thread that sends them. All memory of its slots is there from the start. The node calls it
-//! through `Senders`; the thread is `serve` in `senders`.
+//! A lane: datagrams on their way from a node to the thread that sends them.
 
 ghost use Rattle.std.specs.Prelude.{◌≡◌, ◌≤◌, true, length};
 ghost use Rattle.norm_base.specs.Sizes.{datagram_room};
@@ -16,12 +15,12 @@ use std::thread;
 use std::thread::Parker;
 use std::time::{Clock, Duration};
 
-/// The slots of a lane, and so the most datagrams that lie in it.
+/// The slots of a lane.
 // Our own choice: half a second of datagrams at the default gap of one millisecond, and under 1 MB for each thread.
 const PLACES: usize = 512;
 
-/// The most failures of a thread that are kept until a call reports them. The first says what is wrong.
-// The node ends with the first failure that is reported, so nobody would hear of a second one.
+/// The most failures of a thread that are kept until they are reported.
+// Our own choice: the program ends with the first failure that a call reports.
 const MOST_FAILURES: usize = 1;
 
 /// Microseconds of one sleep: of a thread that finds nothing to send, and of a node that waits for the thread.
@@ -29,12 +28,13 @@ const MOST_FAILURES: usize = 1;
 const SLEEP: u64 = 50;
 
 /// The most sleeps of a thread before it rests until it is woken, and of a node before it gives up what it would post.
-// Our own choice, ten milliseconds. A thread rests after it because nothing was sent for long. A node gives up after it because it must not stand
-// still for a thread that hangs.
+// Our own choice, some ten milliseconds. A thread rests after it because nothing was sent for long. A node gives up after it because it
+// must not stand still for a thread that hangs.
 const MOST_SLEEPS: u32 = 200;
 
-/// The most sleeps of a node that ends, while what it posted is sent.
-// Our own choice, some five seconds: enough for a full lane if each datagram takes some milliseconds. A process that ends must not wait for ever.
+/// The most sleeps of a node that ends, for each lane, while what it posted is sent.
+// Our own choice, some five seconds: enough for a full lane if each datagram takes some milliseconds. A process that ends must not wait for
+// ever.
 const MOST_DRAINING: u32 = 100_000;
 
 /// What a slot of a lane holds: a new way for the thread, or a member's datagram. On its way back it holds why sending failed, if it did.
@@ -47,18 +47,19 @@ pub(crate) struct Posted {
     ghost sending: { tells_sending failed ≡ true },
 }
 
-/// What a node and the thread that sends for it share. The node takes a free slot, fills it and posts it. The thread does what it says and frees it.
-// All memory is there from the start, in place of a channel that makes room as it goes. A slot is in `places`, `posted` or `failures`, or the node
-// or the thread holds it. A lost one would leave less room for good, and `drain` would wait for it in vain.
+/// What a node and the thread that sends for it share. The node takes a free slot, fills it and posts it. The thread does what it says,
+/// and frees it or keeps it as a failure.
+// All memory is there from the start, in place of a channel that makes room as it goes. A slot is in `places`, `posted` or `failures`, or
+// the node or the thread holds it. A lost one would leave less room for good, and `drain` would wait for it in vain.
 #[derive(Drop)]
 pub(crate) struct Lane {
     /// What the thread has to do, in the order of posting.
     posted: ArrayQueue<Box<Posted>>,
     /// Free slots, each with the room of a datagram.
     places: ArrayQueue<Box<Posted>>,
-    /// The slot of a datagram that the thread failed to send, until a call reports that.
+    /// The slot of a datagram that the thread failed to send, until that is reported.
     failures: ArrayQueue<Box<Posted>>,
-    /// Whether `failures` may hold something. Each call asks, so it costs one read.
+    /// Set after `failures` got something, and cleared before [`failure`](Lane::failure) looks there.
     has_failed: AtomicBool,
     rest: Parker,
     /// Set by [`end`](Lane::end). The thread then ends after it has done what lies here.
@@ -70,7 +71,7 @@ fn sleep<R: Clock>(rt: &R) {
 }
 
 impl Lane {
-    /// Returns an empty lane with all its slots, under 1 MB.
+    /// Returns an empty lane with all its slots.
     ///
     /// # Errors
     ///
@@ -108,13 +109,13 @@ impl Lane {
         None
     }
 
-    /// Posts a slot after it was filled, and wakes the thread.
+    /// Posts a slot after it was filled, and wakes the thread if it rests.
     fn put<R: Wait>(&self, rt: &R, place: Box<Posted>) {
         self.posted.force_push(rt, place);
         self.rest.unpark();
     }
 
-    /// Tells the thread its way from here on. `false` if no slot becomes free in some ten milliseconds; the thread is then not told.
+    /// Tells the thread its way from here on. `false` if it is not told, because no slot becomes free in some ten milliseconds.
     pub(crate) fn tell<R: Wait + Clock>(&self, rt: &R, way: Way) -> bool {
         let Some(mut place) = self.place(rt) else {
             return false;
@@ -138,12 +139,12 @@ impl Lane {
         self.put(rt, place);
     }
 
-    /// Keeps the slot of a datagram that the thread failed to send. Frees it if there is a failure already that no call reported.
+    /// Keeps the slot of a datagram that the thread failed to send. Frees it if an earlier failure is still kept.
     pub(crate) fn fail<R: Wait>(&self, rt: &R, place: Box<Posted>) {
         if let Err(place) = self.failures.push(rt, place) {
             self.free(rt, place);
         }
-        // Set last: a node that sees it finds the failure there.
+        // Set last: a node that saw it before the failure is there would clear it in vain.
         self.has_failed.store(true, Ordering::SeqCst);
     }
 
@@ -159,19 +160,19 @@ impl Lane {
         cause
     }
 
-    /// Takes the failure of the thread, if there is one, for the caller to report. It may find one of this very moment only at its next call.
+    /// As [`kept`](Lane::kept). A failure of this very moment may be found only at the next call.
     pub(crate) fn failure<R: Wait>(&self, rt: &R) -> Option<SocketCause>
         ensures { tells_sending result ≡ true }
     {
         if !self.has_failed.load(Ordering::SeqCst) {
             return None;
         }
-        // Cleared before the look: if the thread keeps a failure after it, the next call looks again.
+        // Cleared before the look: if the thread keeps a failure after it, a later call looks again.
         self.has_failed.store(false, Ordering::SeqCst);
         self.kept(rt)
     }
 
-    /// Takes the oldest slot that was posted. The thread gives it back with `free` or `fail`.
+    /// Takes the oldest slot that was posted. Give it back with [`free`](Lane::free) or [`fail`](Lane::fail).
     pub(crate) fn next<R: Wait>(&self, rt: &R) -> Option<Box<Posted>> {
         self.posted.pop(rt)
     }
@@ -181,7 +182,7 @@ impl Lane {
         self.places.force_push(rt, place);
     }
 
-    /// Waits until each slot is free or holds a failure that no call reported, for some seconds at most.
+    /// Waits until each slot is free or holds a failure that is kept, for some seconds at most.
     pub(crate) fn drain<R: Wait + Clock>(&self, rt: &R) {
         for _ in 0..MOST_DRAINING {
             if self.places.len(rt).saturating_add(self.failures.len(rt)) >= PLACES {
@@ -191,8 +192,8 @@ impl Lane {
         }
     }
 
-    /// Waits for something to be posted, after this many sleeps in a row found nothing: sleeps once more, or rests until it is woken. Returns how
-    /// many sleeps there are then; 0 after a rest.
+    /// Sleeps once more after this many sleeps in a row found nothing, or rests until it is woken. Returns how many sleeps there are then;
+    /// 0 after a rest.
     pub(crate) fn wait<R: Wait + Clock>(&self, rt: &R, sleeps: u32) -> u32 {
         // Sleeps first, since to wake a thread that rests is a call of the system.
         if sleeps < MOST_SLEEPS {
@@ -203,13 +204,13 @@ impl Lane {
         0
     }
 
-    /// Says that nothing more will be offered. The thread ends after it has sent what lies here.
+    /// Has the thread end after it has done what lies here. Post nothing after this.
     pub(crate) fn end(&self) {
         self.over.store(true, Ordering::SeqCst);
         self.rest.unpark();
     }
 
-    /// Whether [`end`](Lane::end) was called. What was posted before may still lie here.
+    /// Whether [`end`](Lane::end) was called. Something may still lie here.
     pub(crate) fn is_over(&self) -> bool {
         self.over.load(Ordering::SeqCst)
     }

@@ -3,7 +3,8 @@
 ghost use Rattle.norm_udp.specs.Addresses.{AddressLaws};
 ghost use Rattle.norm_udp.specs.Ways.{WayLaws};
 
-/// Each member has a port of its own, a port names the member that has it, and a member's address is known to be that member's.
+/// Each member has a port of its own after the hub's, a port names the member that has it, and a member's address is known to be that
+/// member's.
 #[tactic(auto, using(crate::proofs::AddressLemmas::address_laws))]
 pub fn addresses()
     ensures { AddressLaws }

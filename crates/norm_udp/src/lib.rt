@@ -1,8 +1,7 @@
-//! The network of a profile with `fabric udp`: UDP sockets on this machine, one for each member, one for the hub, and one for each receiver to which
-//! the hub sends. `norm_host` makes a [`UdpFabric`], gives it [`Senders`] if threads are to send, and calls it as a `Fabric`. [`SocketCause`] says
-//! what a failed call was about. `norm_watch` reports what a receiver passed over ([`PassesOver`], [`Misfit`]), and reads datagrams with
-//! [`heard_in`]. Inside, `sockets` opens, sends and receives, `pace` decides how to wait, `sieve` what to pass over, and `lane` and `way` are what a
-//! sending thread works on.
+//! The network of a profile with `fabric = "udp"`: UDP sockets on this machine. `norm_host` makes a [`UdpFabric`], and gives it [`Senders`]
+//! if threads are to send. `norm_watch` reports what a receiver passed over ([`PassesOver`]), and reads datagrams with [`heard_in`].
+//! Inside, `sockets` opens, sends and receives, `pace` decides how to wait, `sieve` which instance a receiver passes over, and `lane` and
+//! `way` are what a sending thread works on.
 #![tactic(auto)]
 
 mod address;

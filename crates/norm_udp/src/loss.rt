@@ -1,4 +1,4 @@
-//! Which errors of a socket mean a lost datagram, and are no fault.
+//! Which errors of a socket are no fault.
 
 ghost use Rattle.std.specs.Prelude.{◌≡◌};
 ghost use Rattle.std.specs.IoError.{raw_os_error};

@@ -1,4 +1,4 @@
-//! A member with a socket: its own, or one that sends to it. `sockets` opens them.
+//! A member with a socket: its own, or one that sends to it.
 
 ghost use Rattle.std.specs.Prelude.{◌≡◌, true, IfOk, IfErr};
 ghost use Rattle.norm_base.specs.Members.{is_node};
@@ -18,7 +18,7 @@ pub(crate) struct Member {
     pub(crate) socket: UdpSocket,
 }
 
-/// Opens a member's own socket, bound to its address, and asks for a large receive buffer, which the system need not give.
+/// Opens a member's own socket, bound to its address.
 pub(crate) fn open_own<R: Net>(
     rt: &R,
     profile: &Profile,
@@ -32,7 +32,7 @@ pub(crate) fn open_own<R: Net>(
     Ok(Member { located, socket })
 }
 
-/// Opens a socket for copies to a member, at any free port. Nothing is received from it.
+/// Opens a socket for copies to a member, at any free port. It is never read.
 pub(crate) fn open_way<R: Net>(
     rt: &R,
     profile: &Profile,

@@ -1,4 +1,4 @@
-//! A sender's instance that does not fit this receiver's profile. `sieve` finds it, and `norm_watch` reports it.
+//! A sender's instance that does not fit this receiver's profile.
 
 ghost use Rattle.std.specs.Prelude.{◌≡◌};
 ghost use Rattle.norm_udp.specs.Misfits.{says_stream, has_sizes, fits, difference_of, misfit_of};
@@ -10,7 +10,7 @@ use norm_ext::flags::STREAM;
 use norm_ext::items::has_flag;
 use std::fmt;
 
-/// Octets of a symbol (`e`), source symbols of a block (`b`), and the most encoding symbols of a block (`max_n`).
+/// Octets of a symbol (`e`), and the most source symbols (`b`) and encoding symbols (`max_n`) of a block.
 #[derive(Clone, Copy, Debug)]
 pub struct Sizes {
     pub e: u16,
@@ -27,7 +27,7 @@ pub enum Difference {
     Length { octets: u64, most: u32 },
 }
 
-/// The first message that did not fit, by its instance, and how it differs. Nothing of the instance is taken until INFO or DATA of it fits.
+/// A message that did not fit, by its sender and instance, and how it differs.
 #[derive(Clone, Copy, Debug)]
 pub struct Misfit {
     pub sender: NodeId,
@@ -84,7 +84,7 @@ pub(crate) fn fits(profile: &Profile, fti: &Fti, flags: u8) -> bool
     has_sizes(profile, fti) && (is_stream(flags) || fti.l <= u64::from(profile.octets))
 }
 
-/// Returns how transmission information that does not fit differs: in its sizes, or else in its length.
+/// Returns how transmission information that does not fit differs.
 fn difference_of(profile: &Profile, fti: &Fti) -> Difference
     ensures { result ≡ difference_of profile.now fti.now }
 {
@@ -108,7 +108,7 @@ fn difference_of(profile: &Profile, fti: &Fti) -> Difference
     }
 }
 
-/// `fti` is that of `heard`, and does not fit: otherwise the result names a length that is allowed.
+/// `fti` is that of `heard`, and does not fit.
 pub(crate) fn misfit_of(profile: &Profile, heard: &Heard, fti: &Fti) -> Misfit
     ensures { result ≡ misfit_of profile.now heard.now fti.now }
 {

@@ -1,9 +1,9 @@
-//! How a network of sockets pauses if nothing is there: [`Pace`]. `fabric` drives it.
+//! How a network of sockets pauses if nothing is there: [`Pace`].
 
 ghost use Rattle.std.specs.Prelude.{◌≡◌};
 ghost use Rattle.norm_udp.specs.Pausing.{look_until, sleep_since, pause_of, new_pace, with_offer_at, made_busy, found_empty};
 
-/// The most microseconds for which a sender looks after an offer, if its gap is longer.
+/// The most microseconds for which a sender looks after an offer.
 // Our own choice: a longer gap leaves time to sleep, and a sender that looks takes a whole processor.
 const LONGEST_LOOK: u64 = 1_000;
 
@@ -11,8 +11,8 @@ const LONGEST_LOOK: u64 = 1_000;
 // Our own choice: within ten milliseconds of a datagram the next one is mostly near.
 const RECENT: u64 = 10_000;
 
-/// Microseconds of a sleep at most [`RECENT`] after the node was busy.
-// Our own choice: how late an answer may be while datagrams come. A shorter sleep takes time of the processor from other nodes of this machine.
+/// Microseconds of a sleep that begins at most [`RECENT`] after [`Pace::last`].
+// Our own choice: how late a sleep may make an answer while datagrams come. A shorter one takes processor time from other nodes here.
 const SHORT_SLEEP: u64 = 250;
 
 /// Microseconds of any other sleep.
@@ -30,17 +30,17 @@ pub(crate) enum Pause {
     Sleep(Option<u64>),
 }
 
-/// What a node did since it last answered that nothing is there. Moments are microseconds of the clock. Note each offer
-/// ([`note_offer_at`](Pace::note_offer_at) with a gap, else [`note_busy`](Pace::note_busy)) and each datagram that was taken
-/// (`note_busy`). After a look that found nothing, do what [`pause`](Pace::pause) says, and call [`note_empty`](Pace::note_empty) if it
-/// ends with the answer that nothing is there.
+/// What decides how a node pauses. Moments are microseconds of the clock. Note each offer ([`note_offer_at`](Pace::note_offer_at) with a
+/// gap, else [`note_busy`](Pace::note_busy)) and each datagram that was taken (`note_busy`). After a look that found nothing, do what
+/// [`pause`](Pace::pause) says, and call [`note_empty`](Pace::note_empty) if it ends with the answer that nothing is there; after a sleep
+/// this call may be left out.
 #[derive(Clone, Copy, Debug)]
 pub(crate) struct Pace {
-    /// Microseconds between a sender's datagrams. 0 at any other node, which notes no moment of an offer.
+    /// Microseconds between the datagrams of a sender alone. 0 at any other node.
     pub gap: u64,
-    /// When a sender offered last. `None` if it offered nothing since the last answer that nothing is there.
+    /// When a sender with a gap offered last. `None` if it offered nothing since the last answer that nothing is there, and without a gap.
     pub offered: Option<u64>,
-    /// Whether anything was offered or taken since that answer.
+    /// Whether anything was offered or taken since the last answer that nothing is there.
     pub busy: bool,
     /// When it last answered that nothing is there after it had been busy.
     pub last: Option<u64>,
@@ -64,7 +64,7 @@ pub(crate) fn sleep_since(last: Option<u64>, now: u64) -> u64
 }
 
 impl Pace {
-    /// Returns the pace of a node before anything was offered or taken. `gap` is 0 unless the node is a sender alone.
+    /// Returns the pace of a node before anything was offered or taken.
     pub(crate) fn new(gap: u64) -> Pace
         ensures { result ≡ new_pace gap }
     {
@@ -76,7 +76,7 @@ impl Pace {
         }
     }
 
-    /// Notes that a sender offered a datagram at this moment. Only a node with a gap calls it: it then looks until the gap is over.
+    /// Notes that a sender offered a datagram at this moment. Only a node with a gap calls it.
     pub(crate) fn note_offer_at(&mut self, now: u64)
         ensures { self.new ≡ with_offer_at self.old now }
     {
@@ -84,14 +84,14 @@ impl Pace {
         self.busy = true;
     }
 
-    /// Notes that a datagram was offered or taken. It asks for no moment, so a node without a gap needs no clock for it.
+    /// Notes that a datagram was taken, or offered by a node without a gap.
     pub(crate) fn note_busy(&mut self)
         ensures { self.new ≡ made_busy self.old }
     {
         self.busy = true;
     }
 
-    /// Notes the answer, at this moment, that nothing is there. The next [`pause`](Pace::pause) is a sleep if nothing comes between.
+    /// Notes the answer, at this moment, that nothing is there.
     pub(crate) fn note_empty(&mut self, now: u64)
         ensures { self.new ≡ found_empty self.old now }
     {
@@ -102,8 +102,8 @@ impl Pace {
         self.busy = false;
     }
 
-    /// Returns what to do after a look that found nothing. A sender that offered looks until its gap is over, a node that took or offered something
-    /// answers, and any other sleeps.
+    /// Returns what to do after a look that found nothing: look if [`offered`](Pace::offered) is set, answer if only [`busy`](Pace::busy)
+    /// is, and else sleep.
     pub(crate) fn pause(&self) -> Pause
         ensures { result ≡ pause_of self.now }
     {

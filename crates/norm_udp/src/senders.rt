@@ -1,4 +1,4 @@
-//! Threads that send for a node, each from a lane of its own: [`Senders`]. `norm_host` starts them, and `UdpFabric` posts to them.
+//! Threads that send for a node, each from a lane of its own: [`Senders`].
 
 ghost use Rattle.std.specs.Prelude.{◌≡◌, ◌≤◌, true, length, IfErr};
 ghost use Rattle.norm_base.specs.Sizes.{datagram_room};
@@ -16,10 +16,10 @@ use std::thread::Threads;
 use std::time::Clock;
 
 /// One sending thread for this many processors.
-// Our own choice: half of the processors are left for the node and for other processes of this machine.
+// Our own choice: at least half of the processors are left for the node and for other processes of this machine.
 const PROCESSORS_EACH: usize = 2;
 
-/// A machine with fewer processors has no sending thread.
+/// With fewer processors there is no sending thread.
 // Our own choice: with fewer, a thread that sends may take the processor that the node would use itself.
 const LEAST_PROCESSORS: usize = 4;
 
@@ -27,8 +27,8 @@ const LEAST_PROCESSORS: usize = 4;
 // Our own choice: a hub has at most 16 receivers to share out among them.
 const MOST_THREADS: usize = 4;
 
-/// Does what was posted: takes the new way, or sends the datagram. Frees the slot, or keeps it with the error for a call to report. Returns the way
-/// from then on.
+/// Does what was posted: takes the new way, or sends the datagram. Frees the slot, or keeps it with the error if the send failed and no
+/// earlier failure is kept. Returns the way from then on.
 fn follow<R: Wait>(rt: &R, lane: &Lane, way: Way, posted: Box<Posted>) -> Way {
     let mut posted = posted;
     if let Some(other) = posted.way.take() {
@@ -63,7 +63,7 @@ fn serve<R: Wait + Clock>(rt: &R, lane: &Lane) {
     }
 }
 
-/// Returns how many sending threads to start: one for two processors, at most 4. 0 below four processors, or if the number is unknown.
+/// Returns how many sending threads [`Senders::start`] starts.
 fn threads_here<R: Threads>(rt: &R) -> usize {
     let processors = match thread::available_parallelism(rt) {
         Ok(number) => number.get(),
@@ -75,10 +75,10 @@ fn threads_here<R: Threads>(rt: &R) -> usize {
     (processors / PROCESSORS_EACH).min(MOST_THREADS)
 }
 
-/// Threads that send for a hub or a sender alone, and the lane of each. Give them to [`send_by`](crate::UdpFabric::send_by). After this is dropped,
-/// each thread sends what was offered, and ends.
-// Threads stand behind the network and not in the node, because the call that sends is most of what a hub does. The node stays one thread, so no
-// clause of it speaks of others: to the node, a thread that sends later is a network that delays.
+/// Threads that send for a hub or a sender alone, and the lane of each. Give them to [`send_by`](crate::UdpFabric::send_by). After this is
+/// dropped, each thread sends what was offered, and ends.
+// Threads stand behind the network and not in the node, because the call that sends is most of what a hub does. The node stays one thread,
+// so no clause of it speaks of others: to the node, a thread that sends later is a network that delays.
 pub struct Senders(Vec<Arc<Lane>>);
 
 impl Drop for Senders {
@@ -91,16 +91,17 @@ impl Drop for Senders {
 }
 
 impl Senders {
-    /// Returns no threads: each node sends by itself. It takes no memory.
+    /// Returns no threads: each node sends by itself.
     pub fn none(alloc: Global) -> Senders {
         Senders(Vec::new(alloc))
     }
 
-    /// Starts one for each two processors of this machine, four at most, and none if it has fewer than four processors.
+    /// Starts one for each two processors that the process may use, four at most. None below four processors, or if their number is
+    /// unknown.
     ///
     /// # Errors
     ///
-    /// `Memory` if memory runs out or a thread cannot be made. Those that were started before then end.
+    /// `Memory` if memory runs out or a thread cannot be made. Those already started end.
     pub fn start<R: Threads + Wait + Clock + Copy + Send + Drop + 'static>(
         alloc: Global,
         rt: R,
@@ -112,7 +113,7 @@ impl Senders {
         Ok(senders)
     }
 
-    /// Starts one more. If it cannot be made, its lane stays here: drop all of them.
+    /// Starts one more. If the thread cannot be made, its lane stays here: drop all of them.
     fn add<R: Threads + Wait + Clock + Copy + Send + Drop + 'static>(
         &mut self,
         alloc: Global,
@@ -142,7 +143,8 @@ impl Senders {
         }
     }
 
-    /// Has the first `threads` threads send a member's datagram, each its own way. A thread whose lane has no free slot for too long loses it.
+    /// Has the first `threads` threads send a member's datagram, each its own way. A thread whose lane has no free slot for too long loses
+    /// it.
     pub(crate) fn post<R: Wait + Clock>(&self, rt: &R, threads: usize, from: NodeId, bytes: &[u8])
         requires { length bytes.now ≤ datagram_room }
     {
@@ -151,7 +153,7 @@ impl Senders {
         }
     }
 
-    /// Takes a failure of a thread to send that no call reported yet, and leaves those of other threads for the next calls.
+    /// Takes a failure that is kept, of one thread, and leaves those of others for the next calls.
     ///
     /// # Errors
     ///
@@ -167,7 +169,8 @@ impl Senders {
         Ok(())
     }
 
-    /// Waits until all that was offered is sent, for some seconds at most for each thread. Returns why a thread could not send, if no call reported it.
+    /// Waits until all that was posted is sent, for some seconds at most for each thread. Returns why a thread could not send, if a failure
+    /// is kept.
     pub(crate) fn drain<R: Wait + Clock>(&self, rt: &R) -> Option<SocketCause>
         ensures { tells_sending result ≡ true }
     {

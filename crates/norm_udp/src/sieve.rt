@@ -1,4 +1,4 @@
-//! What a receiver's network passes over. `fabric` asks a [`Sieve`] of each datagram, and `norm_watch` reads the outcome through [`PassesOver`].
+//! What a receiver's network passes over: a [`Sieve`] decides, and [`PassesOver`] gives the outcome to `norm_watch`.
 
 ghost use Rattle.std.specs.Prelude.{◌≡◌, Some, None};
 ghost use Rattle.norm_base.specs.Faults.{one_more, counted};
@@ -11,28 +11,26 @@ use norm_base::{InstanceId, Local, Profile};
 
 /// A network that may pass over datagrams, and reports it for people.
 pub trait PassesOver {
-    /// Returns how many datagrams were passed over since the last start for the profile of their sender. Those that are too long or of no member are
-    /// not counted.
+    /// Returns how many datagrams of this session were passed over because their sender's instance did not fit.
     fn passed_over(&self) -> u64;
 
-    /// Returns what did not fit at the first of them. It stays after a later datagram fits. `None` if none was passed over.
+    /// Returns what did not fit at the first of them. It stays after a later datagram fits.
     fn misfit(&self) -> Option<Misfit>;
 }
 
-/// What a receiver alone passes over. If transmission information of its sender does not fit its profile, all INFO, DATA and commands of that instance
-/// are passed over. Otherwise the receiver would take no object of it, and ask for each again and again. This ends as soon as INFO or DATA of the
-/// instance fits. So a forged datagram cuts the sender off only until then. A sender that only flushes sends neither: its receiver stays cut off until
-/// there is something new, or a repair for another receiver.
+/// What a receiver alone passes over. If transmission information of its sender does not fit its profile, all INFO, DATA and commands of
+/// that instance are passed over, until INFO or DATA of the instance fits, or that of another instance does not. So a forged datagram cuts
+/// the sender off until then. A sender that only flushes sends neither.
 // In the network and not in the rules: a network may lose anything, so no clause above it changes.
 #[derive(Drop)]
 pub(crate) struct Sieve {
     /// The receiver's profile. `None` at any other node, which passes nothing over.
     pub profile: Option<Profile>,
-    /// The instance that is cut off. One at a time: a misfit of another takes its place.
+    /// The instance that is cut off, if one is.
     pub cut: Option<InstanceId>,
-    /// Commands that were passed over count too.
+    /// How many datagrams were passed over, commands too.
     pub count: u64,
-    /// The first that did not fit. It stays after a later one fits.
+    /// The first that did not fit.
     pub misfit: Option<Misfit>,
 }
 
@@ -62,20 +60,20 @@ fn is_in(cut: &Option<InstanceId>, instance: InstanceId) -> bool
     }
 }
 
-/// Returns which instance is cut off after transmission information of this one: this one if it does not fit, and no longer this one if it fits.
+/// Returns which instance is cut off after transmission information of this one: this one if it does not fit, and no longer this one if it
+/// fits.
 fn cut_by(is_fit: bool, cut: Option<InstanceId>, instance: InstanceId) -> Option<InstanceId>
     ensures { result ≡ cut_by is_fit cut instance }
 {
-    // From the first misfit on all of the instance is passed over, until INFO or DATA of it fits. Without that a receiver would ask for each object
-    // anew in each round.
+    // All of the instance, and not only what does not fit: a receiver would otherwise ask for that anew in each round.
     if !is_fit {
         return Some(instance);
     }
     if is_in(&cut, instance) { None } else { cut }
 }
 
-/// Returns which instance is cut off after INFO, DATA or a command of the profile's sender. Without transmission information, as in each command,
-/// nothing changes.
+/// Returns which instance is cut off after INFO, DATA or a command of the profile's sender. One without transmission information changes
+/// nothing.
 fn cut_after(profile: &Profile, cut: Option<InstanceId>, heard: &Heard) -> Option<InstanceId>
     ensures { result ≡ cut_after profile.now cut heard.now }
 {
@@ -130,7 +128,7 @@ impl Sieve {
         }
     }
 
-    /// Whether INFO, DATA or a command is passed over. If so, counts it. It may itself begin what it is passed over for, or end it.
+    /// Whether INFO, DATA or a command is passed over. If so, counts it. It may itself cut its instance off, or end that.
     fn cuts_off(&mut self, profile: &Profile, heard: &Heard) -> bool
         ensures profile { self.new.profile ≡ self.old.profile }
         ensures cut { self.new.cut ≡ cut_then (Some profile.now) self.old.cut (Some heard.now) }
@@ -150,7 +148,7 @@ impl Sieve {
         true
     }
 
-    /// Whether a datagram is passed over. If so, counts it. Reads the whole message, except at a node that passes nothing over.
+    /// Whether a datagram is passed over. If so, counts it.
     pub(crate) fn passes_over(&mut self, bytes: &[u8]) -> bool
         ensures profile { self.new.profile ≡ self.old.profile }
         ensures cut { self.new.cut ≡ cut_then self.old.profile self.old.cut (heard_in bytes.now) }

@@ -1,4 +1,4 @@
-//! Calls of single sockets. None of them ever waits. `member`, `way` and `sockets` make them.
+//! Calls of single sockets. None of them waits.
 
 ghost use Rattle.std.specs.Prelude.{◌≡◌, [], true, false, IfOk, IfErr, IfNone, OnErr, if◌then◌else◌};
 ghost use Rattle.norm_udp.specs.Failures.{is_sending};
@@ -16,14 +16,15 @@ use std::os::fd::AsRawFd;
 pub(crate) const BUFFER: usize = DATAGRAM_ROOM + 1;
 
 /// Octets of the receive buffer that [`bind`] asks for.
-// Our own choice, 4 MiB: some 2,800 datagrams of full size, so that little is lost while a turn hands up or prints. The system may give less.
+// Our own choice, 4 MiB: some 2,800 datagrams of full size, so that little is lost while a turn hands up or prints. The system may give
+// less.
 const RECEIVE_BUFFER: i32 = 4 << 20;
 
 /// The most datagrams in a row that a loop passes over before it answers that nothing is there.
 // Our own choice. Strangers may send without end, and a node that is asked for a datagram has to come back to its turn.
 pub(crate) const MOST_PASSED: u32 = 1_024;
 
-/// Asks for a large receive buffer. If the system gives less, the socket goes on with that.
+/// Asks for a large receive buffer.
 fn ask_for_room(socket: &UdpSocket) {
     let mut value = [0u8; 16];
     value[..4].copy_from_slice(&RECEIVE_BUFFER.to_ne_bytes());
@@ -46,7 +47,7 @@ fn at<R: Net>(rt: &R, address: SocketAddr) -> Result<UdpSocket, SocketCause> {
     }
 }
 
-/// Opens a socket at this address, and asks for a receive buffer of [`RECEIVE_BUFFER`] octets, which the system need not give.
+/// Opens a socket at this address, and asks for a receive buffer of [`RECEIVE_BUFFER`] octets.
 pub(crate) fn bind<R: Net>(rt: &R, address: SocketAddr) -> Result<UdpSocket, SocketCause> {
     let socket = at(rt, address)?;
     ask_for_room(&socket);
@@ -66,7 +67,7 @@ pub(crate) fn connect<R: Net>(
     }
 }
 
-/// Returns the outcome of sending a datagram to an address. It is no error if the datagram was lost.
+/// Returns the outcome of a send to an address. It is no error if the datagram was lost.
 fn sent(done: io::Result<usize>, address: SocketAddr) -> Result<(), SocketCause>
     ensures { IfErr result (λ cause. is_sending cause ≡ true) }
 {
@@ -119,8 +120,8 @@ fn nothing_there(error: io::Error, own: SocketAddr) -> Result<(), SocketCause> {
     })
 }
 
-/// Receives the next datagram, from wherever it came, and passes over any that is too long. `false` if nothing is there, or after [`MOST_PASSED`] that
-/// are too long.
+/// Receives the next datagram, from wherever it came. `false` if nothing is there, if the system reports a loss, or after [`MOST_PASSED`]
+/// that are too long.
 pub(crate) fn receive(
     socket: &UdpSocket,
     own: SocketAddr,
@@ -147,8 +148,7 @@ pub(crate) fn receive(
     Ok(false)
 }
 
-/// Receives the next datagram, and passes over any that is too long. Returns the address that it came from, which costs more than [`receive`]. `None`
-/// if nothing is there, or after [`MOST_PASSED`] that are too long.
+/// As [`receive`]. Returns the address that the datagram came from, and `None` for `false`.
 pub(crate) fn receive_from(
     socket: &UdpSocket,
     own: SocketAddr,

@@ -1,4 +1,4 @@
-//! The sockets of a session: [`Open`]. Which there are depends on the members in this process. `fabric` opens them with [`open_for`].
+//! The sockets of a session: [`Open`]. Which there are depends on the members in this process.
 
 ghost use Rattle.std.specs.Prelude.{◌≡◌, ◌≤◌, ◌+◌, ◌<◌, ◌==◌, ◌++◌, ◌∷◌, [], true, length, if◌then◌else◌, IfOk, IfErr, IfSome, IfNone, OnOk, OnErr};
 ghost use Rattle.norm_base.specs.Members.{receivers_of, members_of};
@@ -21,7 +21,7 @@ use std::net::{Net, SocketAddr, UdpSocket};
 use std::sync::Wait;
 use std::time::Clock;
 
-/// Why [`open_for`] failed. `fabric` counts `Socket` as a failed call, and not `Memory`.
+/// Why sockets could not be opened.
 #[derive(Debug, Drop)]
 pub(crate) enum OpenFault {
     Memory,
@@ -46,25 +46,25 @@ impl From<SocketCause> for OpenFault {
     }
 }
 
-/// The open sockets of the members in this process. [`look`](Open::look) never waits. [`send`](Open::send) waits some ten milliseconds at most for each
-/// lane that is full.
+/// The open sockets of the members in this process, or of the hub. [`look`](Open::look) does not wait. [`send`](Open::send) waits some ten
+/// milliseconds for each lane that stays full.
 #[derive(Debug, Drop)]
 pub(crate) enum Open {
     /// None: no session was started, the last start failed, or the session was closed.
     Nothing,
-    /// Each member's own, the sender's first. `place` is the index of the one to look at, until it is empty.
+    /// Each member's own, the sender's first. `place` is the index of the one with which a look begins.
     All {
         profile: Profile,
         members: Vec<Member>,
         place: usize,
     },
-    /// One member's own, which sends to the hub. `threads` is 1 if a thread sends for it, as one may for a sender, and else 0.
+    /// One member's own, which sends to the hub. `threads` is 1 if a thread sends for it, else 0.
     One {
         member: Member,
         hub: SocketAddr,
         threads: usize,
     },
-    /// The hub's own, and one that sends to each receiver. If `threads` is not 0, this many threads have the latter, and `receivers` is empty.
+    /// The hub's own, and one that sends to each receiver. If `threads` is not 0, this many threads have these, and `receivers` is empty.
     Hub {
         profile: Profile,
         address: SocketAddr,
@@ -74,7 +74,7 @@ pub(crate) enum Open {
     },
 }
 
-/// Opens each member's own socket. If one fails, those before it are closed again.
+/// Opens each member's own socket, the sender's first.
 #[tactic(auto, using(crate::proofs::WayLemmas::members_more))]
 fn open_members<R: Net>(rt: &R, alloc: Global, profile: &Profile) -> Result<Vec<Member>, OpenFault>
     ensures { IfOk result (λ members. nodes_of members.items ≡ members_of profile.now) }
@@ -97,7 +97,7 @@ fn open_all<R: Net>(rt: &R, alloc: Global, profile: &Profile) -> Result<Open, Op
     })
 }
 
-/// Has a thread send for a sender alone, if there is one. Returns how many do: 1, or 0 if the node sends by itself.
+/// Has a thread send for a sender alone, if there is one. Returns how many do.
 fn share_sending<R: Wait + Clock>(
     rt: &R,
     senders: &Senders,
@@ -114,7 +114,7 @@ fn share_sending<R: Wait + Clock>(
     }
 }
 
-/// Opens one member's socket. Fails if the node is no member of the profile, since it then has no address.
+/// Opens one member's socket. Fails if the node is no member of the profile.
 fn open_one<R: Net + Wait + Clock>(
     rt: &R,
     senders: &Senders,
@@ -141,7 +141,7 @@ fn open_one<R: Net + Wait + Clock>(
     })
 }
 
-/// Opens a socket to a receiver for [`open_ways`], and does nothing if the receiver belongs to another thread.
+/// Opens a socket to a receiver for [`open_ways`]. Does nothing if the receiver is on another way.
 #[tactic(auto, using(crate::proofs::WayLemmas::nodes_more))]
 fn add_way<R: Net>(
     rt: &R,
@@ -164,7 +164,7 @@ fn add_way<R: Net>(
     Ok(())
 }
 
-/// Opens the sockets of one of `apart` threads that share the receivers: to each whose index is `from`, `from + apart`, and so on.
+/// Opens a socket to each receiver whose index is `from`, `from + apart`, and so on. `from` is less than `apart`.
 #[tactic(auto, using(crate::proofs::WayLemmas::way_more))]
 fn open_ways<R: Net>(
     rt: &R,
@@ -183,7 +183,7 @@ fn open_ways<R: Net>(
     Ok(receivers)
 }
 
-/// Opens the sockets through which the node of a hub sends itself: one to each receiver if no thread sends for it, and none otherwise.
+/// Opens the sockets through which a hub itself sends to receivers: one to each, or none if threads do.
 #[tactic(auto, using(crate::proofs::WayLemmas::single))]
 fn open_own_ways<R: Net>(
     rt: &R,
@@ -216,15 +216,15 @@ fn tell_way<R: Wait + Clock>(
         receivers,
     };
     if !senders.tell(rt, place, way) {
-        // The lane had no free slot for some ten milliseconds, so its thread does not know where to send. Reported as `Memory`: a lane is room for
-        // datagrams.
+        // The lane had no free slot for some ten milliseconds, so its thread does not know where to send. `Memory`, since a lane is room
+        // for datagrams.
         return Err(OpenFault::Memory);
     }
     Ok(())
 }
 
-/// Opens a socket to each receiver of the thread at this index, and has it send there. `threads` is how many share the receivers. `Memory` also if the
-/// lane of the thread stays full.
+/// Opens a socket to each receiver of the thread at this index, and has it send there. `threads` is how many share the receivers. `Memory`
+/// also if the lane of the thread stays full.
 fn share_way<R: Net + Wait + Clock>(
     rt: &R,
     alloc: Global,
@@ -239,7 +239,7 @@ fn share_way<R: Net + Wait + Clock>(
     tell_way(rt, senders, profile, place, threads, receivers)
 }
 
-/// Shares the receivers out among the threads. Returns how many threads send: all, unless there are fewer receivers.
+/// Shares the receivers out among the threads. Returns how many threads send.
 fn share_copying<R: Net + Wait + Clock>(
     rt: &R,
     alloc: Global,
@@ -280,7 +280,8 @@ fn open_hub<R: Net + Wait + Clock>(
     })
 }
 
-/// Opens the sockets, and tells the threads of a hub or a sender to whom they send. If this fails, a thread may have been told already.
+/// Opens the sockets, and tells the threads of a hub or a sender alone to whom they send. If this fails, a thread may have been told
+/// already.
 pub(crate) fn open_for<R: Net + Wait + Clock>(
     rt: &R,
     alloc: Global,
@@ -309,7 +310,7 @@ fn send_copy(
     send_to(socket, bytes, address_of(profile, to))
 }
 
-/// Sends a member's datagram from its own socket to each other member, and stops at the first failure. Returns how many copies it sent, lost ones too.
+/// Sends a member's datagram from its own socket to each other member, and stops at the first failure. A lost copy counts as sent.
 #[tactic(auto, using(crate::proofs::WayLemmas::copies_yes, crate::proofs::WayLemmas::copies_no))]
 fn send_from(
     profile: &Profile,
@@ -331,7 +332,7 @@ fn send_from(
     Ok(sent)
 }
 
-/// Sends a member's datagram to each other member, in a process that has all of them. Sends nothing if `from` is none of them.
+/// Sends a member's datagram to each other member. Sends nothing if `from` is none of them.
 fn send_among(
     profile: &Profile,
     members: &[Member],
@@ -348,7 +349,7 @@ fn send_among(
     Ok(())
 }
 
-/// Sends a receiver's datagram from the hub to the sender, and nothing if it is the sender's own or no member's. Returns how many copies it sent.
+/// Sends a receiver's datagram from the hub to the sender, and nothing if it is the sender's own or no member's.
 fn send_back(
     profile: &Profile,
     hub: &UdpSocket,
@@ -366,7 +367,7 @@ fn send_back(
     Ok(1)
 }
 
-/// Looks at each member's socket once, from index `place` on, until one has a datagram. `place` stays there for the next look.
+/// Looks at each member's socket once, from index `place` on, until one has a datagram. The next look begins there.
 fn look_among(
     members: &[Member],
     place: &mut usize,
@@ -383,14 +384,16 @@ fn look_among(
                 return Ok(Some(member.located));
             }
         }
-        // It goes on only from a member that has nothing. So while datagrams wait at one, each costs one call of the system.
+        // It goes on only from a member at which `receive` found none. So a datagram mostly costs one call of the system while others
+        // wait there.
         let next = place.saturating_add(1);
         *place = if next < members.len() { next } else { 0 };
     }
     Ok(None)
 }
 
-/// Receives the next datagram of a member at the hub. `None` if [`receive_from`] returns it, or after [`MOST_PASSED`] from addresses of no member.
+/// Receives the next datagram of a member at the hub. `None` if [`receive_from`] returns it, or after [`MOST_PASSED`] from addresses of no
+/// member.
 fn receive_from_member(
     profile: &Profile,
     socket: &UdpSocket,
@@ -416,8 +419,8 @@ fn receive_from_member(
 }
 
 impl Open {
-    /// Sends a member's datagram to the other members; from a member alone, to the hub. It goes nowhere if nothing is open. If a thread sends it, a
-    /// failure shows only at a later [`check`](Senders::check), and a lane that stays full loses it.
+    /// Sends a member's datagram to the other members; from a member alone, to the hub. It goes nowhere if nothing is open. If a thread
+    /// sends it, a failure does not show here, and a lane that stays full loses it.
     pub(crate) fn send<R: Wait + Clock>(
         &self,
         rt: &R,
@@ -461,8 +464,8 @@ impl Open {
         }
     }
 
-    /// Takes the next datagram, and returns the member that it is for; at the hub, the one that sent it. `None` if none is there, or after
-    /// [`MOST_PASSED`] that are too long or, at the hub, of no member.
+    /// Takes the next datagram, and returns the member that it is for; at the hub, the one that sent it. `None` if it found none. One may
+    /// still be there after a loss that the system reports, or [`MOST_PASSED`] that are too long or, at the hub, of no member.
     pub(crate) fn look(
         &mut self,
         buffer: &mut [u8],

@@ -1,4 +1,4 @@
-//! The way of a sending thread: to whom it sends what lies in its lane. `sockets` makes it.
+//! The way of a sending thread: to whom it sends what lies in its lane.
 
 ghost use Rattle.std.specs.Prelude.{◌≡◌, true, IfOk, IfErr};
 ghost use Rattle.norm_udp.specs.Failures.{is_sending};
@@ -28,8 +28,7 @@ pub(crate) enum Way {
     },
 }
 
-/// Sends a member's datagram to each of these receivers that gets a copy, and stops at the first failure. Returns how many copies it sent, lost ones
-/// too.
+/// Sends a member's datagram to each of these receivers that gets a copy, and stops at the first failure. A lost copy counts as sent.
 #[tactic(auto, using(crate::proofs::WayLemmas::copies_yes, crate::proofs::WayLemmas::copies_no))]
 pub(crate) fn send_copies(
     profile: &Profile,
@@ -51,7 +50,7 @@ pub(crate) fn send_copies(
 }
 
 impl Way {
-    /// Sends a member's datagram to all that the way names, and stops at the first failure. The hub gets whatever `from` offers.
+    /// Sends a member's datagram to the way's hub, or to each receiver that gets a copy, and stops at the first failure.
     pub(crate) fn send(&self, from: NodeId, bytes: &[u8]) -> Result<(), SocketCause>
         ensures { IfErr result (λ cause. is_sending cause ≡ true) }
     {

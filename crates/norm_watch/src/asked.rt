@@ -1,10 +1,10 @@
-//! What to print on standard error, by the environment of the process: [`asked_in`]. `normd` calls it once.
+//! Whether to print progress and each datagram on standard error, by the environment and by which streams are terminals: [`asked_in`].
 
 use crate::saying::Says;
 use std::io::IsTerminal;
 use std::rt::Env;
 
-/// Whether a variable of the environment has this value, octet for octet. One that is not set has none.
+/// Whether a variable of the environment is set to this value.
 fn has_value(rt: &impl Env, name: &str, value: &[u8]) -> bool {
     // No value that is asked for is longer.
     let mut buf = [0u8; 16];
@@ -14,8 +14,8 @@ fn has_value(rt: &impl Env, name: &str, value: &[u8]) -> bool {
     }
 }
 
-/// Returns what to print. Progress: if standard error is a terminal, unless the environment has `NORMD_PROGRESS=0`; if it is none, only with
-/// `NORMD_PROGRESS=1`. Each datagram: with `NORMD_LOG=trace`. The line of progress is wiped before each line of output if both streams are terminals.
+/// Returns what to print. Progress: if standard error is a terminal, unless the environment has `NORMD_PROGRESS=0`; if it is none, only
+/// with `NORMD_PROGRESS=1`. Each datagram: with `NORMD_LOG=trace`. Warnings do not depend on it.
 pub fn asked_in(rt: &HostRuntime) -> Says {
     let is_seen = rt.stderr().is_terminal();
     Says {

@@ -1,4 +1,4 @@
-//! A network that is watched: [`WatchedFabric`]. `normd` puts it around its network.
+//! A network that is watched: [`WatchedFabric`].
 
 ghost use Rattle.std.specs.Prelude.{◌≡◌};
 ghost use Rattle.norm_watch.specs.Spending.{is_ended_by_turns, spent_by};
@@ -21,8 +21,8 @@ use std::time::{Clock, Duration};
 // Our own choice: as often as a person can read it.
 const PAUSE: u64 = 1;
 
-/// The clock is read at one take in this many. If nothing comes, each take sleeps at most a millisecond, so that all of them take well under a second.
-// Our own choice. While datagrams come a read of the clock at each would show in the rate.
+/// At one take in this many the clock is read for progress and for silence.
+// Our own choice. While datagrams come, a read of the clock at each would show in the rate.
 const TAKES: u32 = 64;
 
 #[derive(Clone, Copy)]
@@ -44,11 +44,11 @@ struct Node {
     turns: u32,
 }
 
-/// What to say after all turns of a profile were made.
+/// What to say after all turns were made.
 #[derive(Clone, Copy)]
 struct Spent {
     turns: u32,
-    /// Whether a datagram came in the last ten seconds.
+    /// Whether datagrams still came, by [`Silence::is_broken`].
     is_busy: bool,
 }
 
@@ -63,7 +63,7 @@ impl fmt::Display for Spent {
     }
 }
 
-/// Whether only its turns end a node of this role, if it ends well. A sender ends when its work is done.
+/// Whether only its turns end a node of this role, if it ends well.
 fn is_ended_by_turns(role: Role) -> bool
     ensures { result ≡ is_ended_by_turns role }
 {
@@ -102,7 +102,7 @@ fn role_of(profile: &Profile, local: &Local) -> Option<Role> {
     }
 }
 
-/// Returns how far a node's port is above the hub's: 0 for the hub, 1 for the sender, and then the receivers by their ids.
+/// Returns how far a node's port is above the hub's: 1 for the sender, and then the receivers by their ids.
 fn place_of(profile: &Profile, local: &Local) -> u32 {
     match local {
         Local::One(node) => node.number().wrapping_sub(profile.sender).wrapping_add(1),
@@ -145,14 +145,13 @@ fn is_repair(datagram: &[u8]) -> bool {
     if datagram.len() <= FLAGS_AT {
         return false;
     }
-    // By two octets and not by a reading of the message: it is asked of each datagram. The first has the version, and then the type.
+    // By two octets and not by a reading of the message, because it is asked of each datagram.
     let kind = MessageType::of(datagram[0] % 16);
     matches!(kind, Some(MessageType::Info | MessageType::Data))
         && has_flag(datagram[FLAGS_AT], REPAIR)
 }
 
-/// Whether a node counts repairs as it takes them. A member alone does: a receiver offers none, and a sender takes none. The hub offers each that it
-/// takes, and in a process with all members each is offered before it is taken.
+/// Whether repairs are counted as they are taken too, not only as they are offered.
 fn counts_takes(local: &Local) -> bool {
     match local {
         Local::One(_) => true,
@@ -160,10 +159,8 @@ fn counts_takes(local: &Local) -> bool {
     }
 }
 
-/// A network that a person watches. It passes each call on, and says on standard error what it sees. After the program ended well, call
-/// [`say_spent`](WatchedFabric::say_spent).
-// Around the outside, and not in the objects of norm_host: a network of any kind is watched as it stands, and each clause of the trait is passed
-// on once for all of them.
+/// A network that a person watches. It passes each call on, and says on standard error what it sees.
+// Around the outside, and not in the objects of norm_host: a network of any kind is watched as it stands.
 #[derive(Drop)]
 pub struct WatchedFabric<'a, R, F> {
     rt: R,
@@ -172,11 +169,11 @@ pub struct WatchedFabric<'a, R, F> {
     tally: &'a Tally,
     /// The node that this process is, if it is one alone over sockets.
     node: Option<Node>,
-    /// What a receiver's rules pass over, if this is one receiver alone.
+    /// What a receiver's rules pass over, if this is a receiver alone.
     strays: Option<Strays>,
     /// How many datagrams the network itself had passed over at the last look.
     passed: u64,
-    /// Whether repairs are counted as they are taken too, and not only as they are offered.
+    /// Whether repairs are counted as they are taken too.
     counts_takes: bool,
     /// How many more takes go by before the clock is read.
     takes_left: u32,
@@ -186,7 +183,8 @@ pub struct WatchedFabric<'a, R, F> {
 }
 
 impl<'a, R: Eprint + Clock, F: Fabric + PassesOver> WatchedFabric<'a, R, F> {
-    /// Returns a network around this one. `says` tells what to print on standard error, and `tally` counts the repairs.
+    /// Returns a network around this one. `says` tells whether to print the line of progress and each datagram. Warnings do not depend on
+    /// it.
     pub fn of(rt: R, fabric: F, says: Says, tally: &'a Tally) -> WatchedFabric<'a, R, F>
         ensures { watched_by result ≡ fabric }
     {
@@ -210,13 +208,13 @@ impl<'a, R: Eprint + Clock, F: Fabric + PassesOver> WatchedFabric<'a, R, F> {
         &self.fabric
     }
 
-    /// Says something, on a line of its own, and wipes the line of progress first. If standard error fails, it goes unsaid.
+    /// Says something on a line of its own. If standard error fails, it goes unsaid.
     fn say<D: fmt::Display>(&self, what: &D) {
         wipe(&self.rt, self.tally);
         let _ = eprintln!(self.rt; "{what}");
     }
 
-    /// Says that nothing came to a node, for how long, and, except of the hub, at which address the hub is to be.
+    /// Says that nothing came to a node, and if it is a member, at which address the hub is to be.
     fn say_unheard(&self, node: &Node, how_long: &str) {
         let port = node.port;
         wipe(&self.rt, self.tally);
@@ -227,8 +225,8 @@ impl<'a, R: Eprint + Clock, F: Fabric + PassesOver> WatchedFabric<'a, R, F> {
         }
     }
 
-    /// Says that all turns were made, if this is a receiver or the hub, alone over sockets. Call it only if the program ended well, and after
-    /// [`end_progress`](crate::end_progress): it does not wipe the line of progress.
+    /// Says that all turns were made, if this is a receiver or the hub, alone over sockets. Call it only if the program ended well, and
+    /// after [`end_progress`](crate::end_progress).
     pub fn say_spent(&self) {
         let is_busy = self.silence.is_broken(moment(&self.rt));
         if let Some(spent) = spent_by(&self.node, is_busy) {
@@ -236,8 +234,7 @@ impl<'a, R: Eprint + Clock, F: Fabric + PassesOver> WatchedFabric<'a, R, F> {
         }
     }
 
-    /// Begins to watch a node, after a start that was `Ok`. Forgets what the start before saw. Warns if a member alone over sockets has a `step` that
-    /// is not 0.
+    /// Begins to watch a node, after a start that was `Ok`. Warns if a member alone over sockets has a `step` that is not 0.
     fn begin(&mut self, profile: &Profile, local: &Local)
         ensures { watched_by self.new ≡ watched_by self.old }
     {
@@ -256,7 +253,7 @@ impl<'a, R: Eprint + Clock, F: Fabric + PassesOver> WatchedFabric<'a, R, F> {
         }
     }
 
-    /// Says on a line what became of a datagram, for which node, and its octets in hexadecimal, if each is to be said.
+    /// Says on a line what became of a datagram, its node and its octets, if each is to be said.
     fn trace(&self, what: &str, node: NodeId, octets: &[u8]) {
         if self.says.trace {
             let node = node.number();
@@ -282,7 +279,7 @@ impl<'a, R: Eprint + Clock, F: Fabric + PassesOver> WatchedFabric<'a, R, F> {
         }
     }
 
-    /// Notes what a receiver took. Says what its rules pass over for good. Decodes only what is not of the sender and instance that it follows.
+    /// Notes what a receiver alone took. Says what [`Strays`] reports of it.
     fn hear(&mut self, octets: &[u8])
         ensures { watched_by self.new ≡ watched_by self.old }
     {
@@ -298,7 +295,8 @@ impl<'a, R: Eprint + Clock, F: Fabric + PassesOver> WatchedFabric<'a, R, F> {
         }
     }
 
-    /// If the network itself passed over datagrams since the last look, notes that something came. The first time, says why they were passed over.
+    /// If the network itself passed over datagrams since the last look, notes that something came. The first time, says why they were
+    /// passed over.
     fn look_passed(&mut self)
         ensures { watched_by self.new ≡ watched_by self.old }
     {
@@ -324,7 +322,7 @@ impl<'a, R: Eprint + Clock, F: Fabric + PassesOver> WatchedFabric<'a, R, F> {
         }
     }
 
-    /// Reads the clock. Says so, once for each silence, if nothing came for ten seconds, and draws progress if it is due.
+    /// Reads the clock. Says so if nothing came for ten seconds, at most once for each silence, and draws progress if it is due.
     fn watch(&mut self, node: &Node)
         ensures { watched_by self.new ≡ watched_by self.old }
     {
@@ -335,8 +333,8 @@ impl<'a, R: Eprint + Clock, F: Fabric + PassesOver> WatchedFabric<'a, R, F> {
         self.draw(now);
     }
 
-    /// Notes whether a take gave something. Reads the clock at the first take, and then at one in [`TAKES`]. Does nothing if this process is no node
-    /// alone over sockets, which then draws no progress.
+    /// Call after a take that did not fail. `is_some` is whether it gave something. Does nothing if this process is no node alone over
+    /// sockets, which then draws no progress.
     fn took(&mut self, is_some: bool)
         ensures { watched_by self.new ≡ watched_by self.old }
     {
@@ -363,7 +361,7 @@ impl<R: Eprint + Clock, F: Fabric + PassesOver> Fabric for WatchedFabric<'_, R, 
     ghost fault_count = { λ w. F.fault_count (watched_by w) };
 
     fn start(&mut self, profile: &Profile, local: Local) -> Result<(), FabricFault> {
-        // The watched network first: of a start that failed nothing is to be said.
+        // The watched network first: nothing is said of a start that failed.
         self.fabric.start(profile, local)?;
         self.begin(profile, &local);
         Ok(())

@@ -1,9 +1,9 @@
-//! Which members are listed past what, and which watermarks are open, by what lines say: [`Listing`]. `WatchedSink` drives it.
+//! Which members are listed past what, and which watermarks are open, by what lines say: [`Listing`].
 
 use norm_base::NodeId;
 
 /// The most members and open watermarks of a session.
-// The key `receivers` goes up to 16, and as many watermarks are open at once. What is beyond is not counted.
+// The key `receivers` goes up to 16. What is beyond is not counted.
 const MOST: usize = 16;
 
 /// Returns a position in the transport order as one number, which rises with it.
@@ -25,8 +25,7 @@ const NONE: Placed = Placed {
     place: 0,
 };
 
-/// The members' listings and the open watermarks. The oldest watermark has the least number. Call a method for each
-/// `Notice` of its kind, in their order.
+/// The members' listings and the open watermarks. Call a method for each `Notice` of its kind, in their order.
 #[derive(Drop)]
 pub(crate) struct Listing {
     members: [Placed; MOST],
@@ -83,7 +82,7 @@ impl Listing {
         );
     }
 
-    /// Forgets a struck member's listing, so that it is not counted. Does nothing if it was listed past nothing.
+    /// Forgets a struck member's listing, if it has one.
     pub fn strike(&mut self, node: NodeId) {
         take_out(&mut self.members, node.number());
     }
@@ -93,7 +92,7 @@ impl Listing {
         take_out(&mut self.marks, mark);
     }
 
-    /// Begins a new instance, with nobody listed, and no watermark open.
+    /// Begins a new instance, with nobody listed and no watermark open.
     pub fn restart(&mut self) {
         *self = Listing::new();
     }

@@ -1,4 +1,4 @@
-//! Who learns that a sender goes on in another instance: [`Restarts`]. `normd` implements it, and `WatchedSink` calls it.
+//! Who learns that a sender goes on in another instance: [`Restarts`].
 
 use norm_base::InstanceId;
 

@@ -1,9 +1,9 @@
-//! What is printed on standard error: the line of progress and a datagram in hexadecimal. [`Says`] tells which of them are asked for.
+//! How the line of progress and octets in hexadecimal are printed on standard error. [`Says`] tells what is asked for.
 
 use crate::tally::Tally;
 use std::fmt;
 
-/// What to print on standard error. [`asked_in`](crate::asked_in) makes it from the environment.
+/// Whether to print the line of progress and each datagram on standard error. [`asked_in`](crate::asked_in) makes it.
 #[derive(Clone, Copy, Debug)]
 pub struct Says {
     /// At most once a second, how far a node alone over sockets is.
@@ -15,7 +15,7 @@ pub struct Says {
 }
 
 /// Goes to the beginning of the line, and wipes the line (ECMA-48, EL).
-// Wiped first, since the line before may have been longer.
+// The line before may have been longer.
 const BEGIN: &str = "\r\u{1b}[K";
 
 /// How far a node is, on one line that is drawn over the one before.
@@ -37,7 +37,7 @@ impl fmt::Display for Progress<'_> {
     }
 }
 
-/// Draws the line of progress over the one before, and notes for [`wipe`] that it stands there.
+/// Draws the line of progress over the one before.
 pub(crate) fn draw<R: Eprint>(rt: &R, tally: &Tally) {
     let progress = Progress { tally };
     // What cannot be said to a person is no fault of the node.
@@ -53,7 +53,7 @@ pub(crate) fn wipe<R: Eprint>(rt: &R, tally: &Tally) {
     }
 }
 
-/// Ends the line of progress, if one is drawn. Call it after the last call of the network and the sink, and before anything else is printed.
+/// Ends the line of progress, if one is drawn. Call it after the program ended, before anything else is printed.
 pub fn end_progress<R: Eprint>(rt: &R, tally: &Tally) {
     if tally.is_drawn.get() {
         let _ = eprintln!(rt;);
@@ -61,13 +61,13 @@ pub fn end_progress<R: Eprint>(rt: &R, tally: &Tally) {
     }
 }
 
-/// Octets in lower-case hexadecimal. Takes no memory.
+/// Octets in lower-case hexadecimal.
 #[derive(Drop)]
 pub(crate) struct Hex<'a> {
     pub octets: &'a [u8],
 }
 
-/// Returns the lower-case hexadecimal digit of four bits, or `?` for more, which no caller has.
+/// Returns the lower-case hexadecimal digit of four bits, or `?` for more.
 fn digit(bits: u8) -> char {
     match char::from_digit(u32::from(bits), 16) {
         Some(digit) => digit,

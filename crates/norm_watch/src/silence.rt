@@ -1,20 +1,20 @@
-//! Whether anything comes to a node: [`Silence`]. `WatchedFabric` drives it.
+//! Whether anything comes to a node: [`Silence`].
 
 use std::time::Duration;
 
 /// After this many seconds without a datagram it is said that nothing came.
-// Our own choice: far longer than the pause between two flushes, which is twice `grtt`: 20 milliseconds by default.
+// Our own choice: far longer than the usual pause between two flushes, which is twice `grtt`.
 const SILENCE: u64 = 10;
 
-/// When a node heard something last, and whether it was said that it hears nothing. The clock is not read at each datagram: call
-/// [`note`](Silence::note) for each datagram, and [`read`](Silence::read) after the clock was read.
+/// When a node heard something last, and whether it was said that it hears nothing. Call [`note`](Silence::note) for each datagram, and
+/// [`read`](Silence::read) from time to time.
 #[derive(Clone, Copy)]
 pub(crate) struct Silence {
-    /// Whether a datagram came since the clock was read.
+    /// Whether a datagram came after the last [`read`](Silence::read).
     has_heard: bool,
     /// Whether one ever came since the network started.
     ever: bool,
-    /// The first moment that was read after the last datagram came, or the one at which the network started.
+    /// The moment of the last [`read`](Silence::read) that found that a datagram came, or else the one at which the network started.
     heard: Duration,
     /// Whether it was said in this silence that nothing came.
     is_said: bool,
@@ -31,13 +31,14 @@ impl Silence {
         }
     }
 
-    /// Notes that a datagram came. The next [`read`](Silence::read) says when.
+    /// Notes that a datagram came.
     pub(crate) fn note(&mut self) {
         self.has_heard = true;
         self.ever = true;
     }
 
-    /// Notes that the clock was read. Returns whether to say now that nothing came for ten seconds, which is so once for each silence.
+    /// Notes the clock's moment. Returns whether to say now that nothing came for ten seconds: at most once for each silence, and not if
+    /// [`expire`](Silence::expire) was true in it.
     pub(crate) fn read(&mut self, now: Duration) -> bool {
         if self.has_heard {
             self.heard = now;
@@ -52,7 +53,8 @@ impl Silence {
         true
     }
 
-    /// Notes that a watermark expired. Returns whether to say now that nothing ever came: once at most, and not if a silence was said before.
+    /// Notes that a watermark expired. Returns whether to say now that nothing ever came: once at most, and not if [`read`](Silence::read)
+    /// was true before.
     pub(crate) fn expire(&mut self) -> bool {
         if self.ever || self.is_said {
             return false;
@@ -61,7 +63,7 @@ impl Silence {
         true
     }
 
-    /// Whether a datagram came in the last ten seconds, or since the clock was read.
+    /// Whether a datagram came after the last [`read`](Silence::read), or one in the ten seconds before `now` found that one came.
     pub(crate) fn is_broken(&self, now: Duration) -> bool {
         self.has_heard
             || (self.ever && now.saturating_sub(self.heard) < Duration::from_secs(SILENCE))

@@ -1,4 +1,4 @@
-//! A sink that is watched: [`WatchedSink`]. `normd` puts it around its output.
+//! A sink that is watched: [`WatchedSink`].
 
 ghost use Rattle.std.specs.Prelude.{◌≡◌};
 ghost use Rattle.norm_watch.specs.Watched.{watched_in};
@@ -9,8 +9,7 @@ use crate::saying::{Says, wipe};
 use crate::tally::Tally;
 use norm_base::{Failed, Notice, Sink};
 
-/// A sink that passes each line on, and counts what it says after it was written, if progress is printed. It reports a sender's restart after its
-/// line was written, which is before anything of the new instance is sent.
+/// A sink that passes each line on, and if progress is printed, counts what lines say. It also reports a sender's restarts.
 #[derive(Drop)]
 pub struct WatchedSink<'a, R, K, T> {
     rt: R,
@@ -22,7 +21,7 @@ pub struct WatchedSink<'a, R, K, T> {
 }
 
 impl<'a, R: Eprint, K: Sink, T: Restarts> WatchedSink<'a, R, K, T> {
-    /// Returns a sink around this one. It counts in `tally` if progress is printed, and reports restarts to `restarts`.
+    /// Returns a sink around this one. It shares `tally` with the network, and reports restarts to `restarts`.
     pub fn of(rt: R, sink: K, says: Says, tally: &'a Tally, restarts: T) -> WatchedSink<'a, R, K, T>
         ensures { watched_in result ≡ sink }
     {
@@ -41,7 +40,7 @@ impl<'a, R: Eprint, K: Sink, T: Restarts> WatchedSink<'a, R, K, T> {
         &self.sink
     }
 
-    /// Reports a restart, after it wiped the line of progress, and notes that a watermark expired. Both matter also if no progress is printed.
+    /// Reports a restart, and notes that a watermark expired. Both matter also if no progress is printed.
     fn tell(&mut self, notice: &Notice)
         ensures { watched_in self.new ≡ watched_in self.old }
     {

@@ -1,4 +1,4 @@
-//! Datagrams that come to a receiver, and that its rules pass over: [`Strays`]. `WatchedFabric` asks about each datagram that a receiver takes.
+//! Datagrams of senders that come to a receiver alone, and that its rules pass over: [`Strays`].
 
 ghost use Rattle.std.specs.Prelude.{◌≡◌, Some};
 ghost use Rattle.norm_watch.specs.Following.{goes_to, names_index, followed, followed_by, is_older};
@@ -11,10 +11,10 @@ use std::fmt;
 use std::time::Duration;
 
 /// After this many seconds a second datagram shows that the first was not just late. Our own choice.
-// A slow network delivers old datagrams only for a moment. A sender whose datagrams are passed over keeps sending.
+// We expect a slow network to deliver old datagrams only for a moment.
 const LATE: u64 = 1;
 
-/// The offset after the instance of a sender's datagram, which comes after the sender's id (RFC 5740 section 4.2).
+/// The offset after the instance of a sender's datagram (RFC 5740 section 4.2).
 const INSTANCE_END: usize = INSTANCE_AT + 2;
 
 /// What to say, once for each kind, of datagrams that a receiver passes over.
@@ -54,7 +54,8 @@ impl fmt::Display for Stray {
     }
 }
 
-/// Something to say once, after the same number was seen twice, with a second between: a network may be late.
+/// Something to say once, if the kept number is seen again a second or more after it was kept: a network may be late. Another number that is
+/// seen then is kept in its place.
 #[derive(Clone, Copy)]
 struct Again {
     /// The instance or the sender id that was seen. `None` before the first.
@@ -73,8 +74,7 @@ impl Again {
         }
     }
 
-    /// Notes that a number is seen at this moment. Returns whether to say so now, which is so once at most. A number is kept for a second before
-    /// another replaces it.
+    /// Notes that a number is seen at this moment. Returns whether to say so now: once at most.
     fn see(&mut self, number: u32, now: Duration) -> bool {
         if self.is_said {
             return false;
@@ -94,8 +94,8 @@ impl Again {
     }
 }
 
-/// Whether a receiver that is in the instance `current` goes on to `instance`: to any if it is in none, and else to one that lies above its own (RFC
-/// 5740 section 4.2.1).
+/// Whether a receiver that is in the instance `current` goes on to `instance`: to any if it is in none, and else to one above its own. RFC
+/// 5740 section 4.2.1 has it go on to a new one. That only one above is new is our own choice.
 fn goes_to(current: &Option<InstanceId>, instance: InstanceId) -> bool
     ensures { result ≡ goes_to current.now instance }
 {
@@ -105,7 +105,7 @@ fn goes_to(current: &Option<InstanceId>, instance: InstanceId) -> bool
     }
 }
 
-/// Whether a message names an object, to a receiver that knows only index 0, as at the beginning of an instance.
+/// Whether a message names an object to a receiver that begins its instance.
 fn names_index(profile: &Profile, object: Option<u16>) -> bool
     ensures { result ≡ names_index profile.now object }
 {
@@ -115,7 +115,8 @@ fn names_index(profile: &Profile, object: Option<u16>) -> bool
     }
 }
 
-/// Returns the instance that a receiver is in after a message of its sender. It goes on to that of the message only if that names an object.
+/// Returns the instance that a receiver is in after a message of its sender. It goes on to that of the message only if that names an
+/// object.
 fn followed(profile: &Profile, current: &Option<InstanceId>, heard: &Heard) -> Option<InstanceId>
     ensures { result ≡ followed profile.now current.now heard.now }
 {
@@ -142,8 +143,8 @@ fn is_from(profile: &Profile, instance: &InstanceId, octets: &[u8]) -> bool {
         && read_16(octets, INSTANCE_AT) == instance.0
 }
 
-/// Which instance a receiver alone is in, by what it takes, and what its rules pass over. Call [`unusual`](Strays::unusual) for each datagram that is
-/// taken, and [`hear`](Strays::hear) for what it returns.
+/// Which instance a receiver alone is in, and what its rules pass over. Call [`unusual`](Strays::unusual) for each datagram that is taken,
+/// and [`hear`](Strays::hear) for what it returns.
 #[derive(Drop)]
 pub(crate) struct Strays {
     profile: Profile,
@@ -166,7 +167,7 @@ impl Strays {
         }
     }
 
-    /// Whether a datagram is of the sender and instance that the receiver follows, as most are. Reads no message for that.
+    /// Whether a datagram, if it is a sender's, is of the sender and instance that the receiver follows, as most are.
     fn is_usual(&self, octets: &[u8]) -> bool {
         match &self.current {
             Some(current) => is_from(&self.profile, current, octets),
@@ -215,7 +216,7 @@ impl Strays {
         })
     }
 
-    /// Notes what a datagram says that was taken at this moment. Returns what to say of it, if anything: each kind once at most.
+    /// Notes what a datagram says that was taken now. Returns what to say of it, if anything.
     pub(crate) fn hear(&mut self, heard: &Heard, now: Duration) -> Option<Stray>
         ensures { self.new.current ≡ followed_by self.old.profile self.old.current (Some heard.now) }
     {

@@ -1,16 +1,16 @@
-//! What the watched sink and the watched network count: [`Tally`]. `saying` prints it as the line of progress.
+//! What the watched sink and the watched network share: [`Tally`].
 
 use std::cell::Cell;
 
-/// What the sink and the network of a node count together: octets and objects by the lines (a stream is one object), repairs by the
-/// datagrams, and how many of the listed members are past the oldest open watermark, or all of them if none is open. Lend it to
-/// `WatchedFabric::of` and `WatchedSink::of`, and then to `end_progress`.
-// Cells, because the sink and the network both count here, and each holds it by a shared loan.
+/// What the sink and the network of a node count together. Lend it to `WatchedFabric::of` and `WatchedSink::of`, and then to
+/// `end_progress`.
+// Cells, because the sink and the network share it.
 #[derive(Drop)]
 pub struct Tally {
     pub(crate) octets: Cell<u64>,
     pub(crate) objects: Cell<u64>,
     pub(crate) repairs: Cell<u64>,
+    /// How many listed members are past the oldest open watermark, or all of them if none is open.
     pub(crate) past: Cell<u64>,
     /// Whether a watermark expired. The sink sets it, and the network reads it.
     pub(crate) has_expired: Cell<bool>,
@@ -30,7 +30,7 @@ impl Tally {
         }
     }
 
-    /// Counts an object, without its octets: those of a stream come later.
+    /// Counts an object or a stream, without its octets.
     pub(crate) fn object(&self) {
         self.objects.set(self.objects.get().saturating_add(1));
     }

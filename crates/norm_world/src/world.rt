@@ -23,17 +23,18 @@ use std::marker::Model;
 
 /// A sender and the receivers of its profile, in the order of their ids.
 ///
-/// A call is one event of the nodes' world: a command ([`job`](World::job)), a datagram that is delivered, a node's tick, an offer of what it
-/// gave, a hand-up that is taken, or news that are asked for. A file in pieces is one event, at its end. So a world stands for the list of its
-/// events, and what holds of each such list ([`laws`](crate::laws)) holds of what it did. It keeps no datagrams: its caller has to see that what
-/// is delivered was offered before.
+/// The events of a world are calls: a command ([`job`](World::job)), a datagram that is delivered, a node's tick, an offer of what it
+/// gave, a hand-up that is taken, or news that are asked for. A file in pieces is one event, at its end. Except before that end, a world
+/// stands for the list of its events unless a file was given up ([`leave_file`](World::leave_file)), and what holds of each such list
+/// ([`laws`](crate::laws)) holds of what it did. It keeps no datagrams: its caller has to see that what is delivered was offered before.
 ///
 /// The order of calls is free, except for two things. Before a receiver ticks ([`tick_receiver`](World::tick_receiver)), call
 /// [`take_up`](World::take_up) until it returns `None`. The command of a file may come in pieces: [`begin_file`](World::begin_file), then
 /// [`file_piece`](World::file_piece) until all octets are there, then [`end_file`](World::end_file), or at any time
-/// [`leave_file`](World::leave_file). From the first of them to the last, no other call that changes the sender may come.
+/// [`leave_file`](World::leave_file). From the first of them to the last, no other call that changes the sender may come, and no delivery
+/// to a receiver.
 // The receivers lie in the order of their ids, one for each receiver of the profile. The function `place` computes an index from an id; with a gap,
-// a datagram would go to another node.
+// a datagram could go to another node.
 #[derive(Debug, Drop)]
 pub struct World {
     profile: Profile,
@@ -263,7 +264,7 @@ impl World {
 
     /// States that a node's datagram was offered to the network. It keeps nothing and does nothing.
     // `norm_tail` calls it for its contract alone: an offer is an event after which the same world stands.
-    // The network and the journal have the octets. Kept here they would grow with the session, and the call could run out of memory.
+    // It keeps no octets: they would grow with the session, and the call could run out of memory.
     pub fn offered(&self, from: NodeId, bytes: &[u8])
         ensures { IsEvent self.now self.now (Offered from bytes.now) (λ answer. answer ≡ Silent) }
     {}

@@ -1,5 +1,6 @@
 //! normd: a reliable multicast sender and receiver after NORM (RFC 5740). [`main`] makes the objects of the process, numbers a send (`numbering`),
-//! and runs `norm_program` on them, which does all the rest.
+//! and runs `norm_program` on them, which does what the words ask for. Afterwards [`main`] waits a while for what is still to be sent,
+//! and says on standard error what failed.
 #![tactic(auto)]
 
 mod numbering;
@@ -67,7 +68,8 @@ fn sends_much(words: &Result<Vec<String>, WordsFault>) -> bool {
     }
 }
 
-/// Returns the network of the process. If the words ask for a node that sends much, threads send for it, if they can be made.
+/// Returns the network of the process. If the words ask for a node that sends much, threads send for it over sockets, if they can be made
+/// and the machine has four processors or more.
 fn network<R: Net + Threads + Wait + Clock + Copy + Send + Drop + 'static>(
     rt: R,
     alloc: Global,

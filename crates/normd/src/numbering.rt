@@ -1,5 +1,5 @@
-//! The instance of a send. [`number`], which `main` calls before the program runs, keeps one that the words or the profile give, so that later sends
-//! lie above it. If none is given, it draws one above the last that this user's sends of the sender took at the port, and puts it into the words.
+//! The instance of a send. [`number`], which `main` calls before the program runs, keeps one that the words or the profile give, unless it
+//! does not lie above the one that is kept. If none is given, it draws one above any that is kept, and puts it into the words.
 
 use norm_args::{NodeTask, node_task_of};
 use norm_base::{InstanceId, Memory, Profile};
@@ -10,7 +10,7 @@ use std::alloc::Global;
 use std::io;
 use std::time::Clock;
 
-/// The file that keeps the last instance of one sender. The watched sink reports each restart to it.
+/// The file that keeps an instance of one sender. The watched sink reports each restart to it.
 #[derive(Drop)]
 pub(crate) struct Numbers {
     rt: HostRuntime,
@@ -31,8 +31,8 @@ impl Numbers {
         }))
     }
 
-    /// Keeps an instance that was given. If it does not lie above the last one, that one stays, and standard error warns. The send uses it in any
-    /// case, also if it cannot be kept: whoever gives instances sees to it that they rise.
+    /// Keeps an instance that was given or that a restart began. If it does not lie above the kept one, that one stays, and standard error
+    /// warns. The send uses it in any case, also if it cannot be kept: whoever gives instances sees to it that they rise.
     fn keep(&self, instance: InstanceId) {
         // A given instance is used in any case: whoever gives it may have started all receivers anew.
         if let Ok(Some(last)) = self.file.keep(instance) {
@@ -105,7 +105,7 @@ fn put(alloc: Global, words: &mut Vec<String>, instance: InstanceId) -> Result<(
     Ok(())
 }
 
-/// Keeps the instance that the words or the profile give, if it has 16 bits and there is a file for it.
+/// Keeps the instance that the words or the profile give, as [`Numbers::keep`] does, if it has 16 bits and there is a file for it.
 fn keep_given(numbers: &Option<Numbers>, given: u32) {
     let Ok(instance) = u16::try_from(given) else {
         return;
@@ -138,8 +138,10 @@ fn draw(
     }
 }
 
-/// Numbers a send, if the words ask for one whose profile can be loaded: keeps the instance that the words or the profile give, or else draws one and
-/// puts it into the words. Returns the file that is to keep the instances of its restarts.
+/// Numbers a send, if the words ask for one whose profile can be loaded: keeps the instance that the words or the profile give, unless it
+/// is not above the kept one, or else draws one and puts it into the words. Returns the file that is to keep the instances of its
+/// restarts. `None` if it numbers no send, if there is no folder for the file, or if none could be drawn. In the last case it stops the
+/// files.
 ///
 /// # Errors
 ///

@@ -21,7 +21,7 @@ use std::marker::Model;
 ///
 /// [`whole`](ObjectBuf::whole) creates it. Then [`symbol`](ObjectBuf::symbol) appends any of its symbols, in any order.
 // The octets are padded with zeros to whole symbols, as the code sees them. With anything else there parity would not be that of the object.
-// Only tests call it. It stays for programs over this crate: a sender keeps its objects in a ring.
+// Only a bench calls it. It stays for programs over this crate: a sender keeps its objects in a ring.
 #[derive(Debug, Drop)]
 pub struct ObjectBuf {
     plan: Plan,

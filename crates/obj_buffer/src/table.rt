@@ -1,4 +1,4 @@
-//! The [`CodeTable`]: codes that were made, shared by all plans with blocks of their lengths.
+//! The [`CodeTable`]: codes that were made, for plans to share.
 
 ghost use Rattle.std.specs.Prelude.{◌≡◌, ◌≤◌, ⊤, IfOk, MatchOption};
 ghost use Rattle.std.specs.Arc.{arc_value};
@@ -30,8 +30,8 @@ impl Model for Kept {
     ghost invariant = { λ c. arc_value c.code ≡ record { k = c.k; n = c.n } };
 }
 
-/// The codes that were made. A code is made once, whatever number of objects has blocks of its length. Under one profile there is at most one for
-/// each length of a block.
+/// The codes that were made. A code is kept once, however many objects have blocks of its length. Under one profile there is at most one
+/// for each length of a block.
 // To make a code of many source symbols takes much longer than to make a symbol, and one profile has at most 200 lengths of blocks. Objects share
 // a code by `Arc`, so each object stays whole in itself, and nothing needs to be known of the table where a symbol is made.
 #[derive(Debug, Drop)]
@@ -47,7 +47,7 @@ impl CodeTable {
         }
     }
 
-    /// Returns the code of `k` source symbols and `n` encoded symbols if it was made. The cost is linear in the number of codes.
+    /// Returns the code of `k` source symbols and `n` encoded symbols if it is kept. The cost is linear in the number of codes.
     fn find(&self, k: u8, n: u8) -> Option<&Arc<Code, Global>>
         ensures { MatchOption result ⊤ (λ code. arc_value code.now ≡ record { k = k; n = n }) }
     {

@@ -16,10 +16,10 @@ use std::sync::Arc;
 
 /// The board of outcomes. One thread owns it.
 ///
-/// [`publish`](Board::publish) each outcome. Each call returns a [`Front`]; send it to a reader's thread, and [`learn`](BoardReader::learn) it
+/// [`publish`](Board::publish) each outcome. It returns a [`Front`]; send it to a reader's thread, and [`learn`](BoardReader::learn) it
 /// there before that thread asks for an [`outcome`](BoardReader::outcome) that it has to see.
 // `count` is the number of entries that were published, and the next one is written there. A smaller one would write over an entry that readers
-// saw.
+// may know.
 #[derive(Drop)]
 pub struct Board {
     words: Arc<Words, Global>,
@@ -39,7 +39,7 @@ impl Model for Board {
     ghost invariant = { IsBoard };
 }
 
-/// A reader of a board. One thread owns it. It never waits. Once it saw an entry or learned of it, it sees that entry in each later call.
+/// A reader of a board. One thread owns it. It never waits. Once it saw an entry or learned of it, it knows that entry.
 // Only tests ask one: the program makes one with its board, and drops it. It stays for programs whose producers ask what became of their marks.
 #[derive(Drop)]
 pub struct BoardReader {
@@ -120,7 +120,8 @@ impl Board {
         ensures same { self.new.id ≡ self.old.id }
         ensures ends { PublishEnds self.old mark outcome result self.new }
     {
-        // All memory is taken when the board is made, so `Memory` means a full board here. It has one entry for each command that a script may have.
+        // All memory is taken when the board is made, so `Memory` means a full board here. It has room for as many entries as a script
+        // may have commands.
         if self.count >= MOST {
             return Err(Memory);
         }
@@ -130,7 +131,7 @@ impl Board {
         Ok(self.front())
     }
 
-    /// Returns the front of all entries that are published by now, as the last [`publish`](Board::publish) did.
+    /// Returns the front of all entries that are published by now.
     pub fn front(&mut self) -> Front
         ensures same { self.new ≡ self.old }
         ensures front { result ≡ front_of self.old }
@@ -156,7 +157,7 @@ impl Board {
 }
 
 impl BoardReader {
-    /// Learns of a front of the reader's board. From now on the reader sees at least the entries of this front.
+    /// Learns of a front of the reader's board. From now on the reader knows at least the entries of this front.
     pub fn learn(&mut self, front: Front)
         requires { front.board ≡ self.old.board }
         ensures same { self.new.board ≡ self.old.board }
@@ -172,8 +173,9 @@ impl BoardReader {
         let _count = look(&self.words, &mut self.place);
     }
 
-    /// Returns what the last entry of a watermark says, among all that are published now. They include each entry that this reader saw before or
-    /// learned of. Reads them from the last one back.
+    /// Returns what the last entry of a watermark says, among those that this call finds published, or `Unknown` if none of them is of it.
+    /// They include each entry that this reader saw before or learned of. One that was published just now may be missing. Reads them from
+    /// the last one back.
     pub fn outcome(&mut self, mark: u32) -> Seen
         ensures same { self.new.board ≡ self.old.board }
         ensures before { IsPrefix self.old.known self.new.known }

@@ -1,4 +1,4 @@
-//! What goes through a gate. [`Gate`](crate::Gate) returns these types.
+//! What calls of [`Gate`](crate::Gate) return: a command, a fault, or what was pulled.
 
 /// A command as it comes out of the ring.
 #[derive(Clone, Copy, Debug, PartialEq, Eq)]
@@ -14,7 +14,7 @@ pub struct Submitted {
 /// Why a command was not submitted. The item comes back, and the seat stays as it was.
 #[derive(Clone, Copy, Debug, PartialEq, Eq)]
 pub enum GateFault {
-    /// The ring was full. The producer may try again.
+    /// The ring was full at some moment of the call. The producer may try again.
     Full,
     /// The seat has submitted 4,096 commands, the most for one producer.
     TooMany,

@@ -10,7 +10,7 @@ use mark_book::Outcome;
 pub enum Seen {
     /// None of the entries that were read is of it.
     Unknown,
-    /// The outcome in the last entry of it.
+    /// The outcome in the last of them that is.
     Known(Outcome),
 }
 
@@ -39,12 +39,14 @@ pub(crate) fn outcome_of(word: u64) -> Outcome
 {
     let left = (word / KINDS % COUNTS) as u32;
     let kind = word % KINDS;
+    // The kinds 0 to 3 are those that `word_of` writes.
     if kind == 0 {
         return Outcome::Open { left };
     }
     if kind == 1 {
         return Outcome::Satisfied;
     }
+    // The 2 that `word_of` adds to the count of an expired watermark.
     if kind == 2 {
         return Outcome::Expired { left };
     }

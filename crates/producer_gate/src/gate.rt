@@ -12,7 +12,7 @@ use std::marker::Model;
 use std::sync::Wait;
 
 /// The most commands that one producer submits.
-// As many commands as a script has (`MOST_COMMANDS` of norm_script). One more is refused with `TooMany`.
+// As many commands as a script may have (`MOST_COMMANDS` of norm_script). One more is refused with `TooMany`.
 const MOST: u64 = 4096;
 
 /// A ring of commands. Threads share it by reference.
@@ -39,7 +39,7 @@ impl Model for Gate {
 }
 
 /// The seat with which one producer submits. One thread owns it.
-// A number and no list: what was submitted stands in the seat's view, which exists in proofs alone. So a seat takes no memory.
+// A number and no list: what was submitted stands in the seat's view, which exists in proofs alone.
 #[derive(Drop)]
 pub struct Seat {
     pub(crate) pass: Own,
@@ -109,8 +109,8 @@ impl Gate {
     ///
     /// # Errors
     ///
-    /// The item comes back and the seat stays as it was. `TooMany` if the seat has submitted 4,096 items. `Full` if the ring was full at some
-    /// moment of this call; the item may be tried again.
+    /// The item comes back and the seat stays as it was. `TooMany` if the seat has submitted 4,096 items. `Full` only if the ring was
+    /// full at some moment of this call; the item may be tried again.
     pub fn submit<R: Wait>(
         &self,
         rt: &R,
@@ -138,7 +138,8 @@ impl Gate {
         Ok(number)
     }
 
-    /// Pulls the oldest command. `None` if the ring was empty at some moment of this call. It may spin while another thread is stalled in a call.
+    /// Pulls the oldest command. `None` only if the ring was empty at some moment of this call. It may spin while another thread is
+    /// stalled in a call.
     pub fn pull<R: Wait>(&self, rt: &R, seat: &mut PullSeat) -> Option<Submitted>
         requires { seat.old.gate ≡ self.now.id }
         ensures same { (seat.new.gate ≡ seat.old.gate) × (seat.new.producers ≡ seat.old.producers) }

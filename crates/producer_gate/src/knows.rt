@@ -1,4 +1,5 @@
-//! What a pass of the ring knows, and the rule of the ring. No value of these types is made: they are for proofs alone.
+//! What a pass of the ring knows, and the rule of the ring. No value of these types is made, except of [`Ring`] and [`Own`]: they are for
+//! proofs alone.
 ghost use Rattle.std.specs.Prelude.{◌≡◌, ◌+◌, ◌*◌, ◌<◌, ◌≤◌, [], ◌∷◌, ◌++◌, length};
 
 use crate::command::Submitted;
@@ -55,7 +56,7 @@ impl Join<Knows> for TakesIn {
     ghost spent = { Spent };
 }
 
-/// A push. Its producer's pass then knows one item more.
+/// A push. If the ring had room, its producer's pass then knows one item more.
 pub struct Adds;
 
 impl Outcome<Submitted, Knows> for Adds {
@@ -70,7 +71,7 @@ impl Lesson<Submitted, Knows> for Adds {
     ghost fact = { WasSo };
 }
 
-/// A pull. The pull seat's pass then knows one command more, the next one of its producer.
+/// A pull. If it gave a command, the pull seat's pass then knows it, the next one of its producer.
 pub struct Takes;
 
 impl Outcome<Submitted, Knows> for Takes {

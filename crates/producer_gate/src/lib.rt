@@ -1,9 +1,9 @@
 //! What the threads of a session share: a ring for the commands of producers, and the board of outcomes. `norm_session` calls both, and
 //! `norm_program` creates the board.
 //!
-//! [`Gate`] is the ring between producers and the thread that pulls. A producer passes a [`Turnstile`] before each submit. On a [`Board`] one
-//! thread publishes what became of watermarks; others read it with a [`BoardReader`], which never waits. `gate` builds on `settle`, and `board`
-//! on `lookup` and `steps`. `knows` and `words` have the rules for their proofs.
+//! [`Gate`] is the ring between producers and the thread that pulls. A producer passes a [`Turnstile`] before it submits a command. On a
+//! [`Board`] one thread publishes what became of watermarks; others read it with a [`BoardReader`], which never waits. `gate` builds on
+//! `settle`, and `board` on `lookup` and `steps`. `knows` and `words` have the rules for their proofs.
 #![tactic(auto)]
 
 mod board;

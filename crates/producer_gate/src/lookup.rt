@@ -60,6 +60,8 @@ fn reader_at(words: Arc<Words, Global>, place: Place) -> BoardReader
 /// # Errors
 ///
 /// `AllocError` if memory runs out.
+// Proof: `own` follows from `readers`. `Board::new` needs it to promise the same: a caller that takes a reader out of the list then knows
+// that it is of this board, as `learn` and `hear` ask.
 pub(crate) fn readers_of(
     alloc: Global,
     words: &Arc<Words, Global>,

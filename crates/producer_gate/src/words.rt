@@ -1,5 +1,5 @@
-//! The 64-bit words of the board, which its writer and its readers share, and the rule of them. Word 0 is the number of published entries. Each
-//! entry has two words after it. No value of [`Role`] is made: it is for proofs alone.
+//! The 64-bit words of the board, which its writer and its readers share, and the rule of them. Word 0 is the number of published entries. The two
+//! words of each entry follow, in the order of the entries. No value of [`Role`] is made: it is for proofs alone.
 ghost use Rattle.std.specs.Prelude.{◌≡◌};
 
 use atomic_table::{Join, Play, Seat, Split, Table, TableRule};
@@ -85,7 +85,7 @@ impl Play<u8, Role> for Reads {
     ghost then = { Read };
 }
 
-/// Compares the entries of the note that the writer took in last with those that it published.
+/// Reads the count, and does nothing with it. The writer then knows that it published the entries of the note that it took in last.
 pub struct Compares;
 
 impl Play<u8, Role> for Compares {

@@ -1,4 +1,4 @@
-//! Makes the lines that a replay prints. `receiving` and `sending` call one function for each kind of answer.
+//! Makes the lines that a replay prints. `receiving` and `sending` call its functions; `run` and `node` call only [`said`].
 
 use norm_base::{Datagram, InstanceId, Sent};
 use norm_order::Up;

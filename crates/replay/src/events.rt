@@ -62,7 +62,8 @@ fn alone(event: Event, words: &mut Words<'_>) -> Option<Event> {
 }
 
 /// Reads the event that begins with this word. Returns `None` if the words spell no event.
-// The README lists these words, and tests and `checks/nodes.py` write them. A word that changes here has to change there too.
+// The README lists these words, and the rows, `checks/nodes.py`, `checks/fuzz` and `bench/nodes` write them. A word that changes here has to
+// change there too.
 fn event_of(word: &str, words: &mut Words<'_>) -> Option<Event> {
     match word {
         "set" => alone(set(words)?, words),
@@ -84,7 +85,7 @@ fn event_of(word: &str, words: &mut Words<'_>) -> Option<Event> {
 #[derive(Drop)]
 pub(crate) struct Events<'a> {
     lines: Lines<'a>,
-    /// The number of the last line that was read, counted from 1.
+    /// The number of the last line that was read, counted from 1. 0 if none was read.
     number: usize,
     /// The words of that line that are still unread.
     pub(crate) words: Words<'a>,

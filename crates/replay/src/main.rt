@@ -1,5 +1,6 @@
-//! replay: drives one sender or receiver by lines of standard input, and prints one line for each. The README lists the lines. Tests of
-//! the nodes and `checks/nodes.py` run it. Start at `run.rt`, which follows the lines, and at `node.rt`, which calls the node.
+//! replay: drives senders and receivers, one after another, by lines of standard input, and prints one line for each that it follows.
+//! The README lists the lines. Its rows (`stdin`) are tests of the nodes, and `checks/nodes.py`, for example, runs it. Start at `run.rt`,
+//! which follows the lines, and at `node.rt`, which calls the node.
 #![tactic(auto)]
 
 mod answers;

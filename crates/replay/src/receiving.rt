@@ -100,7 +100,7 @@ impl Node for Receiver {
     }
 }
 
-/// Begins a receiver and follows the calls of it. Returns the first event that is none of them, and `None` at the end of the input.
+/// Begins a receiver and follows calls of it and names of rows. Returns the first other event, and `None` at the end of the input.
 pub(crate) fn run_receiver<K: Sink>(
     alloc: Global,
     profile: &Profile,

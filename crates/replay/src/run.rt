@@ -31,7 +31,7 @@ impl Keys {
         self.given.set(key, value);
     }
 
-    /// Returns the profile for a node that begins, or `None` if the keys are out of range.
+    /// Returns the profile for a node that begins, or `None` if a key is out of range or the keys break a rule across keys.
     fn profile(&mut self) -> Option<Profile> {
         self.are_used = true;
         Profile::of(&self.given)
@@ -39,7 +39,7 @@ impl Keys {
 }
 
 /// Follows an event while no node runs, and returns the next event to follow. A `receiver` or `sender` runs that node
-/// until an event that is not a call of it.
+/// until an event that is neither a call nor a `row`.
 fn follow<K: Sink>(
     alloc: Global,
     event: Event,
@@ -89,8 +89,9 @@ fn replay_text<K: Sink>(alloc: Global, text: &str, output: &mut K) -> Result<(),
 ///
 /// # Errors
 ///
-/// `Line` with the first line that is no event, is no call of the node that runs, or begins a node with keys out of range. `NotText` if the input is
-/// not UTF-8, `Read` or `Write` if a call of the input or output failed, and `Memory` if memory ran out outside a call of a node.
+/// `Line` with the first line that is no event, is no call of the node that runs or is one while none runs, has no name of a row, or begins a node
+/// with keys that make no profile. `NotText` if the input is not UTF-8, `Read` or `Write` if a call of the input or output failed, and `Memory` if
+/// memory ran out outside a call of a node, for example as one began.
 pub(crate) fn replay<S: Source, K: Sink>(
     alloc: Global,
     input: &mut S,

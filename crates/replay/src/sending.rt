@@ -105,7 +105,7 @@ impl Node for Driven {
     }
 }
 
-/// Begins a sender and follows the calls of it. Returns the first event that is none of them, and `None` at the end of the input.
+/// Begins a sender and follows calls of it and names of rows. Returns the first other event, and `None` at the end of the input.
 pub(crate) fn run_sender<K: Sink>(
     alloc: Global,
     profile: &Profile,

@@ -1,11 +1,11 @@
-//! Why a program ends before its input does, and the exit status of each reason.
+//! Why a program ends early, and the exit status of each reason.
 
 use norm_base::{Failed, Memory};
 use std::alloc::{AllocError, AllocFailed};
 use std::error::Error;
 use std::fmt;
 
-/// Why a program ends before its input does.
+/// Why a program ends early.
 #[derive(Clone, Copy, Debug, PartialEq, Eq, Drop)]
 pub enum Fault {
     /// This line, counted from 1, has no meaning where it stands.
@@ -16,7 +16,8 @@ pub enum Fault {
     Read,
     /// A write failed.
     Write,
-    /// Memory ran out in the program itself. If it runs out in what the program calls, that is an answer to print.
+    /// Memory ran out in the program itself, or as `replay` began a node. If it runs out in a call that the program tests, that is an answer to
+    /// print.
     Memory,
 }
 

@@ -63,7 +63,7 @@ fn put_rows(k: u8, n: u8, places: &[u8], weights: &[u8], rows: &mut [u8])
     }
 }
 
-/// Returns the coefficients of all parity symbols, k octets for each. While it computes them it takes 2 k octets more.
+/// Returns the coefficients of all parity symbols, k octets for each. While it computes them it takes at least 2 k octets more.
 fn rows_of(alloc: Global, k: u8, n: u8) -> Result<Vec<u8>, AllocError>
     requires some { 1 ≤ k }
     requires fits { k ≤ n }

@@ -34,7 +34,7 @@ pub fn position_of(ids: &[u8], id: u8) -> Option<usize>
     ids.iter().position(|other| *other == id)
 }
 
-/// Returns the logarithm of the product of the differences between `x` and each point. `x` is none of the points.
+/// Returns an exponent of alpha for the product of the differences between `x` and each point. `x` is none of the points.
 #[tactic(auto, using(crate::proofs::Formula::differ))]
 fn difference_log(places: &[u8], x: u8) -> u32
     requires few { length places.now ≤ 255 }
@@ -49,7 +49,7 @@ fn difference_log(places: &[u8], x: u8) -> u32
     total
 }
 
-/// Returns the logarithm of the product of the differences between `place` and each other point.
+/// Returns an exponent of alpha for the product of the differences between `place` and each other point.
 // Proof: the place is skipped by its value, as the definition does. All places differ, so no lemma speaks of indexes.
 #[tactic(auto, using(crate::proofs::Formula::others_steps))]
 fn others_log(places: &[u8], place: u8) -> u32
@@ -65,7 +65,7 @@ fn others_log(places: &[u8], place: u8) -> u32
     total
 }
 
-/// Returns the logarithm of a point's weight: the inverse of the denominator in the point's coefficient. It costs a pass over all points.
+/// Returns a logarithm of a point's weight: the inverse of the denominator in the point's coefficient. It costs a pass over all points.
 // Weights are kept as logarithms: a product is then a sum, and an inverse a difference.
 #[tactic(auto, using(crate::proofs::Formula::weight_is))]
 pub fn weight_log(places: &[u8], place: u8) -> u8
@@ -86,8 +86,8 @@ pub fn weigh(places: &[u8], weights: &mut [u8])
     }
 }
 
-/// Returns a point's coefficient at `x`. `all` is the logarithm of the product of the differences between `x` and all points, `weight` that
-/// of the point's weight.
+/// Returns a point's coefficient at `x`. `all` is an exponent of alpha for the product of the differences between `x` and all points,
+/// `weight` one for the point's weight.
 // One product of all differences serves every point: the point's own difference is taken out again, which costs one look-up in place of k.
 #[tactic(auto, using(crate::proofs::Formula::differ))]
 fn coefficient(all: u32, x: u8, place: u8, weight: u8) -> u8
@@ -98,7 +98,7 @@ fn coefficient(all: u32, x: u8, place: u8, weight: u8) -> u8
     alpha_pow(all + (ORDER - alpha_log(x ^ place)) + u32::from(weight))
 }
 
-/// Fills `row` with each point's coefficient at `x`, which is none of the points.
+/// Fills `row` with each point's coefficient at `x`, which is none of the points. The weights are logarithms.
 pub fn put_coefficients(places: &[u8], weights: &[u8], x: u8, row: &mut [u8])
     requires weighted { AreWeights places.now weights.now }
     requires different { AllPairs (λ p q. p ≢ q) places.now }

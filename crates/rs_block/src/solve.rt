@@ -1,4 +1,5 @@
-//! Computes the source symbols of a block from any k of its symbols (RFC 5510 section 8.3). Receivers call it when a block has k symbols.
+//! Computes the source symbols of a block from any k of its symbols (RFC 5510 section 8.3). Receivers call it when a block has k symbols,
+//! unless these are just its source symbols.
 
 ghost use Rattle.std.specs.Prelude.{◌≡◌, ◌≤◌, ◌*◌, IfOk, length, map};
 ghost use Rattle.norm_base.specs.Octets.{AreOctets};
@@ -69,8 +70,8 @@ impl Solver {
     }
 
     /// Replaces the symbols in `row` with the block's source symbols. `row` has as many symbols as the block has source symbols, one after
-    /// the other, and `ids` are their ids. A symbol whose id is its index is not written. Each other is copied once, and each missing
-    /// source symbol costs a sum over all symbols. Takes no memory and cannot fail.
+    /// the other, and `ids` are their ids. A symbol whose id is its index is not written. Each other is copied aside and then written over.
+    /// Each missing source symbol costs a sum over all symbols. Takes no memory and cannot fail.
     pub fn solve_in(&mut self, ids: &[u8], row: &mut [u8])
         requires some { 1 ≤ length ids.now }
         requires few { length ids.now ≤ self.old.k }
@@ -113,7 +114,8 @@ impl Solver {
     }
 }
 
-/// Replaces `pieces` with the block's source symbols. The other buffers are scratch space, each with room for at least as many symbols.
+/// Replaces `pieces` with the block's source symbols. The other mutable buffers are scratch space: `aside` has room for at least as many
+/// symbols, and each of the others for an octet of each.
 fn solve_pieces<P: Piece>(
     ids: &[u8],
     size: usize,

@@ -7,7 +7,7 @@ use crate::heard::{Count, Span};
 use std::alloc::Global;
 use std::marker::Model;
 
-/// What requests ask for, in their order: source symbols and infos as spans, and counts for blocks.
+/// What requests ask for, in their order: symbols and infos as spans, and counts for blocks.
 ///
 /// `named` is a buffer for the spans of a request that asks for them by several flags. The next such request overwrites it.
 #[derive(Debug, Drop)]
@@ -48,7 +48,7 @@ impl Asked {
         Asked::new(self.alloc)
     }
 
-    /// Forgets everything. It keeps its memory.
+    /// Forgets what was read. It keeps its memory, and `named` as it is.
     pub(crate) fn clear(&mut self)
         ensures { self.new ≡ heard_nothing }
     {

@@ -1,4 +1,4 @@
-//! What of a message's requests needs room: everything from the first item on that was not heard before.
+//! What of a message's requests may need room: everything from the first item on that adds something.
 
 ghost use Rattle.std.specs.Prelude.{◌≡◌, fold, true, IsTrue};
 ghost use Rattle.std.specs.List.{AllWithin};

@@ -283,8 +283,7 @@ impl Heard {
             && are_kept(self.counts.len(), asked.counts.len())
     }
 
-    /// Merges everything that a message asks for, or nothing if a list might exceed its bound. It takes no memory if all of it was heard
-    /// before.
+    /// Merges everything that a message asks for, or nothing if a list might exceed its bound. It takes no memory if it changes nothing.
     ///
     /// # Errors
     ///

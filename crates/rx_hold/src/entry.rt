@@ -1,7 +1,7 @@
 //! What is held of one object: data or a file, or a stream.
 //!
-//! Only this module matches on which of the two an object is. Others ask `is_stream` or `says_stream`, because hand-ups of a stream are counted
-//! segment by segment. `making` creates an [`Entry`], `asking` tells what it needs, and `handing` tells what it hands up.
+//! Only this module matches on which of the two an object is.
+//! `making` creates an [`Entry`], `asking` tells what it needs, and `handing` tells what it hands up.
 
 ghost use Rattle.std.specs.Prelude.{ℕ, ◌≡◌, ◌≤◌, ◌<◌, ◌+◌, ◌*◌, IfOk, OnErr, None, Some, is_some, length};
 ghost use Rattle.norm_base.specs.Settings.{Settings};
@@ -97,7 +97,7 @@ impl Entry {
         }
     }
 
-    /// Whether a symbol came and was kept, of a block that was not handed up whole. A symbol that was decoded did not come.
+    /// Whether a symbol came and was kept. A symbol that was decoded did not come.
     pub fn holds(&self, block: u32, symbol: u8) -> bool
         requires { (entry_of self.now).point.block ≤ block }
         ensures { result ≡ holds (alone_in (entry_of self.now)) (position (entry_of self.now).plan.index block symbol) }
@@ -108,7 +108,7 @@ impl Entry {
         }
     }
 
-    /// Returns how many more symbols a block needs to be decoded. The block was not handed up whole.
+    /// Returns how many more symbols a block needs to be decoded.
     pub fn lacking(&self, block: u32) -> u8
         requires reached { (entry_of self.now).point.block ≤ block }
         requires block { block < blocks (cut_of_plan (entry_of self.now).plan) }
@@ -120,7 +120,7 @@ impl Entry {
         }
     }
 
-    /// Notes that a block was seen, whether or not its symbol was kept. Data and files keep nothing of that.
+    /// Notes that a block was seen, whether or not its symbol was kept. Only a stream keeps it.
     pub fn see(&mut self, block: u32)
         requires { IsOfKind self.old }
         ensures state { entry_of self.new ≡ with_seen block (entry_of self.old) }
@@ -144,8 +144,8 @@ impl Entry {
         }
     }
 
-    /// Keeps a symbol if it is new, of a block that was not handed up whole. If the block lacks no more symbols then, it is decoded by
-    /// `solver`, or by `stream_solver` if this is a stream.
+    /// Keeps a symbol if it is new, fits, and its block has room for it and is not done; if not, returns why. If its block lacks no more symbols
+    /// then, `solver` decodes it, or `stream_solver` if this is a stream.
     ///
     /// # Errors
     ///

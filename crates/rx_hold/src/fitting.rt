@@ -21,7 +21,7 @@ use norm_receive_rules::{Fit, is_over};
 use std::alloc::Global;
 
 /// How many hand-ups get room when an object is taken up: a stream's open and its loss. Data and files need one.
-// A stream's open and its loss are all that comes beside the hand-ups of its symbols, of which its end is one. Any more would find no room.
+// Each other hand-up of a stream gets room with its symbol, also its end.
 const FIRST_UPS: usize = 2;
 
 /// Whether both mean the same plan. The length of a stream is not compared.
@@ -61,12 +61,12 @@ impl Front {
         ensures { result ≡ (nat_le (self.now.point + most_ahead) index || nat_lt self.now.profile.octets (self.now.taken + room_of self.now.profile fti.now flags)) }
     {
         let profile = self.profile;
-        // What a sender may make a receiver keep is bounded twice, by objects and by octets: data and files take room for all symbols at once.
+        // Bounded by octets too: data and files take room for all symbols at once.
         (index - self.point) as usize >= PLACES
             || self.taken + room_of(&profile, fti, flags) > u64::from(profile.octets)
     }
 
-    /// Returns the plan by which to take an object up, or the result that its transmission information gets instead.
+    /// Returns the plan by which to take an object up, or what to return instead.
     fn plan_for(&self, index: u32, fti: &Fti, flags: u8) -> Result<Plan, Fit>
         requires { IsFront self.now }
         ensures word { (s : Holding) → StandsFor (front_view self.now) s → MatchResult result (λ _. fit_of self.now.profile s index fti.now flags ≡ fit_word.Taken)
@@ -116,7 +116,7 @@ impl Front {
         ensures refused { OnErr result (front_view self.new ≡ front_view self.old) }
     {
         let profile = self.profile;
-        // All memory before the first change: the ring and the counts change together or not at all.
+        // All memory before the first change.
         let entry = Entry::new(alloc, index, fti, flags, plan, profile.blocks)?;
         self.reserve(FIRST_UPS)?;
         let place = (index - self.point) as usize;
@@ -128,7 +128,7 @@ impl Front {
         Ok(())
     }
 
-    /// Takes an object up if its transmission information and flags fit and are new. Returns what [`Hold::fti`](crate::Hold::fti) says.
+    /// Does what [`Hold::fti`](crate::Hold::fti) does.
     ///
     /// # Errors
     ///
@@ -153,7 +153,7 @@ impl Front {
         }
     }
 
-    /// Removes an object of which nothing is held, so that it has no plan again. The memory that was reserved for its hand-ups is kept.
+    /// Removes an object of which nothing is held, so that it has no plan again.
     pub fn untake(&mut self, index: u32)
         requires front { IsFront self.old }
         requires unused { IsUnused (front_view self.old) index }

@@ -26,7 +26,7 @@ use rs_block::Solver;
 use std::alloc::Global;
 use std::collections::VecDeque;
 
-/// The objects from the hand-up point on, and the hand-ups of earlier ones. Room is reserved for each hand-up that may come of what is held.
+/// The objects from the hand-up point on, and the hand-ups that were not taken yet.
 // Proof: it has no model, so clauses can name the ring's capacity, which no model shows.
 #[derive(Debug, Drop)]
 pub struct Front {
@@ -35,10 +35,10 @@ pub struct Front {
     pub point: u32,
     /// The 256 slots of the objects from there on. That of one which was not taken up is empty.
     pub ring: VecDeque<Option<Seat>>,
-    /// The octets that the objects in the ring take: of a stream, its whole buffer.
+    /// The octets that the objects in the ring count for, by `room_of`.
     pub taken: u64,
     /// How many hand-ups may still come of the objects in the ring: the sum of their seats' `waiting`.
-    // `ups` has room for this many beside what it holds. If it were less, a hand-up could find no room.
+    // `ups` has room for this many beside what it holds.
     pub waiting: usize,
     /// The hand-ups that were not taken yet, in transport order.
     pub ups: VecDeque<Up>,
@@ -102,7 +102,7 @@ impl Front {
         Ok(())
     }
 
-    /// Puts an object into its free slot, and counts its octets and its hand-ups, for which there is room. It takes no memory.
+    /// Puts an object into its free slot, and counts its octets and its hand-ups. It takes no memory.
     pub fn seat(&mut self, place: usize, seat: Seat, octets: u64)
         requires front { IsFront self.old }
         requires room { HasRoom seat.waiting self.old }
@@ -160,7 +160,7 @@ impl Front {
         }
     }
 
-    /// Returns what a block lacks that was not handed up whole: `Unseen` if its object was not taken up.
+    /// Returns what a block lacks: `Unseen` if its object was not taken up.
     pub fn missing(&self, index: u32, block: u32) -> Missing
         requires front { IsFront self.now }
         requires reached { point_before (point_at index block) (point_of (point_of_front self.now)) ≡ false }
@@ -177,7 +177,7 @@ impl Front {
         Missing::Short { wanted }
     }
 
-    /// Whether a symbol came and was kept, of a block that was not handed up whole. `false` also if its object was not taken up.
+    /// Whether a symbol came and was kept. `false` also if its object was not taken up.
     pub fn holds(&self, index: u32, block: u32, symbol: u8) -> bool
         requires front { IsFront self.now }
         requires reached { point_before (point_at index block) (point_of (point_of_front self.now)) ≡ false }
@@ -189,7 +189,7 @@ impl Front {
         }
     }
 
-    /// Keeps a symbol of the object in a slot if it is new. Its block was not handed up whole, and there is room for one more hand-up.
+    /// Keeps a symbol of the object in a slot if it is new.
     ///
     /// # Errors
     ///
@@ -235,7 +235,7 @@ impl Front {
         see_at(&mut self.ring, place, block);
     }
 
-    /// Keeps the info of the object in a slot, which lacks it. It takes no memory.
+    /// Keeps the info of the object in a slot. It takes no memory.
     pub fn put_info(&mut self, place: usize, info: Octets)
         requires front { IsFront self.old }
         requires place { place < 256 }
@@ -270,7 +270,7 @@ impl Front {
         Put::Kept
     }
 
-    /// Keeps a copy of the info of an object if it is new. Returns what [`Hold::put_info`](crate::Hold::put_info) says.
+    /// Does what [`Hold::put_info`](crate::Hold::put_info) does.
     ///
     /// # Errors
     ///
@@ -292,7 +292,7 @@ impl Front {
         Ok(word)
     }
 
-    /// Notes that a block of an object was seen. It changes nothing unless the object is a stream that was taken up, and neither handed up nor lost.
+    /// Notes that a block of an object was seen. Only a stream in the ring keeps it.
     pub fn see_block(&mut self, index: u32, block: u32)
         requires { IsFront self.old }
         ensures sound { IsFront self.new }
@@ -308,7 +308,7 @@ impl Front {
         }
     }
 
-    /// Keeps a symbol of an object if it is new. Returns what [`Hold::put`](crate::Hold::put) says.
+    /// Does what [`Hold::put`](crate::Hold::put) does.
     ///
     /// # Errors
     ///

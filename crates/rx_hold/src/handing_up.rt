@@ -17,7 +17,7 @@ use norm_order::Up;
 use std::collections::VecDeque;
 
 impl Seat {
-    /// Hands up the next segment or the end of a stream if it is there, and gives up the room for `told` hand-ups then.
+    /// Does what [`Entry::hand_on`](crate::entry::Entry::hand_on) does, and gives up the room for `told` hand-ups if it handed up.
     fn hand_on(&mut self, told: usize) -> Option<Up>
         requires { is_stream self.old.entry ≡ true → told ≤ self.old.waiting }
         ensures { HandsOn self.old.entry told result self.old self.new }
@@ -28,7 +28,7 @@ impl Seat {
     }
 }
 
-/// Whether the first slot has a stream. `false` if it is empty.
+/// Whether the first slot has a stream.
 fn is_stream_first(ring: &VecDeque<Option<Seat>>) -> bool
     ensures { result ≡ has_stream (at_place ring.now.items 0) }
 {
@@ -38,7 +38,7 @@ fn is_stream_first(ring: &VecDeque<Option<Seat>>) -> bool
     }
 }
 
-/// Whether the first slot has data or a file that can be handed up: all its blocks are done, and if it has an info, that is held.
+/// Whether the first slot has data or a file that can be handed up.
 fn is_whole_first(ring: &VecDeque<Option<Seat>>) -> bool
     ensures { result ≡ has_whole (at_place ring.now.items 0) }
 {
@@ -60,7 +60,7 @@ fn up_at(place: Option<Seat>) -> Up
     }
 }
 
-/// Returns how many octets the object in a slot takes: of a stream, its whole buffer. 0 if the slot is empty.
+/// Returns how many octets the object in a slot counts for. 0 if the slot is empty.
 pub fn octets_of(profile: &Profile, place: &Option<Seat>) -> u64
     ensures { result ≡ octets_at profile.now place.now }
 {
@@ -80,7 +80,7 @@ pub fn waiting_of(place: &Option<Seat>) -> usize
     }
 }
 
-/// Hands up the next segment or the end of a stream in the first slot if it is there, and gives up the room for `told` hand-ups then.
+/// Hands up the next segment or the end of a stream in the first slot if it is ready. Gives up the room for `told` hand-ups then.
 // Proof: match on &mut ring[0] keeps the arm that writes nothing apart.
 fn hand_on(ring: &mut VecDeque<Option<Seat>>, told: usize) -> Option<Up>
     requires some { 0 < length ring.old.items }
@@ -138,7 +138,7 @@ pub fn push(ups: &mut VecDeque<Up>, up: Up)
     ensures items { ups.new.items ≡ ups.old.items ++ up ∷ [] }
     ensures capacity { deque_capacity ups.new ≡ deque_capacity ups.old }
 {
-    // It does not fail: room was taken for every hand-up that may come of what is held, as it was kept.
+    // It does not fail: room was taken for each hand-up that may come of what is held, and `squelch` took it for each loss.
     ups.push_back(up).unwrap();
 }
 
@@ -164,7 +164,7 @@ impl Front {
         self.first_block() == 0 && self.first_symbol() == 0
     }
 
-    /// Moves the hand-up point to the next object, and returns what was in the first slot. Its octets, and the room for its hand-ups, are free then.
+    /// Moves the hand-up point to the next object, and returns what was in the first slot. Its octets and hand-ups count no more.
     pub fn pass_first(&mut self) -> Option<Seat>
         requires places { 0 < length self.old.ring.items }
         requires room { length self.old.ring.items ≤ deque_capacity self.old.ring }
@@ -184,7 +184,7 @@ impl Front {
         first
     }
 
-    /// Hands up the first object if it is there and whole. It is no stream. Returns whether it did.
+    /// Hands up the first object if it is there and whole. Returns whether it did.
     fn hand_up_object(&mut self) -> bool
         requires front { IsFront self.old }
         requires object { has_stream (at_place self.old.ring.items 0) ≡ false }
@@ -204,7 +204,8 @@ impl Front {
         true
     }
 
-    /// Hands up the next segment of the first object, a stream, if it is there. With its end, goes on to the next object. Returns whether it did.
+    /// Hands up the next segment of the first object, a stream, if it is ready. With its end, goes on to the next object. Returns whether
+    /// it handed up.
     fn hand_up_stream(&mut self) -> bool
         requires front { IsFront self.old }
         requires stream { has_stream (at_place self.old.ring.items 0) ≡ true }
@@ -231,7 +232,7 @@ impl Front {
         true
     }
 
-    /// Hands up what is next if it is there. Returns whether it did. It takes no memory.
+    /// Hands up what is next if it is ready. Returns whether it did. It takes no memory.
     fn hand_up_first(&mut self) -> bool
         requires { IsFront self.old }
         ensures sound { IsFront self.new }

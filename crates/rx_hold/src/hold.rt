@@ -1,4 +1,4 @@
-//! [`Hold`]: what a receiver holds of objects that it has not handed up yet.
+//! [`Hold`]: what a receiver holds of the sender's objects.
 
 ghost use Rattle.std.specs.Prelude.{ℕ, ◌≡◌, ◌<◌, ◌≤◌, ◌+◌, [], IfOk, IfNone, IfSome, MatchOption, OnErr, is_some, length, not, option_map, false, ⊤};
 ghost use Rattle.fec_plan.specs.Partition.{blocks};
@@ -39,21 +39,21 @@ use std::marker::Model;
 // RFC 5740 section 4.2.1: a stream's symbol begins with the eight octets of payload_len, payload_msg_start and payload_offset.
 const SEGMENT_PLACE: usize = 8;
 
-/// What a receiver holds. For each message:
-/// 1. [`fti`](Hold::fti) takes the object up. Without its plan, [`put`](Hold::put) and [`put_info`](Hold::put_info) keep nothing.
-/// 2. [`put`](Hold::put) or [`put_info`](Hold::put_info), and [`see`](Hold::see). If memory runs out in the first, [`untake`](Hold::untake) undoes
-///    an `fti` that returned `Taken`.
-/// 3. [`advance`](Hold::advance). For a squelch, call [`lose_before`](Hold::lose_before) instead of all three.
+/// What a receiver holds. For each INFO or DATA:
+/// 1. [`fti`](Hold::fti) takes the object up, if the message has transmission information. If it returns `Away` or `Unfit`, only
+///    [`see`](Hold::see) follows.
+/// 2. [`put`](Hold::put) or [`put_info`](Hold::put_info), and [`see`](Hold::see). If memory runs out in the first, [`untake`](Hold::untake)
+///    undoes an `fti` that returned `Taken`.
+/// 3. [`advance`](Hold::advance).
 ///
-/// Then call [`next_up`](Hold::next_up) until it returns `None`.
-// What is held of one object has crates of its own (rx_object, rx_stream), so that no check has to bear both.
+/// For a squelch, [`lose_before`](Hold::lose_before). After each, [`next_up`](Hold::next_up) until it returns `None`.
 #[derive(Debug, Drop)]
 pub struct Hold {
     alloc: Global,
     front: Front,
-    /// Solves blocks of data and files, one after another.
+    /// Solves blocks of data and files.
     solver: Solver,
-    /// Solves blocks of streams, whose symbols are longer.
+    /// Solves blocks of streams.
     // Two solvers, because a segment is coded with its header and so has eight octets more than a symbol of data or a file.
     stream_solver: Solver,
 }
@@ -72,7 +72,7 @@ impl Model for Hold {
 }
 
 impl Hold {
-    /// Creates an empty hold. It takes the memory of its 256 slots and of two solvers. Each object takes its own as it is taken up.
+    /// Creates an empty hold. Objects take memory as they are taken up, and may take more as their info and symbols come.
     ///
     /// # Errors
     ///
@@ -103,12 +103,12 @@ impl Hold {
         })
     }
 
-    /// Creates an empty hold of the same profile, for a new instance. Replace this hold by it once nothing can fail any more.
+    /// Creates an empty hold of the same profile, for a new instance.
     ///
     /// # Errors
     ///
     /// `Memory` if memory runs out.
-    // Made before the old one goes: if memory runs out in the message that begins an instance, all must stay as it was.
+    // Made before the old one goes: if memory runs out, all must stay as it was.
     pub fn anew(&self) -> Result<Hold, Memory>
         ensures empty { IfOk result (λ hold. hold ≡ empty_hold self.now.p) }
         ensures begun { IfOk result (λ hold. StandsFor hold holding_nothing) }
@@ -117,8 +117,8 @@ impl Hold {
         Hold::new(self.alloc, &self.front.profile)
     }
 
-    /// Forgets everything, for another instance. It takes no memory.
-    // Only tests call it. It is there for programs over this crate: a receiver uses `anew`, to keep the old hold if memory runs out.
+    /// Forgets everything that is held, for another instance. It takes no memory.
+    // A receiver uses `anew` instead, to keep the old hold if memory runs out.
     pub fn clear(&mut self)
         ensures empty { self.new ≡ empty_hold self.old.p }
         ensures begun { StandsFor self.new holding_nothing }
@@ -154,7 +154,7 @@ impl Hold {
         self.front.plan(index)
     }
 
-    /// Returns the flags with which an object was taken up. `None` if it was not. Those of later messages are not kept.
+    /// Returns the flags with which an object was taken up. `None` if it was not.
     pub fn flags(&self, index: u32) -> Option<u8>
         requires { self.now.point.index ≤ index }
         ensures exact { result ≡ flags_in self.now index }
@@ -171,7 +171,7 @@ impl Hold {
         self.front.has_info(index)
     }
 
-    /// Whether a symbol came and was kept, at or after the block of the hand-up point. A symbol that was decoded did not come.
+    /// Whether a symbol came and was kept. A symbol that was decoded did not come.
     pub fn holds(&self, at: Position) -> bool
         requires { point_before (point_of at) (point_of self.now.point) ≡ false }
         ensures { (s : Holding) → StandsFor self.now s → result ≡ holds s at }
@@ -179,8 +179,7 @@ impl Hold {
         self.front.holds(at.index, at.block, at.symbol)
     }
 
-    /// Returns what a block lacks: `Unseen` if its object was not taken up. The block is at or after that of the hand-up point, and within the object
-    /// if that has a plan.
+    /// Returns what a block lacks: `Unseen` if its object was not taken up.
     pub fn missing(&self, index: u32, block: u32) -> Missing
         requires reached { point_before (point_at index block) (point_of self.now.point) ≡ false }
         requires block { MatchOption (plan_in self.now index) ⊤ (λ cut. block < blocks cut) }
@@ -189,7 +188,7 @@ impl Hold {
         self.front.missing(index, block)
     }
 
-    /// Returns the first block of an object that lacks symbols. `None` if it has no plan, or all its blocks are done. It takes constant time.
+    /// Returns the first incomplete block of an object. `None` if it has no plan, or all its blocks are done. It takes constant time.
     pub fn first_short(&self, index: u32) -> Option<u32>
         requires { self.now.point.index ≤ index }
         ensures exact { (s : Holding) → StandsFor self.now s → result ≡ first_short_at s index }
@@ -212,7 +211,7 @@ impl Hold {
         self.front.next_short(index, block)
     }
 
-    /// Returns the greatest block that was seen of a stream. `None` if this index has no stream.
+    /// Returns the greatest block that was seen of a stream, 0 if none was. `None` if this index has no stream.
     pub fn seen(&self, index: u32) -> Option<u32>
         requires { self.now.point.index ≤ index }
         ensures { (s : Holding) → StandsFor self.now s → result ≡ seen_at s index }
@@ -220,8 +219,8 @@ impl Hold {
         self.front.seen(index)
     }
 
-    /// Returns the position of a stream's end, if the end is held or its block is done. `None` otherwise, and if this index has no stream. It
-    /// looks at each block that the stream has room for, but a block without symbols costs little.
+    /// Returns the position of a stream's end, if the end is held or its block is done. `None` otherwise, and if this index has no stream.
+    /// It looks at the stream's blocks one by one.
     pub fn end(&self, index: u32) -> Option<PayloadId>
         requires { self.now.point.index ≤ index }
         ensures { (s : Holding) → StandsFor self.now s → option_map (λ (id : Name). position index id.block id.symbol) result ≡ end_at self.now.p s index }
@@ -229,21 +228,21 @@ impl Hold {
         self.front.end(index)
     }
 
-    /// Whether an object, or the rest of a stream, was lost since the hold was made or cleared. A receiver makes one for each instance.
+    /// Whether an object, or the rest of a stream, was lost since the hold was made or cleared.
     pub fn has_lost(&self) -> bool
         ensures { (s : Holding) → StandsFor self.now s → lost_nothing s ≡ not result }
     {
         self.front.lost
     }
 
-    /// Returns how many hand-ups [`next_up`](Hold::next_up) still returns before `None`. It takes constant time.
+    /// Returns how many hand-ups [`next_up`](Hold::next_up) would return now before `None`.
     pub fn ups(&self) -> usize
         ensures { result ≡ length self.now.ups }
     {
         self.front.ups.len()
     }
 
-    /// Notes that a block was seen, whether or not its symbol was kept. A stream keeps the greatest block, and other objects keep nothing.
+    /// Notes that a block was seen, whether or not its symbol was kept. Only a stream keeps it, if it is the greatest.
     pub fn see(&mut self, at: Point)
         ensures profile { self.new.p ≡ self.old.p }
         ensures state { (s : Holding) → StandsFor self.old s → StandsFor self.new (sees_block at s) }
@@ -251,7 +250,7 @@ impl Hold {
         self.front.see_block(at.index, at.block);
     }
 
-    /// Takes the next hand-up, in transport order. `None` if all were taken; then nothing changes. It takes no memory.
+    /// Takes the next hand-up, in transport order. `None` if all were taken. It takes no memory.
     pub fn next_up(&mut self) -> Option<Up>
         ensures profile { self.new.p ≡ self.old.p }
         ensures none { IfNone result ((self.old.ups ≡ []) × (self.new ≡ self.old)) }
@@ -262,7 +261,7 @@ impl Hold {
         self.front.ups.pop_front()
     }
 
-    /// Keeps a symbol of an object if it is new. Call [`advance`](Hold::advance) to hand up what it completed.
+    /// Keeps a symbol of an object if it is new.
     ///
     /// Returns the first result that applies:
     /// - `Had` if the object was handed up or lost, the symbol is held, or its block is done or was handed up.
@@ -290,11 +289,12 @@ impl Hold {
     }
 
     /// Takes an object up if its transmission information and flags fit and are new. Data and files take all the memory that their symbols
-    /// need. A stream takes that of its empty blocks and what it needs to hand up one block, and more for each symbol as it comes.
+    /// need; a stream takes more as symbols come.
     ///
     /// Returns the first result that applies:
     /// - `Known` if the object has this plan already, or was handed up or lost. The length of a stream is not compared.
-    /// - `Away` if it is 256 objects or more ahead, or is new and there is no room for its octets. A stream counts with its whole buffer.
+    /// - `Away` if it is 256 objects or more ahead, or is new and there is no room for its octets. A stream counts for
+    ///   `blocks` * `b` * `e` octets.
     /// - `Unfit` if the plan is refused, differs from the known one, or is not of the profile.
     /// - `Taken`.
     ///
@@ -313,7 +313,7 @@ impl Hold {
         self.front.fti(self.alloc, index, fti, flags)
     }
 
-    /// Undoes the last [`fti`](Hold::fti), which returned `Taken`. Nothing of the object was put or seen since.
+    /// Undoes an [`fti`](Hold::fti) that returned `Taken`. Nothing of the object was put or seen since.
     pub fn untake(&mut self, index: u32)
         requires { IsUnused self.old index }
         ensures profile { self.new.p ≡ self.old.p }
@@ -342,8 +342,7 @@ impl Hold {
         self.front.keep_info(self.alloc, index, info)
     }
 
-    /// Hands up everything that is ready, in order: each whole object of data or a file, and of a stream its open, each next segment, and its
-    /// end. It takes no memory.
+    /// Hands up everything that is ready, in order. It takes no memory.
     pub fn advance(&mut self)
         ensures profile { self.new.p ≡ self.old.p }
         ensures state { (s : Holding) → StandsFor self.old s → StandsFor self.new (handed_up self.old.p s) }
@@ -352,11 +351,10 @@ impl Hold {
         self.front.advance();
     }
 
-    /// Gives up what is missing before the sender's window, which begins at this block. It hands up what is ready of each earlier object, and
-    /// reports the object as lost if anything is left. If the window begins within a stream whose next segment is missing and was dropped,
-    /// the rest of the stream is lost too. An object without a plan counts as such a stream if `block` is above 0.
-    ///
-    /// All memory for the hand-ups is reserved first.
+    /// Gives up what is missing before the sender's window, which begins at this block. It hands up what is ready of each earlier object,
+    /// and reports the object as lost if anything is left. If the window begins within a stream whose next segment is missing and was
+    /// dropped, the rest of the stream is lost too. An object without a plan counts as such a stream if `block` is above 0. Last, it hands
+    /// up everything that is ready from there on.
     ///
     /// # Errors
     ///

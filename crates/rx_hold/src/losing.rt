@@ -41,11 +41,11 @@ impl Front {
         let index = self.point;
         drop(self.pass_first());
         push(&mut self.ups, Up::Lost { index });
-        // For good: from here on this receiver confirms nothing of the instance, since an acknowledgement says that all was handed up.
+        // For good: an acknowledgement says that everything was handed up, so no later flush of the instance gets one.
         self.lost = true;
     }
 
-    /// Hands up what is ready of the objects before an index, in order, and loses what is left of each. It takes no memory.
+    /// Hands up what is ready of the objects before an index, and loses what is left of each. Then hands up what is ready from there on.
     fn lose_all_before(&mut self, index: u32)
         requires front { IsFront self.old }
         requires room { HasRoom (index - self.old.point + 1) self.old }
@@ -74,7 +74,7 @@ impl Front {
         self.point == index && cut
     }
 
-    /// Gives up what is missing before the sender's window, which begins at this block. It takes no memory: [`squelch`](Front::squelch) reserved it.
+    /// Does what [`squelch`](Front::squelch) does, after that reserved the memory.
     pub fn lose_before(&mut self, index: u32, block: u32)
         requires front { IsFront self.old }
         requires room { HasRoom (index - self.old.point + 1) self.old }
@@ -92,7 +92,7 @@ impl Front {
         }
     }
 
-    /// Gives up what is missing before the sender's window, which begins at this block. All memory for the hand-ups is reserved first.
+    /// Gives up what is missing before the sender's window, as [`Hold::lose_before`](crate::Hold::lose_before) says.
     ///
     /// # Errors
     ///
@@ -107,7 +107,7 @@ impl Front {
         ensures settled { IfOk result (λ _. IsSettled (front_view self.new)) }
         ensures refused { OnErr result (front_view self.new ≡ front_view self.old) }
     {
-        // Each object before the index may be lost, with one hand-up each, and one more in which the window begins. After this nothing can fail.
+        // Each object before the index may be lost, with one hand-up each, and one more in which the window begins.
         let gap = index.saturating_sub(self.point) as usize;
         self.reserve(gap + 1)?;
         self.lose_before(index, block);

@@ -1,5 +1,4 @@
-//! What a receiver asks its hold in order to say what it needs (RFC 5740 section 5.3): the first incomplete block, how far a stream was seen,
-//! and its end.
+//! What a receiver may need (RFC 5740 section 5.3): an object's incomplete blocks, how far a stream was seen, and its end.
 
 ghost use Rattle.std.specs.Prelude.{◌≡◌, ◌≤◌, ◌<◌, ◌+◌, IfSome, false, option_map};
 ghost use Rattle.fec_plan.specs.Payload.{Name};
@@ -17,7 +16,7 @@ use crate::ring::entry_at;
 use fec_plan::PayloadId;
 
 impl Front {
-    /// Returns the first block of an object that lacks symbols. `None` if it has no plan, or all its blocks are done.
+    /// Does what [`Hold::first_short`](crate::Hold::first_short) does.
     pub fn first_short(&self, index: u32) -> Option<u32>
         requires front { IsFront self.now }
         requires reached { self.now.point ≤ index }
@@ -32,7 +31,7 @@ impl Front {
         }
     }
 
-    /// Returns the next incomplete block of an object after this one. `None` if all later blocks are done.
+    /// Does what [`Hold::next_short`](crate::Hold::next_short) does.
     pub fn next_short(&self, index: u32, block: u32) -> Option<u32>
         requires front { IsFront self.now }
         requires reached { self.now.point ≤ index }
@@ -48,7 +47,7 @@ impl Front {
         }
     }
 
-    /// Returns the greatest block that was seen of a stream. `None` if this index has no stream.
+    /// Does what [`Hold::seen`](crate::Hold::seen) does.
     pub fn seen(&self, index: u32) -> Option<u32>
         requires front { IsFront self.now }
         requires reached { self.now.point ≤ index }
@@ -60,7 +59,7 @@ impl Front {
         }
     }
 
-    /// Returns the position of a stream's end, if the end is held or its block is done. `None` otherwise, and if this index has no stream.
+    /// Does what [`Hold::end`](crate::Hold::end) does.
     pub fn end(&self, index: u32) -> Option<PayloadId>
         requires front { IsFront self.now }
         requires reached { self.now.point ≤ index }

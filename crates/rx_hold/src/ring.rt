@@ -13,21 +13,22 @@ use norm_receive_rules::Put;
 use rs_block::Solver;
 use std::collections::VecDeque;
 
-/// How many objects are taken up from the hand-up point on.
-// As many as a sender's window may have (key `window`, up to 256). An object further ahead gets `Away`, and is asked for again later.
+/// The most objects that are taken up from the hand-up point on.
+// As many as a sender's window may have (key `window`, up to 256). An object farther ahead gets `Away`.
 pub const PLACES: usize = 256;
 
 /// An object in its slot, with a count of the hand-ups that may still come of it.
-// `waiting` counts one hand-up for each symbol of a stream that was kept, and two for its open and its loss, less those that were handed up. Data
-// and files take two with the object. That much room is there before a symbol is kept; if it were not, handing up could fail for lack of memory.
+// `waiting` counts one hand-up for each symbol of a stream that was kept, and two for its open and its loss, less those that were handed
+// up. Data and files take two with the object. With less room, handing up could fail for lack of memory.
 #[derive(Debug, Drop)]
 pub struct Seat {
     pub entry: Entry,
-    /// How many hand-ups of it have room reserved.
+    /// How many further hand-ups of it have room reserved.
     pub waiting: usize,
 }
 
-/// Returns the object with an index at or after the hand-up point `point`. `None` if its slot is empty, or if it is too far ahead to have one.
+/// Returns the object with this index. `None` if its slot is empty, or if it is too far ahead to have one. `point` is the index at the
+/// hand-up point.
 pub fn entry_at(ring: &VecDeque<Option<Seat>>, point: u32, index: u32) -> Option<&Entry>
     requires { point ≤ index }
     ensures { option_copied result ≡ option_map (λ seat. seat.entry) (at_place ring.now.items (index - point)) }
@@ -38,7 +39,7 @@ pub fn entry_at(ring: &VecDeque<Option<Seat>>, point: u32, index: u32) -> Option
     }
 }
 
-/// Fills an empty ring with 256 empty slots. The ring has room for them.
+/// Fills an empty ring with 256 empty slots.
 pub fn fill(ring: &mut VecDeque<Option<Seat>>)
     requires empty { ring.old.items ≡ [] }
     requires room { 256 ≤ deque_capacity ring.old }
@@ -51,7 +52,7 @@ pub fn fill(ring: &mut VecDeque<Option<Seat>>)
     }
 }
 
-/// Whether a slot has a stream. `false` if it is empty, or if the ring has no such slot.
+/// Whether a slot has a stream. `false` also if the ring has no such slot.
 pub fn is_stream_at(ring: &VecDeque<Option<Seat>>, place: usize) -> bool
     ensures { result ≡ stream_at (at_place ring.now.items place) }
 {
@@ -61,8 +62,7 @@ pub fn is_stream_at(ring: &VecDeque<Option<Seat>>, place: usize) -> bool
     }
 }
 
-/// Returns how many further hand-ups a symbol may cause, by what became of it: one if a stream kept it, otherwise none. Data and files are
-/// handed up once in all, which was counted when they were taken up.
+/// Returns how many further hand-ups a symbol may cause, by what became of it: one if a stream kept it, otherwise none.
 pub fn counted(is_stream: bool, word: Put) -> usize
     ensures { result ≡ counted is_stream word }
 {

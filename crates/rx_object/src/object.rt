@@ -164,7 +164,7 @@ impl Object {
         self.rows.plan
     }
 
-    /// Whether the info is held. `false` also if the object has none.
+    /// Whether the info is held.
     pub fn has_info(&self) -> bool
         ensures { result ≡ is_some self.now.info }
     {

@@ -16,7 +16,7 @@ use symbol_mask::IdMask;
 
 /// A slot for each source symbol of an object, block by block.
 // One buffer for the whole object, made with its plan: a hand-up cuts it to the object's length and gives it away, with no copy and no memory.
-// Source symbols lie in their own slots, so decoding a block writes only the slots that had another symbol.
+// A source symbol lies in its own slot, unless another symbol took that first. Decoding a block writes only the slots with another symbol.
 #[derive(Debug, Drop)]
 pub struct Rows {
     pub plan: Plan,
@@ -25,7 +25,7 @@ pub struct Rows {
     /// The id of the symbol that came into each slot, or [`FREE`]. It stays after the block was decoded.
     pub ids: Vec<u8>,
     /// The ids of the symbols that came of each block, as a set.
-    // The ids of a block twice: `ids` says which symbol lies where, this in one look whether a symbol came, in whatever order they come.
+    // The ids of a block twice: `ids` says which symbol came into which slot, this in one look whether a symbol came, whatever the order.
     pub masks: Vec<IdMask>,
 }
 

@@ -22,9 +22,8 @@ use symbol_mask::IdMask;
 
 /// What is held of a block. [`put`](Block::put) each new symbol while the block lacks some. With the last one that it lacks, the block's
 /// source symbols replace the symbols that came.
-// A symbol buffer for each symbol, in the order of ids: a stream's octets then stand once, and what is held is listed in the order of the rules. A
-// symbol that comes in order costs a comparison with the last id. `ids`, `mask` and `rows` speak of the same symbols; if one went apart, a block
-// would be solved from symbol buffers that are not what their ids say.
+// `ids`, `mask` and, until the block is decoded, `rows` speak of the same symbols. If one went apart, a block could be solved from symbol
+// buffers that are not what their ids say.
 #[derive(Debug, Drop)]
 pub struct Block {
     k: u8,
@@ -33,7 +32,6 @@ pub struct Block {
     /// The ids of the symbols that came, in ascending order.
     ids: Vec<u8>,
     /// The same ids as a set, which tells in constant time whether a symbol came.
-    // The ids twice, because symbols come in any order: the list says what lies where, and this in one look whether a symbol came.
     mask: IdMask,
     /// A symbol buffer for each symbol in `ids`. After the block was decoded, they have its source symbols 0 to k - 1.
     rows: Vec<Row>,
@@ -50,7 +48,7 @@ impl Model for Block {
     ghost invariant = { λ b. BlockKept b.k b.size b.ids.items b.mask b.rows.items };
 }
 
-/// Whether an id is above all of these, as that of a symbol that comes in order is.
+/// Whether an id is above all of these.
 fn is_above_all(ids: &[u8], id: u8) -> bool
     requires { Rises ids.now }
     ensures { result ≡ true → AllByRecursion (λ (x : ℕ). x < id) ids.now }
@@ -61,7 +59,7 @@ fn is_above_all(ids: &[u8], id: u8) -> bool
     ids[ids.len() - 1] < id
 }
 
-/// Returns the index at which to insert an id into ascending ids. It takes constant time for a symbol that comes in order.
+/// Returns the index at which to insert an id into ascending ids.
 fn place_for(ids: &[u8], id: u8) -> usize
     requires { Rises ids.now }
     ensures { IsPlace id ids.now result }
@@ -77,7 +75,7 @@ fn place_for(ids: &[u8], id: u8) -> usize
     ids.len()
 }
 
-/// Returns the index of an id. `None` if that symbol did not come. It visits the ids one by one.
+/// Returns the index of an id. `None` if that symbol did not come.
 fn position_of(ids: &[u8], id: u8) -> Option<usize>
     ensures { MatchOption result
         (EachIndex ids.now (λ i. slice_index ids.now i ≢ id))
@@ -121,7 +119,7 @@ fn are_own(ids: &[u8]) -> bool
     if ids.is_empty() {
         return true;
     }
-    // The ids rise, so that the last one says it of all.
+    // The ids rise, so the last one says it of all.
     let last = ids.len() - 1;
     usize::from(ids[last]) == last
 }
@@ -143,7 +141,7 @@ fn settle(k: u8, ids: &[u8], rows: &mut [Row], solver: &mut Solver)
     if ids.len() < usize::from(k) {
         return;
     }
-    // Without a loss all source symbols came, and nothing has to be computed: the usual case.
+    // If all source symbols came, nothing has to be computed: the usual case.
     if are_own(ids) {
         return;
     }
@@ -169,7 +167,7 @@ impl Block {
         }
     }
 
-    /// Whether a symbol came. It takes constant time. A symbol that was decoded did not come.
+    /// Whether a symbol came. A symbol that was decoded did not come.
     pub fn has(&self, id: u8) -> bool
         ensures { result ≡ has_id self.now id }
     {
@@ -184,8 +182,7 @@ impl Block {
         self.k - self.ids.len() as u8
     }
 
-    /// Adds a new symbol to a block that lacks some, and decodes the block if that was the last one. It takes memory for the symbol and for its place
-    /// in the lists, and none for decoding.
+    /// Adds a new symbol to a block that lacks some, and decodes the block if that was the last one. Decoding takes no memory.
     ///
     /// # Errors
     ///
@@ -224,7 +221,7 @@ impl Block {
         }
     }
 
-    /// Whether a source symbol is there, and is a segment without octets. `most` is the most octets of a segment.
+    /// Whether a source symbol is there, and is a segment without octets.
     fn is_end(&self, most: u16, symbol: u8) -> bool
         requires symbol { symbol < self.now.k }
         requires most { self.now.size ≡ most + 8 }
@@ -236,13 +233,12 @@ impl Block {
         }
     }
 
-    /// Returns the first source symbol that is there and is a segment without octets. `most` is the most octets of a segment. It takes
-    /// constant time if the block is empty.
+    /// Returns the first source symbol that is there and is a segment without octets. `most` is the most octets of a segment.
     pub fn end(&self, most: u16) -> Option<u8>
         requires { self.now.size ≡ most + 8 }
         ensures { result ≡ end_in_block most self.now }
     {
-        // Many blocks of a ring may be empty, and `end` of a stream asks all of them.
+        // Many blocks of a ring may be empty.
         if self.ids.is_empty() {
             return None;
         }

@@ -9,7 +9,8 @@ ghost use Rattle.rx_stream.specs.SameBlock.{SameBlock};
 use rs_block::{Row, Solver};
 
 /// Moves the symbol in symbol buffer `from` to its own one if it is a source symbol, and the symbol that is there to `from`.
-// Proof: each symbol still lies in some buffer with its id, so the codeword is the same. It is said for all k and sizes, so the loop takes none.
+// Proof: each symbol still lies in some buffer with its id, so the codeword is the same. It is said for all k and sizes, so the loop takes
+// none.
 fn move_home(ids: &mut [u8], rows: &mut [Row], from: usize)
     requires within { from < length ids.old }
     requires count { length rows.old ≡ length ids.old }
@@ -24,7 +25,7 @@ fn move_home(ids: &mut [u8], rows: &mut [Row], from: usize)
     rows.swap(from, place);
 }
 
-/// Moves each source symbol to its own symbol buffer, if the ids rise. It begins at the last one, so that none is moved away again.
+/// Moves each source symbol to its own symbol buffer, if the ids rise. Begins at the last one, so that none is moved away again.
 fn move_all_home(ids: &mut [u8], rows: &mut [Row])
     requires { length rows.old ≡ length ids.old }
     ensures { (k size : ℕ) → k ≤ 255 → AreIds k 255 ids.old → AreSymbols k size rows.old
@@ -36,8 +37,8 @@ fn move_all_home(ids: &mut [u8], rows: &mut [Row])
     }
 }
 
-/// Replaces the k symbols of a block by its source symbols, in order. `ids` are the ids of the k symbols. It takes no memory. If the
-/// ids rise, it computes only those source symbols that did not come.
+/// Replaces the k symbols of a block, which have these ids, by its source symbols, in order. It takes no memory. If the ids rise, it
+/// computes only those source symbols that did not come.
 pub fn solve(solver: &mut Solver, ids: &[u8], rows: &mut [Row])
     requires some { 1 ≤ solver.old.k }
     requires few { solver.old.k ≤ 255 }
@@ -47,8 +48,7 @@ pub fn solve(solver: &mut Solver, ids: &[u8], rows: &mut [Row])
     ensures elements { AllByRecursion AreElements rows.new }
     ensures same { solver.new ≡ solver.old }
 {
-    // The block's own list of ids stays as it is: it says which symbols came, also after they were solved. On the stack, so that it takes no
-    // memory: a block has at most 255 symbols.
+    // The block's own list of ids stays as it is: it says which symbols came. On the stack, so that it takes no memory.
     let mut room = [0; 255];
     let moved = &mut room[..ids.len()];
     moved.copy_from_slice(ids);

@@ -25,12 +25,12 @@ pub fn coded_row(alloc: Global, payload: &[u8], size: usize) -> Result<Row, Memo
     Ok(Row::of(octets))
 }
 
-/// Returns how many octets of data a coded segment has: as many as it says, and at most `most`.
+/// Returns how many octets of data a coded segment says it has, at most `most`.
 pub fn segment_len(row: &Row, most: u16) -> u16
     requires { 8 ≤ length row.now }
     ensures { result ≡ min (number 2 0 row.now) most }
 {
-    // A segment that was solved from false symbols may say any length. None reaches past its symbol buffer whatever it says.
+    // A segment that was solved from false symbols may say any length.
     read_16(row.octets(), 0).min(most)
 }
 
@@ -48,7 +48,7 @@ pub fn segment_of(row: Row, len: usize) -> Octets
     ensures { result ≡ take len (drop 8 row) }
 {
     let mut octets = row.into_inner();
-    // Within the memory of the symbol buffer, so that a hand-up takes none.
+    // In the symbol buffer, so that a hand-up takes no memory.
     octets.copy_within(PLACE..PLACE + len, 0);
     first_octets(octets, len)
 }

@@ -55,10 +55,9 @@ pub struct Stream {
     symbol: u8,
     /// The blocks from `first` on, as many as there is room for. Those of which nothing came are empty.
     ring: VecDeque<Block>,
-    /// Symbol buffers for handing up the first block, one for each segment of it that is left. After a block was handed up, its own ones serve for
-    /// the next block.
+    /// Symbol buffers for handing up the first block, one for each segment of it that is left.
     spares: Vec<Row>,
-    /// Which blocks of the ring are incomplete. It tells the first and the next one in constant time.
+    /// Which blocks of the ring are incomplete.
     shorts: Shorts,
 }
 
@@ -94,7 +93,7 @@ fn fits(plan: &Plan, block: u32, symbol: u8, payload: &[u8]) -> bool
     ensures block { result ≡ true → block < 16777216 }
     ensures sent { result ≡ true → IsSent plan.now.b (plan.now.e + 8) symbol payload.now }
 {
-    // No datagram names such a block: an id has 24 bits for it. But a caller may, and the plan speaks of the blocks below alone.
+    // No datagram names such a block: an id has 24 bits for it. But a caller may.
     if block >= MOST_BLOCKS {
         return false;
     }
@@ -107,7 +106,7 @@ fn fits(plan: &Plan, block: u32, symbol: u8, payload: &[u8]) -> bool
     payload.len() == usize::from(plan.e()) + PLACE
 }
 
-/// Fills a ring that has room for them with `room` empty blocks.
+/// Fills an empty ring with `room` empty blocks.
 fn fill(alloc: Global, k: u8, size: usize, ring: &mut VecDeque<Block>, room: usize)
     requires empty { ring.old.items ≡ [] }
     requires room { room ≤ deque_capacity ring.old }
@@ -140,7 +139,7 @@ fn put_at(
     ring[place].put(alloc, symbol, payload, solver)
 }
 
-/// Notes that a symbol came for the block in a slot, which was incomplete: settles the block if it is done now.
+/// Notes that a symbol came for the block in a slot: settles the block if it is done now.
 fn note(ring: &VecDeque<Block>, place: usize, shorts: &mut Shorts, block: u32)
     requires place { place < length ring.now.items }
     requires reached { shorts.old.start ≤ block }
@@ -153,8 +152,8 @@ fn note(ring: &VecDeque<Block>, place: usize, shorts: &mut Shorts, block: u32)
     }
 }
 
-/// Returns the block that was found, or the one after the ring if none was, which lacks all its symbols. `None` if the stream has no such
-/// block.
+/// Returns the block that was found, or `behind` if none was: a block after the ring, which lacks all its symbols. `None` if the stream has
+/// no such block.
 fn first_of(found: Option<u32>, behind: u32, blocks: u32) -> Option<u32>
     ensures { result ≡ cond (nat_lt (unwrap_or found behind) blocks) (Some (unwrap_or found behind)) None }
 {
@@ -165,7 +164,7 @@ fn first_of(found: Option<u32>, behind: u32, blocks: u32) -> Option<u32>
     None
 }
 
-/// Returns the block after a ring, for which there is no room yet.
+/// Returns the block after the ring, for which there is no room yet.
 fn behind_ring(first: u32, ring: &VecDeque<Block>) -> u32
     requires named { first ≤ 16777216 }
     requires few { length ring.now.items < 65536 }
@@ -190,8 +189,7 @@ fn is_beyond(ring: &VecDeque<Block>, place: usize) -> bool
     place >= ring.len()
 }
 
-/// Replaces the first block, whose source symbols are all there, by an empty one at the end. Returns the symbol buffers of the first
-/// block.
+/// Removes the first block and appends `block`. Returns the symbol buffers of the first block. It takes no memory.
 // Proof: replace and rotate_left need no room to be shown.
 fn shift(ring: &mut VecDeque<Block>, block: Block) -> Vec<Row>
     requires some { 0 < length ring.old.items }
@@ -205,7 +203,7 @@ fn shift(ring: &mut VecDeque<Block>, block: Block) -> Vec<Row>
     first.into_rows()
 }
 
-/// Returns the first spare symbol buffers of a stream, with zeros.
+/// Returns spare symbol buffers, with zeros.
 fn spare_rows(alloc: Global, count: u8, size: usize) -> Result<Vec<Row>, Memory>
     ensures count { IfOk result (λ rows. length rows.items ≡ count) }
     ensures sizes { IfOk result (λ rows. AllByRecursion (λ (row : List ℕ). length row ≡ size) rows.items) }
@@ -218,7 +216,7 @@ fn spare_rows(alloc: Global, count: u8, size: usize) -> Result<Vec<Row>, Memory>
 }
 
 /// Returns the first `len` octets of a segment's data, copied into one of the spare symbol buffers.
-// An unfinished block needs its own symbol buffer to be solved, so a hand-up goes into a spare one. There are as many spares as segments left.
+// An unfinished block needs its own ones to be solved.
 fn copy_of(row: &Row, spares: &mut Vec<Row>, len: usize) -> Octets
     requires some { 0 < length spares.old.items }
     requires sizes { AllByRecursion (λ (spare : List ℕ). length spare ≡ length row.now) spares.old.items }
@@ -236,8 +234,7 @@ fn copy_of(row: &Row, spares: &mut Vec<Row>, len: usize) -> Octets
 impl Stream {
     ghost use Rattle.rx_stream.specs.StreamState.{StreamState};
 
-    /// Creates a stream of which nothing is held, with room for `room` blocks. It takes the memory of these empty blocks, and that to hand up
-    /// one block.
+    /// Creates a stream of which nothing is held, with room for `room` blocks. Symbols take more memory as they come.
     ///
     /// # Errors
     ///
@@ -282,7 +279,7 @@ impl Stream {
         })
     }
 
-    /// Notes that a block was seen, whether or not its symbol was kept. One before the greatest changes nothing.
+    /// Notes that a block was seen, whether or not its symbol was kept.
     pub fn see(&mut self, block: u32)
         ensures { self.new ≡ record self.old { plan = record (self.old.plan) { seen = max self.old.plan.seen block } } }
     {
@@ -328,7 +325,7 @@ impl Stream {
         self.symbol
     }
 
-    /// Whether the info is held. `false` also if the stream has none.
+    /// Whether the info is held.
     pub fn has_info(&self) -> bool
         ensures { result ≡ is_some self.now.info }
     {
@@ -350,7 +347,7 @@ impl Stream {
         self.info = Some(info);
     }
 
-    /// Whether a symbol came and was kept, of a block from the next segment's on. It takes constant time. A symbol that was decoded did not come.
+    /// Whether a symbol came and was kept. It takes constant time. A symbol that was decoded did not come.
     pub fn holds(&self, block: u32, symbol: u8) -> bool
         requires { self.now.point.block ≤ block }
         ensures { result ≡ holds (alone self.now) (position self.now.plan.index block symbol) }
@@ -362,7 +359,7 @@ impl Stream {
         self.ring[place].has(symbol)
     }
 
-    /// Returns how many more symbols a block needs to be decoded. The block is the next segment's or a later one.
+    /// Returns how many more symbols a block needs to be decoded.
     pub fn lacking(&self, block: u32) -> u8
         requires { self.now.point.block ≤ block }
         ensures { result ≡ lacking (alone self.now) self.now.plan block }
@@ -374,7 +371,7 @@ impl Stream {
         self.ring[place].lacks()
     }
 
-    /// Whether a block has enough symbols to be decoded. It is the next segment's or a later one.
+    /// Whether a block has enough symbols to be decoded.
     fn is_done(&self, block: u32) -> bool
         requires { self.now.point.block ≤ block }
         ensures { result ≡ is_done (alone self.now) self.now.plan block }
@@ -382,8 +379,8 @@ impl Stream {
         self.lacking(block) == 0
     }
 
-    /// Returns the first incomplete block from the next segment's on: the one after the ring if all in it are done. `None` if no message can name
-    /// that one. It takes constant time.
+    /// Returns the first incomplete block from the next segment's on: the one after the ring if all in it are done. `None` if no message
+    /// can name that one. It takes constant time.
     pub fn first_short(&self) -> Option<u32>
         ensures { IsShortFrom (alone self.now) self.now.plan self.now.point.block result }
     {
@@ -392,8 +389,8 @@ impl Stream {
         first_of(self.shorts.first(), behind, blocks)
     }
 
-    /// Returns the next incomplete block after this one, which is incomplete. It goes on after the ring, and ends, as
-    /// [`first_short`](Stream::first_short) does. It takes constant time.
+    /// Returns the next incomplete block after this one. It goes on after the ring, and ends, as [`first_short`](Stream::first_short) does.
+    /// It takes constant time.
     pub fn next_short(&self, block: u32) -> Option<u32>
         requires reached { self.now.point.block ≤ block }
         requires block { block < blocks (cut_of_plan self.now.plan) }
@@ -450,7 +447,7 @@ impl Stream {
         Put::Kept
     }
 
-    /// Keeps a new symbol, and decodes its block if that was the last one that it lacked. If memory runs out nothing changes.
+    /// Keeps a new symbol, and decodes its block if that was the last one that it lacked.
     fn keep(
         &mut self,
         block: u32,
@@ -471,7 +468,7 @@ impl Stream {
         Ok(())
     }
 
-    /// Keeps a symbol if it is new, of a block from the next segment's on. If the block lacks no more symbols then, `solver` decodes it.
+    /// Keeps a symbol if it is new. If its block lacks no more symbols then, `solver` decodes it.
     ///
     /// Returns the first result that applies:
     /// - `Had` if the symbol is held, or its block is done.
@@ -505,8 +502,7 @@ impl Stream {
         Ok(word)
     }
 
-    /// Returns the next segment as it is coded, if it is there, even if the info is not: the eight octets of its header, its data, and zeros up to
-    /// the size of a symbol.
+    /// Returns the next segment as it is coded, if it is there, even if the info is not: its header, its data, and zeros.
     pub fn next(&self) -> Option<&Row>
         ensures coded { IsRow (self.now.plan.fti.e + 8) (next_segment (alone self.now) self.now.plan) (option_copied result) }
         ensures long { IfSome (option_copied result) (λ row. length row ≡ self.now.plan.fti.e + 8) }
@@ -514,7 +510,7 @@ impl Stream {
         self.ring[0].row(self.symbol)
     }
 
-    /// Takes the data of the next segment, and goes on to the segment after it. The block is dropped with its last segment.
+    /// Takes the data of the next segment, and goes on to the segment after it. With its last segment a block leaves the ring.
     fn take_segment(&mut self, len: u16) -> Octets
         requires { MatchOption (next_segment (alone self.old) self.old.plan) ⊥ (λ symbol. len ≡ min (number 2 0 symbol) self.old.plan.fti.e) }
         ensures octets { IfSome (next_segment (alone self.old) self.old.plan) (λ symbol. result ≡ take len (drop 8 symbol)) }
@@ -532,14 +528,14 @@ impl Stream {
         let size = usize::from(self.plan.e()) + PLACE;
         self.symbol = 0;
         self.first += 1;
-        // The symbol buffers of a block that was passed are no longer needed, and there are as many as the next block has segments.
+        // The symbol buffers of the block that leaves are as many as the next block has segments.
         self.spares = shift(&mut self.ring, Block::new(self.alloc, count, size));
         self.shorts.advance();
         bytes
     }
 
     /// Hands up the next segment if it is there, and goes on to the segment after it. If the stream has an info, that must be held too. The
-    /// end, a segment without octets, is handed up as `StreamEnd` and stays the next segment: nothing comes after it. It takes no memory.
+    /// end, a segment without octets, is handed up as `StreamEnd` and stays the next segment. It takes no memory.
     pub fn hand_up(&mut self) -> Option<Up>
         ensures up { (p : Settings) → p.e ≡ self.old.plan.fti.e → result ≡ next_up p self.old }
         ensures state { self.new ≡ handed_on result self.old }
@@ -553,7 +549,7 @@ impl Stream {
             return None;
         };
         let len = segment_len(row, self.plan.e());
-        // The end stays: nothing comes behind it, and whoever holds the stream gives it up with this hand-up.
+        // The end stays: nothing comes after it, and whoever holds the stream drops it with this hand-up.
         if len == 0 {
             return Some(Up::StreamEnd { index });
         }
@@ -566,8 +562,7 @@ impl Stream {
         })
     }
 
-    /// Returns the position of the stream's end, if the end is held or its block is done. It looks at each block of the ring, but a block
-    /// without symbols takes constant time.
+    /// Returns the position of the stream's end, if the end is held or its block is done.
     // Proof: the first of a loop over a range is find over it: this loop goes over blocks, that of Block::end over symbols.
     pub fn end(&self) -> Option<PayloadId>
         ensures { (p : Settings) → p.e ≡ self.now.plan.fti.e

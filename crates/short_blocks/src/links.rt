@@ -1,4 +1,4 @@
-//! The links between short blocks. [`Shorts`](crate::Shorts) keeps one for each block of its window.
+//! The links between short blocks. [`Shorts`](crate::Shorts) keeps one for each block of its window, or none if the window has one block.
 
 ghost use Rattle.std.specs.Prelude.{ℕ, ◌≡◌, ◌<◌, ◌≤◌, ◌+◌, ◌-◌, [], ◌++◌, ◌∷◌, IfOk, IsOk, length, slice_index_or};
 ghost use Rattle.short_blocks.specs.Links.{all_linked};
@@ -27,7 +27,7 @@ fn room_for(count: u32) -> u32
     if count > 1 { count } else { 0 }
 }
 
-/// Returns the links of blocks 0 to `count - 1`, all short.
+/// Returns the links of blocks 0 to `count - 1`, all short. Empty for one block or none.
 ///
 /// # Errors
 ///
@@ -60,7 +60,7 @@ pub(crate) fn link_at(links: &VecDeque<Link>, place: usize, lone: Link) -> Link
 }
 
 /// Links the short block before a span of done ones to the one after it. `run` is the link of the block that is done now. Returns the
-/// window's first short block.
+/// window's new `first`.
 pub(crate) fn join_before(links: &mut VecDeque<Link>, start: u32, first: u32, run: Link) -> u32
     requires room { start < run.done_from → run.done_from - 1 - start < length links.old.items }
     ensures first { start < run.done_from → result ≡ first }
@@ -77,8 +77,8 @@ pub(crate) fn join_before(links: &mut VecDeque<Link>, start: u32, first: u32, ru
     first
 }
 
-/// Links the short block after a span of done ones to the one before it. `run` is the link of the block that is done now. Returns the first
-/// of the done blocks at the window's end.
+/// Links the short block after a span of done ones to the one before it. `run` is the link of the block that is done now. Returns the
+/// window's new `done_from`.
 pub(crate) fn join_behind(
     links: &mut VecDeque<Link>,
     start: u32,

@@ -23,7 +23,7 @@ pub struct Shorts {
     first: u32,
     /// The first of the done blocks at the window's end, or `end` if the last block is short.
     done_from: u32,
-    /// The link of each block, in order. Empty if the window has one block: the fields above say all of it.
+    /// The link of each block, in order. Empty if the window has at most one block: the fields above say all of it.
     links: VecDeque<Link>,
 }
 

@@ -29,10 +29,10 @@ use std::marker::Model;
 
 /// A stream of the window.
 ///
-/// Call [`write`](HeldStream::write) and [`cut`](HeldStream::cut) in any order, and [`close`](HeldStream::close) once after them. Call
+/// Call [`write`](HeldStream::write) and [`cut`](HeldStream::cut) in any order until [`close`](HeldStream::close) succeeds. Call
 /// [`note_sent`](HeldStream::note_sent) after each symbol that was sent. The other calls may come at any time. [`new`](HeldStream::new) takes all
 /// the memory.
-// Beside the buffer and not in it, since it decides itself which blocks go for room. The window says only where the stream stands, what all
+// Beside the buffer and not in it, since it decides itself which blocks go for room. The window says where the stream stands, what all
 // members are listed past, and whether the entries before it may go.
 #[derive(Debug, Drop)]
 pub struct HeldStream {

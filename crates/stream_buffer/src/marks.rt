@@ -13,8 +13,8 @@ use std::marker::Model;
 /// A mark for each of some segments in a row. How many were sent from the first on without a gap is kept.
 ///
 /// Call [`follow`](Marks::follow) after segments were closed or given up, and [`note`](Marks::note) after one was sent.
-// `run` is kept because each write that needs room asks whether the first blocks were sent: a search would pass over thousands of marks. It is
-// exactly the number of set marks at the beginning: a greater one would let a block go that was never sent.
+// `run` is kept because a write that needs room asks whether the first blocks were sent: a search could pass over thousands of marks. It is
+// exactly the number of set marks at the beginning: a greater one could let a block go that was never sent.
 #[derive(Debug, Drop)]
 pub struct Marks {
     sent: VecDeque<bool>,

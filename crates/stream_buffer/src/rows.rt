@@ -1,4 +1,4 @@
-//! A ring of symbol buffers, one for each segment of a stream.
+//! A ring of symbol buffers, for the segments of a stream that were not given up and for the one that fills.
 
 ghost use Rattle.std.specs.Prelude.{[], ◌∷◌, ◌≡◌, ◌<◌, ◌≤◌, ◌+◌, ◌-◌, ◌*◌, ◌%◌, ◌++◌, IfOk, Some, length, replicate, take, drop, slice_get};
 ghost use Rattle.std.specs.List.{concat};
@@ -12,7 +12,8 @@ use norm_base::{Memory, SYMBOL_ROOM};
 use std::alloc::Global;
 use std::marker::Model;
 
-/// The segments of a stream by their numbers, and the one that fills. Each has a symbol buffer: its header of 8 octets, its own octets, and zeros.
+/// The closed segments of a stream that were not given up, by their numbers, and the one that fills. Each has a symbol buffer: its header of
+/// 8 octets, its own octets, and zeros. Header and zeros are put there as it closes.
 ///
 /// [`fill`](Rows::fill) adds octets to the segment that fills, [`seal`](Rows::seal) closes it, and [`give_up`](Rows::give_up) drops the first ones.
 // The segment that fills has no buffer of its own: its octets stand once, in the symbol buffer that is sent and coded.

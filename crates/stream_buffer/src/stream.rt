@@ -27,7 +27,7 @@ use std::marker::Model;
 
 /// The octets of a stream: the segments of its last blocks, the one that fills, and the code of its blocks.
 ///
-/// Call [`write`](StreamBuf::write) and [`cut`](StreamBuf::cut) in any order, and [`close`](StreamBuf::close) once after them. A segment has a
+/// Call [`write`](StreamBuf::write) and [`cut`](StreamBuf::cut) in any order until [`close`](StreamBuf::close) succeeds. A segment has a
 /// symbol once it is closed: when it is full, is cut, or is the end. [`new`](StreamBuf::new) takes all the memory.
 // The open segment has a symbol buffer too, so a cut never needs room that a write did not ask for.
 #[derive(Debug, Drop)]
@@ -205,8 +205,8 @@ impl StreamBuf {
         Ok(())
     }
 
-    /// The blocks before this one have to go if `used` segments are to have room. 0 if 24 bits cannot number their blocks:
-    /// [`make_room`](StreamBuf::make_room) refuses those.
+    /// The blocks before this one have to go if `used` segments are to have room. 0 if none has to, and also if 24 bits cannot number their
+    /// blocks: [`make_room`](StreamBuf::make_room) refuses those.
     fn least(&self, used: u64) -> u32
         ensures { used ≤ 16777216 * self.now.cut.b → result ≡ div_ceil used self.now.cut.b - self.now.blocks }
     {
@@ -217,7 +217,8 @@ impl StreamBuf {
         used.div_ceil(b).saturating_sub(u64::from(self.blocks)) as u32
     }
 
-    /// The blocks before this one have to go if these octets are to have room. The stream must be open, and able to have them.
+    /// The blocks before this one have to go if these octets are to have room. Of an ended stream, or one that cannot have them, it says
+    /// nothing: [`write`](StreamBuf::write) refuses them then.
     pub fn least_for(&self, bytes: &[u8]) -> u32
         ensures { (p : Settings) (parts : List Part) (by : Origin) → StandsFor p parts self.now → has_end parts ≡ false
             → is_spent p (parts ++ Write by bytes.now ∷ []) ≡ false → result ≡ least_kept p (used_segments p (parts ++ Write by bytes.now ∷ [])) }
@@ -227,7 +228,8 @@ impl StreamBuf {
         self.least(used)
     }
 
-    /// The blocks before this one have to go if the end is to have room. The stream must be open, and able to have it.
+    /// The blocks before this one have to go if the end is to have room. Of an ended stream, or one that cannot have it, it says nothing:
+    /// [`close`](StreamBuf::close) refuses then.
     pub fn least_for_end(&self) -> u32
         ensures { (p : Settings) (parts : List Part) → StandsFor p parts self.now → has_end parts ≡ false
             → is_spent p (parts ++ End ∷ []) ≡ false → result ≡ least_kept p (used_segments p (parts ++ End ∷ [])) }
@@ -265,7 +267,7 @@ impl StreamBuf {
         if bytes.len() as u64 > u64::from(u32::MAX - offset) {
             return Err(StreamFault::Spent { octets: offset });
         }
-        // A segment that is not full takes room too: a mark cuts it and may not fail, so the write asks room for it.
+        // A segment that is not full takes room too: a cut may not fail, so the write asks room for it.
         let segments = (self.rows.filled() + bytes.len()).div_ceil(usize::from(self.e));
         let used = (self.rows.closed() + segments) as u64;
         match self.make_room(used, may_go) {

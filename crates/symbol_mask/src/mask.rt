@@ -14,7 +14,7 @@ use std::marker::Model;
 const WORD: usize = 64;
 
 /// A set of numbers below a size. `with_room` takes all its memory. Members come out lowest first, with `take_lowest`.
-// No word before `lowest` has a member. If one had, `take_lowest` would pass it over, and what it stands for would never be sent.
+// No word before `lowest` has a member. If one had, `take_lowest` would pass it over, and what it stands for might never be sent.
 #[derive(Debug, Drop)]
 pub struct Mask {
     size: usize,

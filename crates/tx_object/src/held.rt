@@ -24,7 +24,7 @@ use std::marker::Model;
 /// A data object or a file whose octets lie in the window's ring.
 ///
 /// Call [`note_sent`](Held::note_sent) after a symbol was sent, and [`note_info`](Held::note_info) after the info. [`is_sent`](Held::is_sent) then
-/// tells whether all of it was sent.
+/// tells whether its source symbols and its info were sent.
 // `unsent` is counted because the window asks for it at each object that it wants to drop. It is the number of marks in `sent` that are not set:
 // with any other number an object could go before all of it was sent, or never.
 #[derive(Debug, Drop)]
@@ -131,7 +131,8 @@ impl Held {
         self.plan
     }
 
-    /// The flags of each of its messages (RFC 5740 section 4.2.1): FILE if it is a file, and INFO if it has info.
+    /// The flags that all of its messages have (RFC 5740 section 4.2.1): FILE if it is a file, and INFO if it has info. A repair has others
+    /// too.
     pub fn flags(&self) -> u8
         ensures { (octets : List ℕ) → result ≡ object_flags (Whole self.now.kind self.now.info octets) }
     {

@@ -1,8 +1,4 @@
 //! An entry of the window: an object that lies in the window's ring, or a stream whose first blocks may be gone.
-//!
-//! A window keeps a [`HeldEntry`] for each entry of the order that it did not drop, and asks all of them alike. Outside of this module, only the
-//! count of streams depends on the kind of an entry. [`may_all_go`] asks the first entries. [`write_last`], [`cut_last`] and [`close_last`] go on
-//! with the last one if it is the open stream.
 
 ghost use Rattle.std.specs.Prelude.{ℕ, true, ◌≡◌, ◌+◌, ◌*◌, ◌<◌, ◌≤◌, ◌^◌, List, Option, Some, None, MatchOption, ⊤, length, nat_lt, option_copied, is_some};
 ghost use Rattle.norm_base.specs.Sizes.{datagram_room, symbol_room};
@@ -36,7 +32,7 @@ use stream_buffer::HeldStream;
 use tx_object::{Held, Ring};
 
 /// An entry of the window, with one set of calls for an object and a stream.
-// An enum, because the window keeps both kinds in one list in the transport order: what goes for room is always a prefix of that list.
+// An enum, because the window keeps both kinds in one list in the transport order: the entries that go for room are a prefix of that list.
 #[derive(Debug, Drop)]
 pub enum HeldEntry {
     /// A data object or a file, which lies in the window's ring.
@@ -75,7 +71,7 @@ fn once(plan: &Plan, auto: u8, segments: u64, block: u32) -> u8
     let sources = plan.source_len(block);
     let before = u64::from(block) * u64::from(sources);
     let closed = segments.saturating_sub(before);
-    // A code takes all source symbols of a block, so an open block has no parity yet.
+    // A code takes all source symbols of a block, so an open block has no parity.
     if closed < u64::from(sources) {
         return closed as u8;
     }
@@ -184,7 +180,8 @@ impl HeldEntry {
         }
     }
 
-    /// The flags of each of its messages (RFC 5740 section 4.2.1): FILE if it is a file, INFO if it has info, STREAM if it is a stream.
+    /// The flags that all of its messages have (RFC 5740 section 4.2.1): FILE if it is a file, INFO if it has info, STREAM if it is a
+    /// stream.
     pub fn flags(&self) -> u8
         ensures { (r : EntryReads) → StandsFor r self.now → result ≡ object_flags r.object }
     {
@@ -194,7 +191,7 @@ impl HeldEntry {
         }
     }
 
-    /// Returns the info. That of a file is its name; a stream has none.
+    /// Returns the info, or `None` if it has none. That of a file is its name; a stream has none.
     pub fn info(&self) -> Option<&[u8]>
         ensures exact { (r : EntryReads) → StandsFor r self.now → option_copied result ≡ info_of r.object }
         ensures short { (r : EntryReads) → StandsFor r self.now → MatchOption (option_copied result) ⊤ (λ info. length info ≤ r.p.e) }
@@ -206,7 +203,7 @@ impl HeldEntry {
         }
     }
 
-    /// Whether it has info. A stream has none.
+    /// Whether it has info.
     pub fn has_info(&self) -> bool
         ensures { result ≡ is_some (held_info self.now) }
     {
@@ -256,7 +253,8 @@ impl HeldEntry {
         }
     }
 
-    /// The last closed source symbol after a [`cut`](HeldEntry::cut). The entry has this index, and is not cut by this.
+    /// The last closed source symbol that the entry with this index would have after a [`cut`](HeldEntry::cut). `None` if there would be
+    /// none.
     pub fn last_cut(&self, index: u32) -> Option<Position>
         ensures { (r : EntryReads) (parts : List Part) → StandsFor r self.now → r.object ≡ Stream parts
             → result ≡ last_in index (shape_of r.p (Stream (with_cut r.p.e parts))) }
@@ -315,7 +313,8 @@ impl HeldEntry {
         }
     }
 
-    /// The first kept symbol that is sent by itself, as by [`next_in`](HeldEntry::next_in). The entry has this index. `None` if there is none.
+    /// The first kept symbol of the entry with this index that is sent by itself, as by [`next_in`](HeldEntry::next_in). `None` if there is
+    /// none.
     pub fn first_in(&self, auto: u8, index: u32) -> Option<Position>
         ensures next { (r : EntryReads) → StandsFor r self.now → r.p.auto ≡ auto
             → IsNext r.p (shape_of r.p r.object) (position index (first_of self.now) 0) result }
@@ -334,8 +333,8 @@ impl HeldEntry {
         }
     }
 
-    /// Appends a symbol, and returns how many octets it has. `None` if its block is gone, or if there is no such encoded symbol; then nothing is
-    /// appended. Takes no memory.
+    /// Appends a symbol, and returns how many octets it has. `None` if its block is gone, or if there is no such encoded symbol; then
+    /// nothing is appended.
     pub fn symbol(&self, ring: &Ring, block: u32, symbol: u8, out: &mut Datagram) -> Option<u16>
         requires lies { Lies ring.now self.now }
         requires room { length out.old + symbol_room ≤ datagram_room }
@@ -362,7 +361,7 @@ impl HeldEntry {
         }
     }
 
-    /// Marks the info as sent. For a stream nothing changes, because it has none.
+    /// Marks the info as sent. For a stream nothing changes.
     pub fn note_info(&mut self)
         ensures stays { Stays self.old self.new }
         ensures first { first_of self.new ≡ first_of self.old }

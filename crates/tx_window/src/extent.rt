@@ -1,4 +1,5 @@
-//! How far each entry of the order reaches. This stays after the entry was dropped, so that an acknowledgement of it can be checked.
+//! How far each entry of the order reaches that an id can name. It stays after a drop, so that acknowledgements of the entry can be
+//! checked.
 
 ghost use Rattle.std.specs.Prelude.{◌≡◌, ◌+◌, ◌-◌, ◌<◌, ◌≤◌, ◌++◌, [], ◌∷◌, nat_lt, ◌⊎◌, length, drop};
 ghost use Rattle.std.specs.VecDeque.{deque_capacity};
@@ -13,8 +14,7 @@ use std::collections::VecDeque;
 use tx_object::plan_of;
 
 /// The extents of this many entries are kept, the last ones. No id names an entry before them.
-// RFC 5740 section 4.2.1: an id has 16 bits. It names the last index, one of the 32,768 before it, or a later one (`index_named`). So no
-// acknowledgement can name what is forgotten.
+// RFC 5740 section 4.2.1: an id has 16 bits. It names the last index, one of the 32,768 before it, or a later one (`index_named`).
 const MOST_KEPT: usize = 32_769;
 
 /// How far an entry reaches: how many octets an object has, or how many segments of a stream are closed.
@@ -24,7 +24,7 @@ pub enum Extent {
     Stream { segments: u32 },
 }
 
-/// Whether an object of `len` octets has this source symbol. All of an object's are closed.
+/// Whether an object of `len` octets has this source symbol.
 fn is_of_object(profile: &Profile, len: u32, block: u32, symbol: u8) -> bool
     requires { IsSized (OfObject len) }
     ensures { result ≡ nat_lt symbol (closed_in (shape_of_extent profile.now (OfObject len)) block) }
@@ -69,7 +69,7 @@ pub(crate) fn keep_extent(extents: &mut VecDeque<Extent>, forgotten: u32, extent
     ensures items { extents.new.items ≡ drop (result - forgotten) (extents.old.items ++ extent ∷ []) }
     ensures kept { (result ≡ forgotten) ⊎ ((result ≡ forgotten + 1) × (most_kept ≤ length extents.old.items)) }
 {
-    // It does not fail: `make_room` took the room before anything was dropped.
+    // It does not fail: `make_room` took the room.
     extents.push_back(extent).unwrap();
     if extents.len() <= MOST_KEPT {
         return forgotten;

@@ -15,8 +15,7 @@ pub fn is_there()
     ensures { IsThere }
 {}
 
-/// A state allows one answer to a request for a symbol, with its octets. So a window that answers otherwise, for example with zeros for a symbol that
-/// was dropped, breaks what [`symbol`](crate::Window::symbol) promises.
+/// A state allows one answer to a request for a symbol, with its octets.
 #[tactic(auto, using(crate::proofs::LawLemmas::symbol_is_decided))]
 pub fn symbol_is_decided()
     ensures { SymbolIsDecided }

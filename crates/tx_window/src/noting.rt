@@ -17,8 +17,8 @@ use fec_plan::Position;
 impl Window {
     /// Marks an encoded symbol of a kept block as sent. For parity nothing changes. An entry may go only after all its closed source symbols are
     /// marked.
-    // It does not say that the cut of the entry is sound, as `plan` does and the union's `note_sent`: it would make a plan for each symbol that is
-    // sent.
+    // It does not say that the cut of the entry is sound, as `plan` does and the union's `note_sent`: that would make a plan for each
+    // symbol that is sent.
     pub fn note_sent(&mut self, at: Position)
         requires { IsEncodedIn self.old at }
         ensures stands { WindowMoves self.old self.new (noted (Symbol at)) }

@@ -39,7 +39,7 @@ fn is_stream(entry: &HeldEntry) -> bool
     }
 }
 
-/// How many of the entries are streams. Visits each.
+/// How many of the entries are streams.
 pub(crate) fn count_streams(held: &VecDeque<HeldEntry>) -> u32
     requires { length held.now.items ≤ 4294967295 }
     ensures { (ring : List ℕ) (p : Settings) (first : ℕ) (s : SenderState) (entries : List Entry) → AreEntries ring p first entries s held.now.items
@@ -140,7 +140,7 @@ fn reserve(held: &mut VecDeque<HeldEntry>, extents: &mut VecDeque<Extent>) -> bo
     held.reserve(1).is_ok() && extents.reserve(1).is_ok()
 }
 
-/// Drops the first `count` entries, and frees what memory each has for itself: a stream's buffer, or an object's info and marks. Their extents stay.
+/// Drops the first `count` entries. Their extents stay.
 pub(crate) fn drop_front(held: &mut VecDeque<HeldEntry>, count: usize)
     requires { count ≤ length held.old.items }
     ensures items { held.new.items ≡ drop count held.old.items }
@@ -149,8 +149,8 @@ pub(crate) fn drop_front(held: &mut VecDeque<HeldEntry>, count: usize)
     held.drain(..count);
 }
 
-/// Makes room for an entry of `len` octets: takes the memory for it, and then drops the entries that have to go. Returns how many went, and how
-/// many octets the others take. `None` if memory ran out; then none went.
+/// Makes room for an entry of `len` octets: takes the memory by which the lists grow, and then drops the entries that have to go. Returns
+/// how many went, and how many octets the others take. `None` if memory ran out; then none went.
 pub(crate) fn make_room(
     profile: &Profile,
     held: &mut VecDeque<HeldEntry>,
@@ -242,7 +242,7 @@ impl Window {
         may_all_go(&self.held, &self.profile, self.dropped, &self.past, count)
     }
 
-    /// Why no entry of `len` octets may join the order now: the first fault that applies. The caller has checked its sizes.
+    /// Why no entry of `len` octets may join the order now: the first fault that applies.
     fn joining_fault(&self, len: u32) -> Option<EnqueueFault>
         requires begun { self.now.filling ≡ None }
         requires len { len ≤ self.now.p.octets }
@@ -265,7 +265,7 @@ impl Window {
 
     /// Why an object of `len` octets with `info` octets of info would be refused now: the first fault that applies. Does not ask whether memory
     /// suffices.
-    // By sizes alone: a command that waits is offered in every turn, and an offer that is refused should cost neither memory nor a look at a
+    // By sizes alone: a command that waits is offered again and again, and a refused offer should cost neither memory nor a look at a
     // symbol.
     pub fn object_fault(&self, info: usize, len: u64) -> Option<EnqueueFault>
         requires begun { self.now.filling ≡ None }

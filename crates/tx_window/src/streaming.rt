@@ -43,7 +43,7 @@ fn write_size_fault(profile: &Profile, len: usize) -> Option<EnqueueFault>
     ensures exact { result ≡ write_size_fault profile.now len }
     ensures free { result ≡ None → 1 ≤ len }
 {
-    // One block less than the buffer: so a write that is not refused here fits as soon as older blocks may go, wherever in a block it begins.
+    // One block less than the buffer: so a write that is not refused here has room once older blocks may go, wherever in a block it begins.
     let most = (u64::from(profile.blocks) - 1) * u64::from(profile.b) * u64::from(profile.e);
     let len = len as u64;
     if len == 0 {
@@ -135,7 +135,7 @@ impl Window {
         if first == 0 {
             return index;
         }
-        // Blocks of a stream go only after all entries before it may go, so a stream that lacks a first block is the first entry.
+        // Blocks of a stream go only if all entries before it may go. Those go here.
         drop_front(&mut self.held, place);
         self.dropped = index;
         self.octets = size as u32;
@@ -204,8 +204,7 @@ impl Window {
         last_of(entry.last_cut(self.dropped + place as u32), self.last)
     }
 
-    /// How many segments of the last entry, a stream, are closed, given up or not. 0 if the last entry is an object, or there is none. Those that were
-    /// not given up have room in the stream's ring, and 24 bits number the blocks of all.
+    /// How many segments of the last entry, a stream, are closed, given up or not. 0 if the last entry is an object, or there is none.
     pub fn segments(&self) -> u32
         ensures exact { (s : SenderState) (parts : List Part) → Stands self.now s → EndsIn parts s → result ≡ (shape_of self.now.p (Streamed parts)).closed }
         ensures room { (s : SenderState) (parts : List Part) → Stands self.now s → EndsIn parts s

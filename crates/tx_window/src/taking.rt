@@ -148,7 +148,7 @@ impl Window {
         }
     }
 
-    /// Copies the next octets of the begun object into the window, in pieces of any length. Takes no memory.
+    /// Copies the next octets of the begun object into the window, in pieces of any length.
     pub fn fill(&mut self, piece: &[u8])
         requires { MatchOption self.old.filling ⊥ (λ f. length f.octets + length piece.now ≤ f.len) }
         ensures filling { (f : Filling) → self.old.filling ≡ Some f → self.new.filling ≡ Some (with_piece piece.now f) }
@@ -164,8 +164,7 @@ impl Window {
         self.filled += piece.len();
     }
 
-    /// Adds the begun object to the order, and returns its index. All its octets have to be there. Cannot fail: [`begin`](Window::begin) took the
-    /// memory.
+    /// Adds the begun object to the order, and returns its index. Cannot fail: [`begin`](Window::begin) took the memory.
     pub fn finish(&mut self) -> u32
         requires { MatchOption self.old.filling ⊥ (λ f. length f.octets ≡ f.len) }
         ensures index { (s : SenderState) → Stands self.old s → result ≡ next_index_of s }
@@ -206,7 +205,7 @@ impl Window {
         }
     }
 
-    /// Empties the window for another instance. Takes no memory.
+    /// Empties the window for another instance.
     // The codes stay: each depends on a block's length and the profile alone, which no instance changes.
     pub fn clear(&mut self)
         ensures begun { (id : ℕ) → WindowMoves self.old self.new (begun_anew id) }
@@ -225,14 +224,13 @@ impl Window {
         self.past = None;
     }
 
-    /// Enqueues an object at the end of the order, and returns its index. Drops what has to go for it. Takes all its memory before anything is
-    /// dropped.
+    /// Enqueues an object at the end of the order, and returns its index. Drops what has to go for it.
     ///
     /// # Errors
     ///
     /// The first of `Empty`, `TooBig`, `InfoTooBig`, `StreamOpen`, `IdsSpent` and `WindowFull` that applies, with the info and the octets; or
     /// `Memory` without them. Then the window is as it was.
-    // Only tests call it: a sender makes the steps itself, since a file comes in pieces. It stays for programs over this crate.
+    // Only tests call it: a sender makes the steps itself, since a file may come in pieces. It stays for programs over this crate.
     pub fn enqueue(
         &mut self,
         kind: Kind,

@@ -38,11 +38,12 @@ use tx_object::{Held, Ring};
 /// - A stream: [`open_stream`](Window::open_stream), then [`write`](Window::write) and [`cut`](Window::cut) in any order, and
 ///   [`close_stream`](Window::close_stream) at the end.
 /// - [`note_sent`](Window::note_sent) after a symbol was sent, [`note_info`](Window::note_info) after an info, and
-///   [`note_past`](Window::note_past) after the listings changed. Before that, the window does not know that an entry may go.
+///   [`note_past`](Window::note_past) after the listings changed. Before that, the window may not know that an entry may go.
 ///
-/// Entries are dropped only by calls that need room, the first ones first.
-// Objects lie in the ring one after the other, up to `free`. `octets` is the sum of the sizes of all entries, streams included, and of the object
-// that is being filled. Otherwise a new object could be written over one that may still be repaired.
+/// Entries are dropped only by calls that need room, the first ones first. [`clear`](Window::clear) empties the window for another
+/// instance.
+// Objects lie in the ring one after the other, up to `free`, and `octets` is exact. Otherwise a new object could be written over one that
+// may still be repaired.
 #[derive(Debug, Drop)]
 pub struct Window {
     pub(crate) alloc: Global,
@@ -53,13 +54,13 @@ pub struct Window {
     pub(crate) forgotten: u32,
     /// How far each of the other entries reaches, dropped or not.
     pub(crate) extents: VecDeque<Extent>,
-    /// How many octets all entries of the window take, with the object that is being filled.
+    /// How many octets all entries of the window take, streams included, with the object that is being filled.
     pub(crate) octets: u32,
     /// The offset in the ring of the octet after the objects, with the one that is being filled.
     pub(crate) free: usize,
     /// The object that is being filled. It is no entry yet.
     pub(crate) begun: Option<Held>,
-    /// How many of its octets are there.
+    /// How many of its octets are there. If none is being filled, the number says nothing.
     pub(crate) filled: usize,
     /// How many entries were dropped: the index of the first one in `held`.
     pub(crate) dropped: u32,
@@ -91,7 +92,7 @@ pub struct About {
     pub flags: u8,
 }
 
-/// How many parity symbols of a block are sent by themselves, if it has as many.
+/// How many parity symbols of a closed block are sent by themselves, if it has as many.
 fn auto_of(profile: &Profile) -> u8
     ensures exact { result ≡ profile.now.auto }
     ensures range { InRange profile.now }
@@ -99,7 +100,8 @@ fn auto_of(profile: &Profile) -> u8
     profile.auto
 }
 
-/// The first kept symbol of an entry from `from` on that is sent by itself, with `auto` parity symbols of each closed block. `None` if there is none.
+/// The first kept symbol of an entry from `from` on that is sent by itself, with up to `auto` parity symbols of a closed block. `None` if
+/// there is none.
 fn next_of(entry: &HeldEntry, auto: u8, from: Position) -> Option<Position>
     ensures next { (r : EntryReads) → StandsForEntry r entry.now → r.p.auto ≡ auto → IsNext r.p (shape_of r.p r.object) (later_of from (first_of entry.now)) result }
     ensures id { MatchOption result ⊤ (λ next. next.symbol < 255) }
@@ -121,8 +123,7 @@ fn entry_at(held: &VecDeque<HeldEntry>, dropped: u32, index: u32) -> Option<&Hel
 }
 
 impl Window {
-    /// Returns an empty window. Takes the ring for the octets of all objects, and a list with room for the profile's `window` entries. What else an
-    /// entry needs is taken when it is begun or opened.
+    /// Returns an empty window. Takes the ring for the octets of all objects. What else an entry needs is taken when it is begun or opened.
     ///
     /// # Errors
     ///
@@ -200,8 +201,8 @@ impl Window {
         Some(self.dropped + place as u32)
     }
 
-    /// Appends a symbol, and returns how many octets it has. `None` if it was dropped or not enqueued, or if its entry has no such encoded symbol;
-    /// then nothing is appended. Takes no memory.
+    /// Appends a symbol, and returns how many octets it has. `None` if it was dropped or not enqueued, or if its entry has no such encoded
+    /// symbol; then nothing is appended.
     pub fn symbol(&self, at: Position, out: &mut Datagram) -> Option<u16>
         requires { length out.old + symbol_room ≤ datagram_room }
         ensures { (s : SenderState) → Stands self.now s → AnswersAt self.now.p s at out.old out.new result }
@@ -269,8 +270,7 @@ impl Window {
         }
     }
 
-    /// The first info or kept symbol that is sent by itself, of the entries from this index on. `None` if there is none. Looks at one entry: only an
-    /// open stream without a kept closed segment has nothing, and it is the last entry.
+    /// The first info or kept symbol that is sent by itself, of the entries from this index on. `None` if there is none.
     fn first_new(&self, index: u32) -> Option<Want>
         requires { self.now.dropped ≤ index }
         ensures exact { (s : SenderState) → Stands self.now s → result ≡ next_new self.now.p (next_at index s) }
@@ -301,8 +301,8 @@ impl Window {
         }
     }
 
-    /// The first info or symbol from `from` on that is sent by itself and was not dropped. `None` if there is none. A returned symbol is not the last
-    /// one that an id can name. Looks at the entry of `from`, and at one more if that has nothing left.
+    /// The first info or symbol from `from` on that is sent by itself and was not dropped. `None` if there is none. Looks at two entries at
+    /// most.
     pub fn next_new(&self, from: Want) -> Option<Want>
         ensures exact { (s : SenderState) → Stands self.now s → s.next ≡ from → result ≡ next_new self.now.p s }
         ensures id { MatchOption result ⊤ HasNext }
@@ -324,14 +324,14 @@ impl Window {
         is_closed(&self.profile, extent, at.block, at.symbol)
     }
 
-    /// How many streams are enqueued and not wholly dropped. Visits each entry.
+    /// How many streams are enqueued and not wholly dropped.
     pub fn streams(&self) -> u32
         ensures { (s : SenderState) → Stands self.now s → result ≡ streams s }
     {
         count_streams(&self.held)
     }
 
-    /// How many infos and encoded symbols the window has. All of them may still have to be repaired. Visits each entry.
+    /// How many infos and encoded symbols the window has.
     pub fn repairable(&self) -> u64
         ensures { (s : SenderState) → Stands self.now s → result ≡ repairable self.now.p s }
     {

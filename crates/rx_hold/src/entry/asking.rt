@@ -1,4 +1,4 @@
-//! What an object of either kind needs: its first incomplete block, how far a stream was seen, and its end.
+//! What an object of either kind needs: its incomplete blocks, how far a stream was seen, and its end.
 
 ghost use Rattle.std.specs.Prelude.{◌≡◌, ◌+◌, option_map};
 ghost use Rattle.norm_base.specs.Settings.{Settings};
@@ -12,7 +12,7 @@ use crate::entry::Entry;
 use fec_plan::PayloadId;
 
 impl Entry {
-    /// Returns the first block from the hand-up point on that lacks symbols. `None` if all are done. It takes constant time.
+    /// Returns the first incomplete block from the hand-up point on. `None` if all are done. It takes constant time.
     pub fn first_short(&self) -> Option<u32>
         ensures { IsShortFrom (alone_in (entry_of self.now)) (entry_of self.now).plan (entry_of self.now).point.block result }
     {
@@ -33,7 +33,7 @@ impl Entry {
         }
     }
 
-    /// Returns the greatest block that was seen of a stream. `None` for data and files.
+    /// Returns the greatest block that was seen of a stream, 0 if none was. `None` for data and files.
     pub fn seen(&self) -> Option<u32>
         ensures { result ≡ seen_in self.now }
     {
@@ -43,7 +43,7 @@ impl Entry {
         }
     }
 
-    /// Returns a stream's end, if it is held or its block is done. `None` for data and files. It looks at each block that the stream has room for.
+    /// Returns a stream's end, if it is held or its block is done. `None` otherwise, and for data and files.
     pub fn end(&self) -> Option<PayloadId>
         ensures { (p : Settings) → p.e ≡ (entry_of self.now).plan.fti.e
             → option_map (λ (id : Name). position (entry_of self.now).plan.index id.block id.symbol) result ≡ end_in p self.now }

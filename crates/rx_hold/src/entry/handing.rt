@@ -9,7 +9,7 @@ use crate::entry::Entry;
 use norm_order::Up;
 use rx_stream::Stream;
 
-/// Whether the next segment of a stream is missing. One that only waits for the info is not.
+/// Whether the next segment of a stream is missing. One that waits for the info is not.
 fn lacks_next(stream: &Stream) -> bool
     ensures { result ≡ is_none (next_segment (alone stream.now) stream.now.plan) }
 {
@@ -26,7 +26,7 @@ impl Entry {
         }
     }
 
-    /// Whether this is data or a file, all its blocks are done, and if it has an info, that is held. `false` for a stream.
+    /// Whether this is data or a file, all its blocks are done, and if it has an info, that is held.
     pub fn is_whole(&self) -> bool
         ensures { result ≡ is_whole_object self.now }
     {
@@ -48,8 +48,7 @@ impl Entry {
         }
     }
 
-    /// Whether this is a stream whose next segment is missing and in a block before this one. Data and files are never cut off: a window has them
-    /// whole.
+    /// Whether this is a stream whose next segment is missing and in a block before this one.
     pub fn is_cut_off(&self, block: u32) -> bool
         ensures { result ≡ cut_by_entry block self.now }
     {
@@ -59,7 +58,7 @@ impl Entry {
         }
     }
 
-    /// Hands up the next segment of a stream, or its end. `None` if that is missing, as long as the stream's info is missing, and for data and files.
+    /// Hands up the next segment of a stream, or its end. `None` if that or the stream's info is missing, and for data and files.
     pub fn hand_on(&mut self) -> Option<Up>
         ensures { GoesOn self.old result self.new }
     {

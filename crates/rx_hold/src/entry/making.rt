@@ -1,4 +1,4 @@
-//! Creating an object of either kind: its plan, the octets that it takes, and its empty [`Entry`].
+//! Creating an object of either kind: its plan, the octets that it counts for, and its empty [`Entry`].
 
 ghost use Rattle.std.specs.Prelude.{◌≡◌, ◌<◌, ◌≤◌, ◌^◌, false, IfOk, MatchResult, None, Some};
 ghost use Rattle.fec_plan.specs.Partition.{first_fault};
@@ -24,7 +24,7 @@ pub fn is_stream(flags: u8) -> bool
     has_flag(flags, STREAM)
 }
 
-/// Returns how many octets an object takes: the length of data or a file, or the size of a stream's buffer.
+/// Returns how many octets an object counts for: the length of data or a file, or `blocks` * `b` * `e` for a stream.
 pub fn room_of(profile: &Profile, fti: &Fti, flags: u8) -> u64
     ensures exact { result ≡ room_of profile.now fti.now flags }
     ensures most { result < 2 ^ 48 }
@@ -46,8 +46,8 @@ pub fn plan_by(fti: &Fti, flags: u8) -> Result<Plan, PlanFault>
 }
 
 impl Entry {
-    /// Creates an object of which nothing is held. Data and files take all the memory that their symbols need. A stream takes a ring of
-    /// empty blocks and the memory to hand up one block's segments.
+    /// Creates an object of which nothing is held. Data and files take all the memory that their symbols need. A stream takes more as
+    /// symbols come.
     ///
     /// # Errors
     ///

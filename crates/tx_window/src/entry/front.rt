@@ -41,8 +41,8 @@ pub fn may_all_go(
     true
 }
 
-/// Writes octets, at least one, to the open stream that is the last entry. Returns the offset of the first octet. `first` is the index of the first
-/// entry. Blocks of the stream go for room only if all entries before it may go. Takes no memory.
+/// Writes octets to the open stream that is the last entry. Returns the offset of the first octet. `first` is the index of the first entry.
+/// Blocks of the stream go for room only if all entries before it may go.
 ///
 /// # Errors
 ///
@@ -71,7 +71,7 @@ pub fn write_last(
     held[last].write(profile, first + last as u32, past, before, bytes)
 }
 
-/// Ends the open stream that is the last entry. `first` is the index of the first entry. Blocks go for room as in [`write_last`]. Takes no memory.
+/// Ends the open stream that is the last entry. `first` is the index of the first entry. Blocks go for room as in [`write_last`].
 ///
 /// # Errors
 ///

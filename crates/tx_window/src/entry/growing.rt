@@ -19,7 +19,7 @@ use norm_base::Profile;
 use norm_send_rules::EnqueueFault;
 use stream_buffer::HeldStream;
 
-/// Writes octets to a stream. `NoStream` if it was closed.
+/// Writes octets to a stream. Returns the offset of the first octet. `NoStream` if it was closed, or else why it takes no more.
 fn write_to(
     stream: &mut HeldStream,
     profile: &Profile,
@@ -43,7 +43,7 @@ fn write_to(
     }
 }
 
-/// Ends a stream. `NoStream` if it was closed.
+/// Ends a stream. `NoStream` if it was closed, or else why it takes no end.
 fn close(
     stream: &mut HeldStream,
     profile: &Profile,
@@ -66,8 +66,8 @@ fn close(
 }
 
 impl HeldEntry {
-    /// Writes octets, at least one, to the open stream with this index, the last entry. Returns the offset of the first octet. Blocks go for room
-    /// as in [`HeldStream::write`]. Takes no memory.
+    /// Writes octets to the open stream with this index, the last entry. Returns the offset of the first octet. Blocks go for room as in
+    /// [`HeldStream::write`].
     ///
     /// # Errors
     ///
@@ -93,7 +93,7 @@ impl HeldEntry {
         }
     }
 
-    /// Ends the open stream with this index, the last entry. Blocks go for room as in [`HeldStream::close`]. Takes no memory.
+    /// Ends the open stream with this index, the last entry. Blocks go for room as in [`HeldStream::close`].
     ///
     /// # Errors
     ///

@@ -55,7 +55,7 @@ fn of_stream(stream: &HeldStream) -> u64
 }
 
 impl HeldEntry {
-    /// How many infos and encoded symbols the entry has from its first kept block on. Blocks are counted by their sizes, not one by one.
+    /// How many infos and encoded symbols the entry has from its first kept block on.
     pub fn repairable(&self) -> u64
         ensures exact { (r : EntryReads) → StandsFor r self.now → result ≡ repairable_from (shape_of r.p r.object) (first_of self.now) }
         ensures most { result < 2 ^ 42 }

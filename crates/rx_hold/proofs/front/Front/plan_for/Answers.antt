@@ -11,7 +11,8 @@ use Rattle.rx_hold.proofs.FitLemmas.{cut_e, faulty, fit_away, fit_over, fit_take
 use Rattle.rx_hold.proofs.front.Front.plan_for.Goals as goal
 
 pub returns-then-is_over-clause-word : goal.returns-then-is_over-clause-word
-returns-then-is_over-clause-word c = λ s stands. fit_over c.args.self.now s c.args.index c.args.fti.now c.args.flags c.requires stands (c.is_over.ensures.over c.if-is_over.true)
+returns-then-is_over-clause-word c = λ s stands. fit_over c.args.self.now s c.args.index c.args.fti.now c.args.flags c.requires stands
+    (c.is_over.ensures.over c.if-is_over.true)
 
 pub returns-in-Some-clause-word : goal.returns-in-Some-clause-word
 returns-in-Some-clause-word c = λ s stands.
@@ -19,22 +20,26 @@ returns-in-Some-clause-word c = λ s stands.
     c.known_word.ensures.word
     ∙ ap (λ (g : Fti). if are_same c.args.fti.now c.args.flags g c.flags.result then fit.Known else fit.Unfit) c.fti.ensures
     ∙ ap (λ (n : ℕ). if are_same c.args.fti.now c.args.flags o.plan.fti n then fit.Known else fit.Unfit) c.flags.ensures
-    ∙ fit_there c.args.self.now s c.args.index c.args.fti.now c.args.flags c.requires stands (c.is_over.ensures.ahead c.if-is_over.false) o (sym c.in-Some.ensures)
+    ∙ fit_there c.args.self.now s c.args.index c.args.fti.now c.args.flags c.requires stands
+    (c.is_over.ensures.ahead c.if-is_over.false) o (sym c.in-Some.ensures)
 
 pub returns-then-is_away-clause-word : goal.returns-then-is_away-clause-word
 returns-then-is_away-clause-word c = λ s stands.
-    fit_away c.args.self.now s c.args.index c.args.fti.now c.args.flags c.requires stands (c.is_over.ensures.ahead c.if-is_over.false) (sym c.in_default.ensures) (sym c.is_away.ensures ∙ c.if-is_away.true)
+    fit_away c.args.self.now s c.args.index c.args.fti.now c.args.flags c.requires stands
+    (c.is_over.ensures.ahead c.if-is_over.false) (sym c.in_default.ensures) (sym c.is_away.ensures ∙ c.if-is_away.true)
 
 pub returns-in_default-plan_by-clause-word : goal.returns-in_default-plan_by-clause-word
 returns-in_default-plan_by-clause-word c = λ s stands.
-    fit_unfit c.args.self.now s c.args.index c.args.fti.now c.args.flags c.requires stands (c.is_over.ensures.ahead c.if-is_over.false) (sym c.in_default.ensures) (sym c.is_away.ensures ∙ c.if-is_away.false)
+    fit_unfit c.args.self.now s c.args.index c.args.fti.now c.args.flags c.requires stands
+    (c.is_over.ensures.ahead c.if-is_over.false) (sym c.in_default.ensures) (sym c.is_away.ensures ∙ c.if-is_away.false)
     (faulty (first_fault (cut_by c.args.fti.now c.args.flags)) c.in_default-plan_by.field-0 _ c.in_default-plan_by.ensures)
 
 pub returns-then-not-is_of-clause-word : goal.returns-then-not-is_of-clause-word
 returns-then-not-is_of-clause-word c = λ s stands.
     let f = c.args.self.now in
     let g = c.args.fti.now in
-    fit_unfit f s c.args.index g c.args.flags c.requires stands (c.is_over.ensures.ahead c.if-is_over.false) (sym c.in_default.ensures) (sym c.is_away.ensures ∙ c.if-is_away.false)
+    fit_unfit f s c.args.index g c.args.flags c.requires stands
+    (c.is_over.ensures.ahead c.if-is_over.false) (sym c.in_default.ensures) (sym c.is_away.ensures ∙ c.if-is_away.false)
     (of_other (first_fault (cut_by g c.args.flags)) c.e.result f.profile.e g.e (g.b == f.profile.b) (g.max_n == f.profile.max_n) c.is_of.result c.in-Ok.ensures.0
     (c.e.ensures.exact ∙ ap (λ (cut : Cut). cut.e) c.in-Ok.ensures.1 ∙ cut_e g c.args.flags) c.is_of.ensures c.if-not-is_of.true)
 
@@ -42,7 +47,8 @@ pub returns-clause-word : goal.returns-clause-word
 returns-clause-word c = λ s stands.
     let f = c.args.self.now in
     let g = c.args.fti.now in
-    fit_taken f s c.args.index g c.args.flags c.requires stands (c.is_over.ensures.ahead c.if-is_over.false) (sym c.in_default.ensures) (sym c.is_away.ensures ∙ c.if-is_away.false)
+    fit_taken f s c.args.index g c.args.flags c.requires stands
+    (c.is_over.ensures.ahead c.if-is_over.false) (sym c.in_default.ensures) (sym c.is_away.ensures ∙ c.if-is_away.false)
     (of_own (first_fault (cut_by g c.args.flags)) c.e.result f.profile.e g.e (g.b == f.profile.b) (g.max_n == f.profile.max_n) c.is_of.result c.in-Ok.ensures.0
     (c.e.ensures.exact ∙ ap (λ (cut : Cut). cut.e) c.in-Ok.ensures.1 ∙ cut_e g c.args.flags) c.is_of.ensures c.if-not-is_of.false)
 
