@@ -7,7 +7,7 @@ from __future__ import annotations
 
 from typing import Iterator
 
-NEWS, LASTS = ('past', 'done'), ('end', 'turns', 'absent', 'fault')
+NEWS, LASTS = ('past', 'done'), ('end', 'turns', 'tail', 'absent', 'fault')
 Place = tuple[int, ...]                         # an index, a block and a symbol
 
 
@@ -119,7 +119,7 @@ class Session:
         """What is wrong with a line."""
         words = line.split(' ')
         before, self.last = self.last, words[0]
-        if before in LASTS and (before, words[0]) != ('end', 'turns'):
+        if before in LASTS and (before, words[0]) not in (('end', 'turns'), ('end', 'tail')):
             return f'the journal had ended by {before}'
         if words[0] in NEWS:
             return self.told(words)

@@ -65,7 +65,7 @@ ERRORS = [
     ('a restart forgets who was struck', S, 'Restarting', '  round = None;\n', '  round = None;\n  struck = [];\n', 'strikes'),
     ('a restart leaves watermarks open', S, 'Restarting', 'end_where (λ w. true)', 'end_where (λ w. false)', 'what a restart leaves'),
     ('a restart goes on with the order', S, 'Restarting', 'current = begun id;', 'current = record (s.current) { id = id };', 'what a restart leaves'),
-    ('a restart goes on behind the last symbol', S, 'Restarting', '  next = Info 0;\n', '', 'what a restart leaves'),
+    ('a restart goes on after the last symbol', S, 'Restarting', '  next = Info 0;\n', '', 'what a restart leaves'),
     ('a restart leaves symbols as sent', S, 'Restarting', '  sent = [];\n', '', 'a restart forgets what was sent'),
     ('a restart leaves infos as sent', S, 'Restarting', '  sent_infos = [];\n', '', 'a restart forgets what was sent'),
     ('a restart leaves listings to tell', S, 'Restarting', '  untold_nodes = [];\n', '', 'a restart forgets what was sent'),

@@ -20,7 +20,7 @@ EDITS = {
     'norm_send_rules/counts_are_added_up': 'norm_send_rules/Closing',
     'norm_ext/request_past_the_end_is_read': 'norm_ext/Requests',
     'norm_fbmsg/acknowledgement_of_another_instance_is_credited': 'norm_send_rules/Hearing',
-    'obj_buffer/code_is_of_the_other_length': 'norm_order/Symbols', 'obj_buffer/last_symbol_is_sent_padded': 'norm_order/Symbols',
+    'obj_buffer/code_is_of_the_other_length': 'norm_order/Symbols', 'fec_plan/last_symbol_is_sent_padded': 'norm_order/Symbols',
     'rs_block/first_source_is_not_written': 'rs_block/Codeword', 'rs_block/parity_is_shifted': 'rs_block/Codeword', 'rs_block/weight_is_not_inverted': 'rs_block/Codeword',
     'rs_block/a_block_waits_for_all_sources': 'norm_receive_rules/BlockValue',
     'norm_receive_rules/a_flush_is_acknowledged_though_an_object_was_never_seen': 'norm_receive_rules/Acknowledging',

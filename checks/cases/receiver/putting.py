@@ -18,7 +18,7 @@ def symbols_that_do_not_fit():
 
 
 @small
-def symbols_behind_the_last():
+def symbols_after_the_last():
     """Of 129 octets in blocks of 2 and 1: a third block's parity symbol, and a third symbol of a block that is done."""
     octets = 'hx 64 0x%s' % ('41' * 64)
     r = Run(b=2, max_n=4).hears(2, data(0, 0, 0, octets, l=129, b=2, max_n=4)).hears(2, data(0, 2, 1, octets)).hears(2, data(0, 0, 1, octets))

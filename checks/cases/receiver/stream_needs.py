@@ -28,7 +28,7 @@ def the_end_of_a_stream():
 
 
 @small
-def the_block_behind_a_whole_one():
+def the_block_after_a_whole_one():
     """From a whole greatest block on the rest begins behind it."""
     r = Run(**STREAM).hears(2, stream_data(0, 0, 64)).take(2, [42, 0]).take(2, [43, 0, 0, *[0x5a] * 64])
     return r.hears(2, data(1, 0, 0, 'hx 1 0x41'), 0, 0).tick(2, 0, [4, 2, 2, 0, 1, 0, 0, 16777215, 0])
