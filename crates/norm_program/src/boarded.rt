@@ -16,6 +16,13 @@ use std::alloc::Global;
 use std::sync::Wait;
 use std::thread::Threads;
 
+/// A script, and the turn up to which it is run, from 1.
+#[derive(Clone, Copy)]
+pub(crate) struct Part<'a> {
+    pub script: &'a Script,
+    pub until: u32,
+}
+
 /// A board with one reader, which is dropped: the program asks no board what became of its marks. `Memory` if memory runs out.
 fn board_of(alloc: Global) -> Result<Board, Memory> {
     let (board, _readers) = Board::new(alloc, 1)?;
@@ -50,22 +57,21 @@ pub(crate) fn run_session<R: Threads + Wait + Sync, K: Sink, F: Fabric, D: Files
     )
 }
 
-/// Runs a script's session up to turn `until` at the latest, without its summary. If memory runs out for the board, nothing is called.
+/// Runs a script's session as far as its part goes, without its summary. If memory runs out for the board, nothing is called.
 pub(crate) fn run_until<R: Threads + Wait + Sync, K: Sink, F: Fabric, D: Files, C: Clock>(
     rt: &R,
     alloc: Global,
-    script: &Script,
-    until: u32,
+    part: Part<'_>,
     output: &mut K,
     fabric: &mut F,
     files: &mut D,
     clock: &mut C,
 ) -> Result<Paused, SessionFault>
-    requires script { CanRun script.now }
-    requires turn { 1 ≤ until }
-    ensures run { IfOk result (λ paused. PausesScript script.now (D.contents files.old) until paused
+    requires script { CanRun part.script.now }
+    requires turn { 1 ≤ part.until }
+    ensures run { IfOk result (λ paused. PausesScript part.entry.script.now (D.contents files.old) part.entry.until paused
         (span (F.told fabric.old) (F.told fabric.new) (K.pieces output.old) (K.pieces output.new) (C.moments clock.old) (C.moments clock.new))) }
-    ensures stops { IfErr result (λ fault. StopsScript false fault script.now (D.contents files.old)
+    ensures stops { IfErr result (λ fault. StopsScript false fault part.entry.script.now (D.contents files.old)
         (span (F.told fabric.old) (F.told fabric.new) (K.pieces output.old) (K.pieces output.new) (C.moments clock.old) (C.moments clock.new))) }
     ensures files { D.contents files.new ≡ D.contents files.old }
     ensures cause { HasCause result (counted (K.fault_count output.old) (F.fault_count fabric.old) (D.fault_count files.old))
@@ -76,7 +82,16 @@ pub(crate) fn run_until<R: Threads + Wait + Sync, K: Sink, F: Fabric, D: Files, 
         Err(Memory) => return Err(SessionFault::Memory),
     };
     norm_session::run_until(
-        rt, alloc, script, &Through, &mut board, until, output, fabric, files, clock,
+        rt,
+        alloc,
+        part.script,
+        &Through,
+        &mut board,
+        part.until,
+        output,
+        fabric,
+        files,
+        clock,
     )
 }
 

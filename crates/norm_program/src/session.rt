@@ -9,7 +9,7 @@ ghost use Rattle.norm_program.specs.TailEnds.{EndsSession};
 ghost use Rattle.norm_script.specs.Scripts.{CanRun};
 ghost use Rattle.norm_args.specs.Fits.{FitsOptions};
 
-use crate::boarded::{run_session, run_until};
+use crate::boarded::{Part, run_session, run_until};
 use crate::input::read_input;
 use crate::last_line::{end_session, refused_line, say, stop_session};
 use crate::lent::Lent;
@@ -124,11 +124,14 @@ pub(crate) fn run_input<
             Err(fault) => return stop_session(alloc, fault, lent.output),
         }
     };
+    let part = Part {
+        script: &script,
+        until,
+    };
     match run_until(
         rt,
         alloc,
-        &script,
-        until,
+        part,
         lent.output,
         lent.fabric,
         lent.files,
