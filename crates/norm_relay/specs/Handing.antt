@@ -2,7 +2,7 @@
 use Rattle.std.specs.Prelude.{ℕ, ◌≡◌, List, ◌++◌, true, false, Option, None, Some, IfSome}
 use Rattle.norm_base.specs.Settings.{Settings, InRange}
 use Rattle.fec_plan.specs.declared.position.Position.{Position}
-use Rattle.norm_ext.specs.Message.{Message, Ack, AckMessage}
+use Rattle.norm_ext.specs.Message.{Ack, AckMessage}
 use Rattle.norm_ext.specs.Written.{Written}
 use Rattle.norm_order.specs.declared.up.Up.{Up}
 use Rattle.norm_send_rules.specs.Watermarks.{has_member}

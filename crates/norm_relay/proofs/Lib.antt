@@ -1,0 +1,16 @@
+mod WaitingLemmas
+mod LowerLemmas
+mod EnqueueLemmas
+mod AskLemmas
+mod UpperLemmas
+mod NewLemmas
+mod CallLemmas
+mod AskLawLemmas
+mod FlatLemmas
+mod JobItems
+mod OrderLemmas
+mod StepLemmas
+mod HandLemmas
+mod FreshLemmas
+mod NamedLemmas
+mod HandingLemmas

@@ -1,0 +1,15 @@
+use Rattle.std.proofs.Common.{Ok, Err, None}
+use Rattle.norm_send_rules.specs.declared.job.Job.TheVariants as job
+use Rattle.norm_relay.proofs.LowerLemmas.{commands_as}
+use Rattle.norm_relay.proofs.AskLemmas.{mark_made, mark_refused}
+use Rattle.norm_relay.proofs.pumping.Lower.mark_for.Goals as goal
+
+pub returns-in-Ok-clause-marks : goal.returns-in-Ok-clause-marks
+returns-in-Ok-clause-marks c =
+    mark_made c.args.now c.args.ack c.args.held.now c.note_mark.new.self c.args.self.now c.command.new.self c.in-Ok.receipt
+    (commands_as c.args.self.now c.command.new.self c.args.now (job.Mark None) c.in_ok-answer.answer (Ok c.in-Ok.receipt) c.in_ok-answer.ensures.commands c.in-Ok.is) c.note_mark.ensures
+
+pub returns-in-Err-clause-marks : goal.returns-in-Err-clause-marks
+returns-in-Err-clause-marks c =
+    mark_refused c.args.now c.args.ack c.args.held.now c.args.self.now c.command.new.self c.in-Err.fault
+    (commands_as c.args.self.now c.command.new.self c.args.now (job.Mark None) c.in_ok-answer.answer (Err c.in-Err.fault) c.in_ok-answer.ensures.commands c.in-Err.is)
