@@ -4,7 +4,7 @@
 # It is run after `rt ci`, which leaves the program; the first row that differs is named, and ends it with status 1.
 cd "$(dirname "$0")/.." || exit 1
 program=$PWD/crates/normd/out/normd
-usage='usage: normd session | show | generate N | send PROFILE | recv PROFILE NODE | hub PROFILE'
+usage='usage: normd session | show | generate N | send PROFILE | recv PROFILE NODE | hub PROFILE | gather PROFILE NODE ..'
 version='normd 0.1.0'
 rows=0
 
@@ -159,6 +159,17 @@ words "$recv_takes" recv profile 0
 words "$recv_takes" recv profile 02
 words "$recv_takes" recv profile 4294967295
 words "$recv_takes" recv profile 2 --instance 1
+gather_takes='gather takes one to eight pairs of words, the path of a profile and a node, from 1 to 4294967294'
+words "$gather_takes" gather
+words "$gather_takes" gather a.toml
+words "$gather_takes" gather a.toml 2 b.toml
+words "$gather_takes" gather a.toml 0
+words "$gather_takes" gather a.toml 02
+words "$gather_takes" gather a.toml two
+words "$gather_takes" gather none.toml 4294967295
+words "$gather_takes" gather a.toml 2 --help
+words "$gather_takes" gather a.toml 2 --instance 1
+words "$gather_takes" gather a.toml 2 b.toml 3 c.toml 4 d.toml 5 e.toml 6 f.toml 7 g.toml 8 h.toml 9 i.toml 10
 session_takes='session takes --chance N, from 0 to 4294967295, --turns N and --tail T, from 1 to 4000000, each at most once, and no other word'
 words "$session_takes" session now
 words "$session_takes" session --help
@@ -912,6 +923,61 @@ unshown 1 'it has an octet 0, 254 or 255, as UTF-16 has: write ASCII or UTF-8' '
 unshown 1 'it ends with a space' '' '1908000000000001 \n'
 unshown 1 'it has two spaces in a row: words have one between them' '' '1908  000000000001\n'
 
+# Several senders at once: a first object of each, and the second of one whose first is missing, for which it asks.
+# gathers STATUS WHY OUTPUT INPUT WORD..
+gathers() {
+    printf '%b' "$4" >"$scratch/in"
+    reason=$2 status=$1 printed=$3
+    shift 4
+    row "gather $*" "$status" "$printed" gather "$@"
+}
+
+for profile in 'a 1 0' 'b 100 0' 'c 1 4' 'd 100 4'; do
+    # shellcheck disable=SC2086 # three words
+    set -- $profile
+    printf 'e = 64\nb = 4\nsender = %s\nk = %s\n' "$2" "$3" >"$files/$1.toml"
+done
+printf 'e = 63\n' >"$files/refused.toml"
+printf 'sender = 2\n' >"$files/second.toml"
+hello=120800000000000100074041000500000000000040030000000000050040040668656c6c6f
+hi=12080000000000640009404100050000000000004003000000000002004004066869
+later=120800010000000100074001000500010000000040030000000000010040040602
+nack=140600000000000200000001000700000000000000000000010c00080500000000000000
+up_hello='of 1 up 2 7 0 data 5 - 68656c6c6f\n' up_hi='of 100 up 101 9 0 data 2 - 6869\n'
+gathers 0 '' "$up_hello${up_hi}end lines 2 handed 2\n" "$hello\n$hi\n" a.toml 2 b.toml 101
+gathers 0 '' "$up_hello${up_hi}end lines 2 handed 2\n" "$hello\n\n$hi" b.toml 101 a.toml 2
+gathers 0 '' "send 1 $nack\n${up_hi}end lines 2 handed 1\n" "$later\n$hi\n" a.toml 2 b.toml 101
+# With a back-off: sixty empty lines are sixty milliseconds, and the datagram after them ticks, though it is refused.
+pause=
+while [ ${#pause} -lt 120 ]; do pause="$pause\\n"; done
+gathers 0 '' "${up_hi}send 1 $nack\nend lines 3 handed 1\n" "$later\n$hi\n${pause}00\n" c.toml 2 d.toml 101
+gathers 0 '' "${up_hi}end lines 3 handed 1\n" "$later\n$hi\n00\n" c.toml 2 d.toml 101
+gathers 0 '' "${up_hi}end lines 2 handed 1\n" "$later\n$hi\n$pause" c.toml 2 d.toml 101
+# Another receiver's NACK is for the sender that it names: node 3 of sender 1 asks for all that node 2 would ask for.
+printf 'e = 64\nb = 4\nreceivers = 2\n' >"$files/two.toml"
+heard=140600000000000300000001000700000000000000000000010c00080500000000000000
+stranger=140600000000000300000064000700000000000000000000010c00080500000000000000
+gathers 0 '' 'end lines 3 handed 0\n' "$later\n$heard\n${pause}00\n" two.toml 2
+gathers 0 '' "send 1 $nack\nend lines 3 handed 0\n" "$later\n$stranger\n${pause}00\n" two.toml 2
+# Datagrams that spell nothing, a report, and those of senders that nobody asked for.
+gathers 0 '' 'end lines 4 handed 0\n' "00\n16029abb00002010\n$hi\n1908000000000001\n" a.toml 2
+gathers 0 '' 'end lines 0 handed 0\n' '' a.toml 2
+gathers 0 '' 'end lines 0 handed 0\n' '\n\n' a.toml 2 b.toml 101
+gathers 7 '' 'absent none.toml\n' "$hello\n" a.toml 2 none.toml 101
+gathers 7 '' 'absent none.toml\n' "$hello\n" none.toml 2 refused.toml 101
+refused_e='the profile is refused: the key e takes a whole number from 64 to 1400\n'
+gathers 3 "$refused_e" 'refused profile\n' "$hello\n" a.toml 2 b.toml 101 refused.toml 2 none.toml 9
+gathers 3 'the node of pair 2 is no receiver of its profile\n' 'refused profile\n' "$hello\n" a.toml 2 b.toml 102
+gathers 3 'the node of pair 2 is no receiver of its profile\n' 'refused profile\n' "$hello\n" a.toml 2 a.toml 3
+gathers 3 'the id 1 stands twice among the senders and nodes\n' 'refused profile\n' "$hello\n" a.toml 2 c.toml 2
+gathers 3 'the id 2 stands twice among the senders and nodes\n' 'refused profile\n' "$hello\n" a.toml 2 second.toml 3
+gathers 3 'line 1: it has an octet that is no hexadecimal digit\n' 'refused line 1\n' "xy\n$hello\n" a.toml 2
+gathers 3 'line 3: it has an odd number of hexadecimal digits\n' "${up_hello}refused line 3\n" "$hello\n\n123" a.toml 2
+gathers 3 'line 1: it has more than 3000 octets\n' 'refused line 1\n' "$(digits 3002)\n$hello\n" a.toml 2
+gathers 3 'line 2: it has more than 3000 octets\n' "${up_hello}refused line 2\n" "$hello\n$(digits 3002)" a.toml 2
+gathers 3 'line 2: it ends with a carriage return: write lines that end with a line feed alone\n' "${up_hello}refused line 2\n" "$hello\n00\r\n" a.toml 2
+gathers 0 '' 'end lines 1 handed 0\n' "$(digits 3000)" a.toml 2
+
 # Faults, and what they were about.
 "$program" session <. >"$scratch/out" 2>"$scratch/err"
 ended $? 'a folder as input' 4
@@ -922,6 +988,12 @@ said 'a folder as input'
 ended $? 'a folder as datagrams' 4
 reason='cannot read the input: Is a directory (os error 21)\n'
 said 'a folder as datagrams'
+
+(cd "$files" && exec "$program" gather a.toml 2) <. >"$scratch/out" 2>"$scratch/err"
+ended $? 'a folder as what is gathered' 4
+echo 'fault read' | cmp -s - "$scratch/out" || { echo 'program: a folder as what is gathered wrote'; cat "$scratch/out"; exit 1; }
+reason='cannot read the input: Is a directory (os error 21)\n'
+said 'a folder as what is gathered'
 
 if [ -w /dev/full ]; then
     "$program" session <examples/hello.norm >/dev/full 2>"$scratch/err"

@@ -35,6 +35,14 @@ recv_form = with_rule (with_rule (new_app (codes "recv")) (word_named (codes "PR
 abbrev pub hub_form : App
 hub_form = with_rule (new_app (codes "hub")) (word_named (codes "PROFILE"))
 
+-- words of which there have to be so many, at least and at most
+abbrev pub words_named : List ℕ → (least most : ℕ) → Rule
+words_named name least most = record (word_named name) { range = Some (record { start_inclusive = least; end_inclusive = most }) }
+
+-- gather PROFILE NODE .., one to eight of these pairs
+abbrev pub gather_form : App
+gather_form = with_rule (new_app (codes "gather")) (words_named (codes "PAIRS") 2 16)
+
 -- no kind of error comes
 abbrev pub is_fine : Kinds → Bool
 is_fine [] = true

@@ -1,10 +1,10 @@
--- What the words of the command line ask for of one node of a session over a network.
+-- What the words of the command line ask for under profiles: of one node of a session over a network, or of receivers of several senders.
 use Rattle.std.specs.Prelude.{ℕ, List, [], ◌∷◌, Option, None, Some, codes, if◌then◌else◌, option_and_then}
 use Rattle.std.specs.Option.{option_map}
-use Rattle.clap.specs.Words.{Row, first_of}
+use Rattle.clap.specs.Words.{Row, first_of, all_of}
 use Rattle.norm_base.specs.declared.key.Key.TheVariants as key
 use Rattle.norm_script.specs.Words.{is_text, number_within}
-use Rattle.norm_args.specs.Forms.{send_form, recv_form, hub_form, found_in}
+use Rattle.norm_args.specs.Forms.{send_form, recv_form, hub_form, gather_form, found_in}
 use Rattle.norm_args.specs.Tasks.{value_given}
 use Rattle.norm_args.specs.declared.node_tasks.NodeTask.{NodeTask}
 use Rattle.norm_args.specs.declared.node_tasks.NodeTask.TheVariants as task
@@ -42,14 +42,30 @@ receive_in words = option_and_then (λ rows. receive_of (profile_in rows) (node_
 abbrev pub hub_in : List (List ℕ) → Option NodeTask
 hub_in words = option_and_then (λ rows. option_map task.Hub (profile_in rows)) (found_in hub_form words)
 
+-- a pair before others
+abbrev pub onto_pairs : List ℕ → Option ℕ → Option (List (List ℕ × ℕ)) → Option (List (List ℕ × ℕ))
+onto_pairs path None pairs = None
+onto_pairs path (Some node) pairs = option_map (λ others. (path, node) ∷ others) pairs
+
+-- Words in pairs, each the path of a profile and the number of a node. None if there is an odd number of them, or if a node is no number
+-- of one.
+abbrev pub pairs_of : List (List ℕ) → Option (List (List ℕ × ℕ))
+pairs_of [] = Some []
+pairs_of (path ∷ []) = None
+pairs_of (path ∷ node ∷ words) = onto_pairs path (number_within 1 4294967294 node) (pairs_of words)
+
+abbrev pub gather_in : List (List ℕ) → Option NodeTask
+gather_in words = option_map task.Gather (option_and_then pairs_of (option_and_then (all_of (codes "PAIRS")) (found_in gather_form words)))
+
 -- what words ask for whose first is this one
 abbrev pub node_named : List ℕ → List (List ℕ) → Option NodeTask
 node_named word words =
     if is_text word (codes "send") then send_in words else
     (if is_text word (codes "recv") then receive_in words else
-    (if is_text word (codes "hub") then hub_in words else None))
+    (if is_text word (codes "hub") then hub_in words else
+    (if is_text word (codes "gather") then gather_in words else None)))
 
--- What the words behind the program's name ask for of one node. None where they are of no such form.
+-- What the words behind the program's name ask for under profiles. None where they are of no such form.
 unfoldable pub node_task_of : List (List ℕ) → Option NodeTask
 node_task_of [] = None
 node_task_of (word ∷ others) = node_named word (word ∷ others)

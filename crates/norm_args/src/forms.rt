@@ -4,7 +4,7 @@ ghost use Rattle.std.specs.Prelude.{◌≡◌, true, map, string_bytes, IfOk};
 ghost use Rattle.std.specs.Bool.{Decides};
 ghost use Rattle.std.specs.Option.{option_map};
 ghost use Rattle.clap.specs.Words.{app_of, rows_of, found_of, is_simple_and_free, kind_of};
-ghost use Rattle.norm_args.specs.Forms.{session_form, show_form, generate_form, send_form, recv_form, hub_form, found_in};
+ghost use Rattle.norm_args.specs.Forms.{session_form, show_form, generate_form, send_form, recv_form, hub_form, gather_form, found_in};
 
 use clap::error::ErrorKind;
 use clap::{Arg, ArgMatches, Command, Error};
@@ -68,6 +68,17 @@ pub(crate) fn hub_form<'a>(alloc: Global) -> Result<Command<'a>, AllocError>
 {
     let profile = Arg::new(alloc, "PROFILE").required(true);
     let command = Command::new(alloc, "hub").arg(profile)?;
+    Ok(command)
+}
+
+/// `gather PROFILE NODE ..`, one to eight such pairs. Whether the words are pairs is seen later.
+pub(crate) fn gather_form<'a>(alloc: Global) -> Result<Command<'a>, AllocError>
+    ensures { IfOk result (λ command. app_of command ≡ gather_form) }
+{
+    let pairs = Arg::new(alloc, "PAIRS")
+        .required(true)
+        .num_args(2..=16usize);
+    let command = Command::new(alloc, "gather").arg(pairs)?;
     Ok(command)
 }
 

@@ -8,13 +8,14 @@ use Rattle.norm_turns.specs.declared.fault.SessionFault.{SessionFault}
 use Rattle.norm_args.specs.NodeTasks.{node_task_of}
 use Rattle.norm_args.specs.Tasks.{task_of}
 use Rattle.norm_args.specs.declared.node_tasks.NodeTask.{NodeTask}
-use Rattle.norm_args.specs.declared.node_tasks.NodeTask.TheVariants.{Send, Receive, Hub}
+use Rattle.norm_args.specs.declared.node_tasks.NodeTask.TheVariants.{Send, Receive, Hub, Gather}
 use Rattle.norm_args.specs.declared.tasks.Options.{Options}
 use Rattle.norm_args.specs.declared.tasks.Task.{Task}
 use Rattle.norm_args.specs.declared.tasks.Task.TheVariants.{Session, Show, Generate}
 use Rattle.norm_program.specs.Asked.{Asked, Members, Sender, with_instance}
 use Rattle.norm_program.specs.Commands.{EndsNode, EndsTask, EndsAsked, EndsBy}
 use Rattle.norm_program.specs.Ends.{Outside, Says, EndsScript, absent_line}
+use Rattle.norm_program.specs.GatherEnds.{EndsAmong, EndsGather}
 use Rattle.norm_program.specs.GenerateEnds.{GenerateEnds}
 use Rattle.norm_program.specs.Laws.{NoneFailed, NamesAbsent, FourIsOfReads, FiveIsOfWrites, SixIsOfTheNetwork, SevenIsOfFiles}
 use Rattle.norm_program.specs.NodeEnds.{EndsUnloaded, EndsUnder, EndsBroken, BrokenReceiver, BrokenHub, EndsReceiver, EndsHub, EndsSender}
@@ -112,6 +113,19 @@ under_shows : (path : List ℕ) (Ends : Settings → Ending → Outside → Outs
 under_shows path Ends ending before after each (inl h) = unloaded_shows path ending before after h
 under_shows path Ends ending before after each (inr h) = each h.0 h.2
 
+among_shows : (list : List (Settings × ℕ)) (ending : Ending) (before after : Outside) → EndsAmong list ending before after → Shows ending before after
+among_shows list Done before after h = tt
+among_shows list Memory before after h = tt
+among_shows list (Line n why) before after h = tt
+among_shows list (Profile why) before after h = tt
+among_shows list Read before after h = h.cause
+among_shows list Write before after h = h.cause
+among_shows list _ before after h = absurd h
+
+gather_shows : (pairs : List (List ℕ × ℕ)) (ending : Ending) (before after : Outside) → EndsGather pairs ending before after → Shows ending before after
+gather_shows pairs ending before after (inl h) = unloaded_shows h.pair.0 ending before after h.unloaded
+gather_shows pairs ending before after (inr h) = among_shows h.0 ending before after h.2
+
 -- ---- what the ending of a call shows
 
 task_shows : (task : Task) (ending : Ending) (before after : Outside) → EndsTask task ending before after → Shows ending before after
@@ -129,6 +143,7 @@ node_shows (Some (Receive path node)) ending before after h =
     under_shows path (EndsReceiver node) ending before after (λ p ends. receiver_shows node p ending before after ends) h
 node_shows (Some (Hub path)) ending before after h =
     under_shows path EndsHub ending before after (λ p ends. hub_shows p ending before after ends) h
+node_shows (Some (Gather pairs)) ending before after h = gather_shows pairs ending before after h
 
 asked_shows : (task : Option Task) (other : Option NodeTask) (ending : Ending) (before after : Outside)
     → EndsAsked task other ending before after → Shows ending before after

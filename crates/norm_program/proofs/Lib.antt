@@ -7,3 +7,6 @@ pub mod CommandLemmas
 pub mod TailLemmas
 pub mod TailEndLemmas
 pub mod LawLemmas
+pub mod HearerLemmas
+pub mod GatherLemmas
+pub mod GatherEndLemmas

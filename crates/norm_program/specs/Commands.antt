@@ -1,13 +1,14 @@
 -- How the program ends: by what its words ask for, or as words that are of no form.
-use Rattle.std.specs.Prelude.{◌≡◌, ◌⊎◌, ⊤, ℕ, List, [], ◌∷◌, Option, None, Some}
+use Rattle.std.specs.Prelude.{◌≡◌, ◌⊎◌, ⊤, ℕ, List, [], ◌∷◌, map, Option, None, Some}
 use Rattle.norm_journal.specs.Jobs.{Told}
 use Rattle.norm_args.specs.NodeTasks.{node_task_of}
 use Rattle.norm_args.specs.Tasks.{task_of}
 use Rattle.norm_args.specs.declared.node_tasks.NodeTask.{NodeTask}
-use Rattle.norm_args.specs.declared.node_tasks.NodeTask.TheVariants.{Send, Receive, Hub}
+use Rattle.norm_args.specs.declared.node_tasks.NodeTask.TheVariants.{Send, Receive, Hub, Gather}
 use Rattle.norm_args.specs.declared.tasks.Task.{Task}
 use Rattle.norm_args.specs.declared.tasks.Task.TheVariants.{Session, Show, Generate}
 use Rattle.norm_program.specs.Ends.{Outside, RefusedWords}
+use Rattle.norm_program.specs.GatherEnds.{EndsGather}
 use Rattle.norm_program.specs.GenerateEnds.{GenerateEnds}
 use Rattle.norm_program.specs.NodeEnds.{EndsUnder, EndsSender, EndsReceiver, EndsHub}
 use Rattle.norm_program.specs.ShowEnds.{ShowEnds}
@@ -18,12 +19,13 @@ use Rattle.norm_program.specs.declared.words.WordsFault.TheVariants.{NotText, Me
 use Rattle.norm_program.specs.declared.status.Ending.{Ending}
 use Rattle.norm_program.specs.declared.status.Ending.TheVariants.{Words, Memory}
 
--- what was asked for of a node ended so, under the profile at its path; words that ask for nothing are refused
+-- what was asked for under profiles ended so; words that ask for nothing are refused
 abbrev pub EndsNode : Option NodeTask → Ending → Outside → Outside → Type 0
 EndsNode None ending before after = (ending ≡ Words) × RefusedWords before after
 EndsNode (Some (Send path instance)) ending before after = EndsUnder path (EndsSender instance) ending before after
 EndsNode (Some (Receive path node)) ending before after = EndsUnder path (EndsReceiver node) ending before after
 EndsNode (Some (Hub path)) ending before after = EndsUnder path EndsHub ending before after
+EndsNode (Some (Gather pairs)) ending before after = EndsGather pairs ending before after
 
 -- what was asked for ended so
 abbrev pub EndsTask : Task → Ending → Outside → Outside → Type 0
@@ -66,6 +68,7 @@ KeepsFiles None before after = after ≡ before
 KeepsFiles (Some (Send path instance)) before after = after ≡ before
 KeepsFiles (Some (Receive path node)) before after = ⊤
 KeepsFiles (Some (Hub path)) before after = after ≡ before
+KeepsFiles (Some (Gather pairs)) before after = after ≡ before
 
 -- the paths of the profiles that are asked for
 abbrev pub paths_asked : Option NodeTask → List (List ℕ)
@@ -73,3 +76,4 @@ paths_asked None = []
 paths_asked (Some (Send path instance)) = path ∷ []
 paths_asked (Some (Receive path node)) = path ∷ []
 paths_asked (Some (Hub path)) = path ∷ []
+paths_asked (Some (Gather pairs)) = map (λ (pair : List ℕ × ℕ). pair.0) pairs

@@ -9,6 +9,8 @@ pub mod Lending
 pub mod ShowEnds
 pub mod GenerateEnds
 pub mod NodeEnds
+pub mod GatherEnds
+pub mod Hearing
 pub mod Commands
 pub mod InputCause
 pub mod Laws

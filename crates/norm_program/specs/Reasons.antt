@@ -1,7 +1,9 @@
 -- What stands on standard error of an ending, for people: why words, a line, a profile or the memory ended the program.
-use Rattle.std.specs.Prelude.{ℕ, List, [], ◌∷◌, ◌++◌, Bool, true, false, Option, None, Some, codes, nat_eq, if◌then◌else◌}
+use Rattle.std.specs.Prelude.{ℕ, ◌+◌, List, [], ◌∷◌, ◌++◌, Bool, true, false, Option, None, Some, codes, nat_eq, if◌then◌else◌}
 use Rattle.std.specs.Cmp.Lexicographic.{pointwise}
 use Rattle.std.specs.Fmt.{decimal}
+use Rattle.norm_multi.specs.declared.multi.MultiFault.{MultiFault}
+use Rattle.norm_multi.specs.declared.multi.MultiFault.TheVariants as multi
 use Rattle.norm_script.specs.Sentences.{refusal_text}
 use Rattle.norm_show.specs.Sentences.{sentence_of_none}
 use Rattle.norm_program.specs.declared.status.Ending.{Ending}
@@ -9,7 +11,7 @@ use Rattle.norm_program.specs.declared.status.Ending.TheVariants.{Memory, Words,
 use Rattle.norm_program.specs.declared.status.NoTail.{NoTail}
 use Rattle.norm_program.specs.declared.status.NoTail.TheVariants.{Waiting, NoRequest, Mode, Streams, Step, Pace, Flushes}
 use Rattle.norm_program.specs.declared.status.ProfileFault.{ProfileFault}
-use Rattle.norm_program.specs.declared.status.ProfileFault.TheVariants.{Document, Node}
+use Rattle.norm_program.specs.declared.status.ProfileFault.TheVariants.{Document, Node, Members}
 
 -- what the commands take that do not stand alone
 abbrev pub session_takes : List ℕ
@@ -28,6 +30,9 @@ recv_takes = codes "recv takes two words, the path of a profile and a node, from
 abbrev pub hub_takes : List ℕ
 hub_takes = codes "hub takes one word, the path of a profile"
 
+abbrev pub gather_takes : List ℕ
+gather_takes = codes "gather takes one to eight pairs of words, the path of a profile and a node, from 1 to 4294967294"
+
 -- what is wrong with a command that stands alone, by the words behind it
 abbrev pub extra_reason : List ℕ → List (List ℕ) → List ℕ
 extra_reason word [] = []
@@ -42,17 +47,25 @@ words_reason (word ∷ others) =
     (if pointwise nat_eq word (codes "show") then extra_reason word others else
     (if pointwise nat_eq word (codes "send") then send_takes else
     (if pointwise nat_eq word (codes "recv") then recv_takes else
-    (if pointwise nat_eq word (codes "hub") then hub_takes else codes "the word " ++ (word ++ codes " is unknown"))))))
+    (if pointwise nat_eq word (codes "hub") then hub_takes else
+    (if pointwise nat_eq word (codes "gather") then gather_takes else codes "the word " ++ (word ++ codes " is unknown")))))))
 
 -- why a node is none of a profile's receivers, which are those from the first to the last
 abbrev pub node_reason : (node first last : ℕ) → List ℕ
 node_reason node first last =
     codes "the node " ++ (decimal node ++ (codes " is no receiver of the profile, whose receivers are " ++ (decimal first ++ (codes " to " ++ decimal last))))
 
+-- why several senders are refused: a node of a pair, counted from 1, or an id
+abbrev pub members_reason : MultiFault → List ℕ
+members_reason (multi.NotReceiver i) = codes "the node of pair " ++ (decimal (i + 1) ++ codes " is no receiver of its profile")
+members_reason (multi.SameId node) = codes "the id " ++ (decimal node ++ codes " stands twice among the senders and nodes")
+members_reason multi.Memory = codes "out of memory"
+
 -- why a profile is refused; of a document the sentence is that of its refusal, which is not named here
 abbrev pub profile_reason : ProfileFault → Option (List ℕ)
 profile_reason (Document why) = None
 profile_reason (Node node first last) = Some (node_reason node first last)
+profile_reason (Members why) = Some (members_reason why)
 
 -- why a tail is too slow
 abbrev pub pace_reason : (symbols gap step grtt : ℕ) → List ℕ

@@ -2,8 +2,8 @@
 //! what [`needed`] returns if memory runs out before. `tests_program` calls [`norm_main`] with objects of its own, as other programs may; it
 //! returns the status that `run` exits with.
 //!
-//! `program` finds the command that the words ask for (`norm_args` says what they mean). `session`, `show`, `generate`, `send`, `recv` and `hub`
-//! are the commands; `tail` has what `session --tail` does after its turns, its last line too. `lent` lends them the outside as one value.
+//! `program` finds the command that the words ask for (`norm_args` says what they mean). `session`, `show`, `generate`, `send`, `recv`, `hub` and
+//! `gather` are the commands; `tail` has what `session --tail` does after its turns, its last line too. `lent` lends them the outside as one value.
 //! `words` reads the command line, `input` the input, `commands` the script of a sender, and `profiles` the profile of a node. `boarded` runs
 //! what was read of a script. `last_line` writes any other last line, `status` has the endings and their statuses, `reason` writes to
 //! standard error, and [`laws`] are promises about the statuses.
@@ -11,6 +11,7 @@
 
 mod boarded;
 mod commands;
+mod gather;
 mod generate;
 mod hub;
 mod input;

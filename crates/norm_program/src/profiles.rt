@@ -1,4 +1,4 @@
-//! Loads the profile of a node from its file. `send`, `recv` and `hub` call [`load`] before anything else.
+//! Loads a profile from its file. `send`, `recv` and `hub` call [`load`] before anything else, and `gather` for each of its profiles.
 
 ghost use Rattle.std.specs.Prelude.{◌≡◌, ℕ, List, Option, Ok, IfOk, IfErr, OnOk, string_bytes};
 ghost use Rattle.norm_base.specs.Network.{Network};
@@ -9,7 +9,15 @@ use crate::last_line::{say, say_absent};
 use crate::status::{Ending, ProfileFault};
 use norm_base::{Files, Profile, Sink, Text};
 use norm_profile::{LoadFault, load_profile};
-use std::alloc::Global;
+use std::alloc::{AllocError, Global};
+
+/// Copies a path.
+pub(crate) fn copy_of(path: &Text) -> Result<Text, AllocError>
+    ensures { IfOk result (λ copy. copy ≡ path.now) }
+{
+    let copy = path.clone()?;
+    Ok(Text::of(copy.into_inner()))
+}
 
 /// Writes the last line `refused profile` and returns the ending.
 pub(crate) fn refuse_profile<K: Sink>(why: ProfileFault, output: &mut K) -> Ending

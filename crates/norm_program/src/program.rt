@@ -9,6 +9,7 @@ ghost use Rattle.norm_program.specs.Lending.{GivesBack};
 ghost use Rattle.norm_args.specs.Fits.{FitsNode, FitsTask};
 ghost use Rattle.norm_args.specs.NodeTasks.{node_task_of};
 
+use crate::gather::end_gather;
 use crate::generate::write_script;
 use crate::hub::end_hub;
 use crate::last_line::say;
@@ -30,7 +31,7 @@ use std::thread::Threads;
 /// The last line if the words are no command.
 // One line for all wrong words, which a clause fixes (`usage_line`). What is wrong with them goes to standard error.
 const USAGE: &[u8] =
-    b"usage: normd session | show | generate N | send PROFILE | recv PROFILE NODE | hub PROFILE\n";
+    b"usage: normd session | show | generate N | send PROFILE | recv PROFILE NODE | hub PROFILE | gather PROFILE NODE ..\n";
 
 /// Runs `session`, `show` or `generate`, and writes what it has to say to the output. Only `session` calls the network, the files and the clock.
 fn end_task<R: Threads + Wait + Sync, S: Source, K: Sink, F: Fabric, D: Files, C: Clock>(
@@ -50,7 +51,7 @@ fn end_task<R: Threads + Wait + Sync, S: Source, K: Sink, F: Fabric, D: Files, C
     }
 }
 
-/// Runs `send`, `recv` or `hub` under the profile at its path and returns the ending; what each ending says is in `EndsNode`.
+/// Runs `send`, `recv`, `hub` or `gather` under the profiles at their paths and returns the ending; what each ending says is in `EndsNode`.
 fn end_node<R: Threads + Wait + Sync, S: Source, K: Sink, F: Fabric, D: Files, C: Clock>(
     rt: &R,
     alloc: Global,
@@ -65,6 +66,7 @@ fn end_node<R: Threads + Wait + Sync, S: Source, K: Sink, F: Fabric, D: Files, C
         NodeTask::Send { profile, instance } => end_send(rt, alloc, profile, instance, lent),
         NodeTask::Receive(path, node) => end_receive(alloc, path, node, lent),
         NodeTask::Hub(path) => end_hub(alloc, path, lent),
+        NodeTask::Gather(pairs) => end_gather(alloc, pairs, lent),
     }
 }
 

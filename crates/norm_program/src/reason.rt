@@ -4,12 +4,13 @@
 ghost use Rattle.std.specs.Prelude.{◌≡◌, ◌∷◌, Some, map, string_bytes, Ok, Err, MatchResult};
 ghost use Rattle.std.specs.Fmt.{DisplaysOnOk};
 ghost use Rattle.std.specs.Process.{exit_status};
-ghost use Rattle.norm_program.specs.Reasons.{extra_reason, words_reason, node_reason, profile_reason, pace_reason, flushes_reason, no_tail_reason, has_reason, reason_of};
+ghost use Rattle.norm_program.specs.Reasons.{extra_reason, words_reason, node_reason, members_reason, profile_reason, pace_reason, flushes_reason, no_tail_reason, has_reason, reason_of};
 ghost use Rattle.norm_program.specs.StatusOf.{status_of};
 ghost use Rattle.norm_program.specs.declared.status.Ending.TheVariants as ending;
 
 use crate::status::{Ending, NoTail, ProfileFault};
 use norm_base::Memory;
+use norm_multi::MultiFault;
 use std::fmt;
 use std::process::ExitCode;
 
@@ -33,6 +34,10 @@ const RECV_TAKES: &str =
 
 // Not as for `show`, which names the word that is too many: `hub` is refused without a path too, and then no word could be named.
 const HUB_TAKES: &str = "hub takes one word, the path of a profile";
+
+// Eight are the most that are heard at once. Whether a profile has its node is seen only after the profiles are loaded.
+const GATHER_TAKES: &str =
+    "gather takes one to eight pairs of words, the path of a profile and a node, from 1 to 4294967294";
 
 /// Names the word that is one too many after a command that takes none. Writes nothing if no word follows.
 fn say_extra<W: fmt::Write>(word: &str, others: &[String], f: &mut fmt::Formatter<W>) -> fmt::Result
@@ -71,6 +76,9 @@ fn say_first<W: fmt::Write>(word: &str, others: &[String], f: &mut fmt::Formatte
     if octets == b"hub".as_slice() {
         return f.write_str(HUB_TAKES);
     }
+    if octets == b"gather".as_slice() {
+        return f.write_str(GATHER_TAKES);
+    }
     write!(f, "the word {word} is unknown")
 }
 
@@ -98,6 +106,23 @@ fn say_node<W: fmt::Write>(
     )
 }
 
+/// Says which node is no receiver of its profile, or which id stands twice.
+fn say_members<W: fmt::Write>(why: MultiFault, f: &mut fmt::Formatter<W>) -> fmt::Result
+    ensures { DisplaysOnOk W.write_str_gives f.old result (Some (members_reason why)) f.new }
+{
+    match why {
+        MultiFault::NotReceiver { i } => {
+            let pair = u64::from(i) + 1;
+            write!(f, "the node of pair {pair} is no receiver of its profile")
+        }
+        MultiFault::SameId { node } => {
+            let id = node.number();
+            write!(f, "the id {id} stands twice among the senders and nodes")
+        }
+        MultiFault::Memory => f.write_str("out of memory"),
+    }
+}
+
 /// Says why a profile is refused, or which receivers it has if the node is none of them.
 fn say_profile<W: fmt::Write>(why: &ProfileFault, f: &mut fmt::Formatter<W>) -> fmt::Result
     ensures { DisplaysOnOk W.write_str_gives f.old result (profile_reason why.now) f.new }
@@ -105,6 +130,7 @@ fn say_profile<W: fmt::Write>(why: &ProfileFault, f: &mut fmt::Formatter<W>) -> 
     match why {
         ProfileFault::Document { why } => write!(f, "the profile is refused: {why}"),
         ProfileFault::Node { node, first, last } => say_node(node.number(), *first, *last, f),
+        ProfileFault::Members { why } => say_members(*why, f),
     }
 }
 

@@ -1,4 +1,4 @@
-//! `show`: prints the datagrams of the input, one a line. The program calls [`show`].
+//! `show`: prints the datagrams of the input, one a line. The program calls [`show`], and `gather` calls [`refuse_line`].
 
 ghost use Rattle.norm_program.specs.Ends.{Called, outside};
 ghost use Rattle.norm_program.specs.ShowEnds.{ShowEnds, IsLineEnding};
@@ -10,7 +10,12 @@ use norm_show::{NoDatagram, ShowFault};
 use std::alloc::Global;
 
 /// Writes the last line for line `number`, which spells no datagram, and returns the ending: `Memory` if memory runs out for that line.
-fn refuse_line<K: Sink>(alloc: Global, number: u64, why: NoDatagram, output: &mut K) -> Ending
+pub(crate) fn refuse_line<K: Sink>(
+    alloc: Global,
+    number: u64,
+    why: NoDatagram,
+    output: &mut K,
+) -> Ending
     ensures { IsLineEnding result number why (K.pieces output.old) (K.pieces output.new) (K.fault_count output.old) (K.fault_count output.new) }
 {
     match refused_line(alloc, number) {

@@ -6,10 +6,11 @@ ghost use Rattle.norm_program.specs.StatusOf.{status_of};
 ghost use Rattle.norm_program.specs.declared.status.Ending.TheVariants as ending;
 
 use norm_base::{NodeId, Text};
+use norm_multi::MultiFault;
 use norm_profile::ProfileRefusal;
 use norm_script::Refusal;
 use norm_show::NoDatagram;
-use std::alloc::AllocError;
+use std::alloc::{AllocError, AllocFailed};
 use std::marker::Model;
 use std::process::ExitCode;
 
@@ -53,6 +54,8 @@ pub enum ProfileFault {
     Document { why: ProfileRefusal },
     /// The node is not one of the receivers, whose ids are `first` to `last`.
     Node { node: NodeId, first: u32, last: u32 },
+    /// Of several senders: a node is no receiver of its profile, or an id stands twice. Never `Memory`.
+    Members { why: MultiFault },
 }
 
 /// Why a session made no tail, or no further one.
@@ -107,11 +110,11 @@ pub enum Ending {
     Words,
     /// A line of the script has no meaning. `refusal` says which line and why.
     Refused { refusal: Refusal },
-    /// Line `number` of what `show` reads spells no datagram.
+    /// Line `number` of what `show` or `gather` reads spells no datagram.
     Line { number: u64, why: NoDatagram },
-    /// The profile is refused, or the node is not one of its receivers.
+    /// A profile is refused, or the node is not one of its receivers, or of several profiles an id stands twice.
     Profile { why: ProfileFault },
-    /// A read of the input failed. Nothing of a script was run, and `show` wrote the lines before.
+    /// A read of the input failed. Nothing of a script or of `gather` was done, and `show` wrote the lines before.
     Read,
     /// A write of the output failed. That of a last line is not meant, except of `turns spent` and of a tail's.
     Write,
@@ -134,6 +137,14 @@ impl From<AllocError> for Ending {
     ghost from_gives = { λ e r. r ≡ ending.Memory };
 
     fn from(_error: AllocError) -> Ending {
+        Ending::Memory
+    }
+}
+
+impl<T: Drop> From<AllocFailed<T>> for Ending {
+    ghost from_gives = { λ e r. r ≡ ending.Memory };
+
+    fn from(_refused: AllocFailed<T>) -> Ending {
         Ending::Memory
     }
 }

@@ -1,15 +1,16 @@
 //! The words of the command line. `normd` reads them with [`arguments`], and asks [`paths_asked`] which profiles they name, before it runs the
 //! program.
 
-ghost use Rattle.std.specs.Prelude.{◌≡◌, ◌↔◌, [], ◌∷◌, drop, map, string_bytes, IfOk};
+ghost use Rattle.std.specs.Prelude.{◌≡◌, ◌↔◌, ℕ, List, [], ◌∷◌, drop, map, string_bytes, IfOk};
 ghost use Rattle.std.specs.IoError.{error_kind};
 ghost use Rattle.std.specs.declared.io.ErrorKind.TheVariants.{OutOfMemory};
 ghost use Rattle.norm_program.specs.Commands.{paths_asked};
 ghost use Rattle.norm_program.specs.declared.words.WordsFault.TheVariants as fault;
 ghost use Rattle.norm_args.specs.NodeTasks.{node_task_of};
 
+use crate::profiles::copy_of;
 use norm_args::{NodeTask, node_task_of};
-use norm_base::{Memory, Text};
+use norm_base::{Memory, NodeId, Text};
 use std::alloc::{AllocFailed, Global};
 use std::rt::Env;
 use std::{env, io};
@@ -74,7 +75,18 @@ fn one_path(alloc: Global, path: Text) -> Result<Vec<Text>, Memory>
     Ok(paths)
 }
 
-/// At most one path, since only tasks of nodes have a profile.
+/// The paths of these pairs in their order.
+fn paths_in(alloc: Global, pairs: &[(Text, NodeId)]) -> Result<Vec<Text>, Memory>
+    ensures { IfOk result (λ paths. paths.items ≡ map (λ (pair : List ℕ × ℕ). pair.0) pairs.now) }
+{
+    let mut paths = Vec::new(alloc);
+    for pair in pairs {
+        paths.push(copy_of(&pair.0)?)?;
+    }
+    Ok(paths)
+}
+
+/// Empty if the words ask for no profile.
 fn paths_of(alloc: Global, task: Option<NodeTask>) -> Result<Vec<Text>, Memory>
     ensures { IfOk result (λ paths. paths.items ≡ paths_asked task) }
 {
@@ -82,12 +94,16 @@ fn paths_of(alloc: Global, task: Option<NodeTask>) -> Result<Vec<Text>, Memory>
         Some(NodeTask::Send { profile, .. }) => one_path(alloc, profile),
         Some(NodeTask::Receive(path, _)) => one_path(alloc, path),
         Some(NodeTask::Hub(path)) => one_path(alloc, path),
+        Some(NodeTask::Gather(pairs)) => {
+            let pairs = pairs.into_inner();
+            paths_in(alloc, &pairs)
+        }
         None => Ok(Vec::new(alloc)),
     }
 }
 
-/// Returns the path of the profile if the words ask for a node's run, and no path otherwise. It is a path as the shell gives it, not a name in
-/// the folder of the files, so tell the files of it before they open it.
+/// Returns the paths of the profiles that the words name, in their order: one of a node's run, some of `gather`, and none otherwise. They are paths
+/// as the shell gives them, not names in the folder of the files, so tell the files of them before they open one.
 pub fn paths_asked(alloc: Global, words: &[String]) -> Result<Vec<Text>, Memory>
     ensures { IfOk result (λ paths. paths.items ≡ paths_asked (node_task_of (map string_bytes words.now))) }
 {

@@ -1,6 +1,7 @@
 //! Shows datagrams as lines of words. [`show_line`] decodes one datagram and returns the words of its message, or why it is
 //! refused. `words` makes the words that messages share, `lists` those of lists, and `lines` whole lines. [`show`] reads
-//! datagrams in hexadecimal, one a line, and writes the line of each. `norm_program` calls it for `normd show`.
+//! datagrams in hexadecimal, one a line, and writes the line of each. `norm_program` calls it for `normd show`, and [`datagram_in`] and
+//! [`why_none`], which read one such line, for `normd gather`.
 #![tactic(auto)]
 
 mod fault;
@@ -12,4 +13,4 @@ mod words;
 
 pub use crate::fault::{NoDatagram, ShowFault};
 pub use crate::shown::{Shown, show_line};
-pub use crate::stream::show;
+pub use crate::stream::{datagram_in, show, why_none};

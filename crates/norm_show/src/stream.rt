@@ -26,7 +26,11 @@ const PIECE: usize = 16_384;
 const LINE_FEED: u8 = b'\n';
 
 /// Returns the datagram that a line spells in digits of either case. `None` if it spells none, or has more than 3,000 octets.
-fn datagram_in(alloc: Global, line: &[u8]) -> Result<Option<Octets>, Memory>
+///
+/// # Errors
+///
+/// `Memory` if memory runs out.
+pub fn datagram_in(alloc: Global, line: &[u8]) -> Result<Option<Octets>, Memory>
     ensures { IfOk result (λ datagram. datagram ≡ datagram_in line.now) }
 {
     if line.len() > MOST_DIGITS {
@@ -39,8 +43,8 @@ fn datagram_in(alloc: Global, line: &[u8]) -> Result<Option<Octets>, Memory>
     }
 }
 
-/// Returns why a line that is not empty is no datagram. Call it if `datagram_in` returned `None`.
-fn why_none(line: &[u8]) -> NoDatagram
+/// Returns why a line that is not empty is no datagram. Call it if [`datagram_in`] returned `None`.
+pub fn why_none(line: &[u8]) -> NoDatagram
     requires { 1 ≤ length line.now }
     ensures { result ≡ why_none line.now }
 {

@@ -30,7 +30,7 @@ fn keep_what_is_freed(alloc: Global) -> Result<(), Memory> {
     Ok(())
 }
 
-/// Tells the files the path of the profile, if the words ask for a node. Does nothing if the words were not read.
+/// Tells the files the path of each profile that the words name. Does nothing if the words were not read.
 fn tell(
     alloc: Global,
     words: &Result<Vec<String>, WordsFault>,

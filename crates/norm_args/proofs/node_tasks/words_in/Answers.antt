@@ -1,0 +1,9 @@
+use Rattle.std.proofs.Common.{◌∙◌}
+use Rattle.std.specs.Prelude.{codes}
+use Rattle.clap.specs.Words.{found_of}
+use Rattle.clap.proofs.WalkLemmas.{raw_values-rows}
+use Rattle.norm_args.proofs.node_tasks.words_in.Goals as goal
+
+-- what the getter of the matches reads, by their rows
+pub returns : goal.returns
+returns c = c.get_strs.ensures ∙ raw_values-rows (found_of c.args.matches.now) (codes "PAIRS")

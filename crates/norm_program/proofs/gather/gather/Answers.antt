@@ -1,0 +1,34 @@
+use Rattle.std.proofs.Common.{◌∙◌, refl, sym, ap, subst}
+use Rattle.norm_program.specs.GatherEnds.{gathered}
+use Rattle.norm_program.specs.Hearing.{IsLinesEnding}
+use Rattle.norm_program.proofs.GatherEndLemmas.{among_memory, members_end, read_end, lines_end}
+use Rattle.norm_program.proofs.gather.gather.Goals as goal
+
+pub returns-then-members-gt-MOST_SENDERS : goal.returns-then-members-gt-MOST_SENDERS
+returns-then-members-gt-MOST_SENDERS g c called =
+    among_memory c.args.members.now (g.S.Source.left c.args.input.now) (g.S.Source.left c.args.input.now) (g.K.Sink.pieces c.args.output.now)
+    (g.K.Sink.pieces c.args.output.now) (g.S.Source.fault_count c.args.input.now) (g.S.Source.fault_count c.args.input.now) (g.K.Sink.fault_count c.args.output.now)
+    (g.K.Sink.fault_count c.args.output.now) called refl refl refl
+
+pub returns-in-Err : goal.returns-in-Err
+returns-in-Err g c called =
+    members_end c.args.members.now c.in-Err.why c.refuse_members.result (g.S.Source.left c.args.input.now) (g.K.Sink.pieces c.args.output.now)
+    (g.K.Sink.pieces c.refuse_members.new.output) (g.S.Source.fault_count c.args.input.now) (g.K.Sink.fault_count c.args.output.now)
+    (g.K.Sink.fault_count c.refuse_members.new.output) called c.in-Err.ensures.fault c.refuse_members.ensures
+
+pub returns-in-Ok-read_input : goal.returns-in-Ok-read_input
+returns-in-Ok-read_input g c called =
+    let text = c.in-Ok-read_input.text.items in
+    let ends = subst (λ t. IsLinesEnding c.end_lines.result (gathered c.args.members.now t) (g.K.Sink.pieces c.read_input.new.output) (g.K.Sink.pieces c.end_lines.new.output)
+    (g.K.Sink.fault_count c.read_input.new.output) (g.K.Sink.fault_count c.end_lines.new.output)) c.deref.ensures.value c.end_lines.ensures in
+    lines_end c.end_lines.result c.args.members.now text (g.S.Source.left c.args.input.now) (g.S.Source.left c.read_input.new.input) (g.K.Sink.pieces c.args.output.now)
+    (g.K.Sink.pieces c.read_input.new.output) (g.K.Sink.pieces c.end_lines.new.output) (g.S.Source.fault_count c.args.input.now)
+    (g.S.Source.fault_count c.read_input.new.input) (g.K.Sink.fault_count c.args.output.now) (g.K.Sink.fault_count c.read_input.new.output)
+    (g.K.Sink.fault_count c.end_lines.new.output) called c.in-Ok-read_input.ensures.text c.in-Ok-read_input.ensures.quiet.0
+    c.in-Ok-read_input.ensures.unwritten c.in-Ok-read_input.ensures.quiet.1 ends
+
+pub returns-in-Err-read_input : goal.returns-in-Err-read_input
+returns-in-Err-read_input g c called =
+    read_end c.in-Err-read_input.ending c.args.members.now (g.S.Source.left c.args.input.now) (g.S.Source.left c.read_input.new.input) (g.K.Sink.pieces c.args.output.now)
+    (g.K.Sink.pieces c.read_input.new.output) (g.S.Source.fault_count c.args.input.now) (g.S.Source.fault_count c.read_input.new.input)
+    (g.K.Sink.fault_count c.args.output.now) (g.K.Sink.fault_count c.read_input.new.output) called c.in-Err-read_input.ensures.ending

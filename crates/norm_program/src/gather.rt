@@ -1,0 +1,533 @@
+//! `gather`: hears several senders at once, each in a session with its own profile, and prints what each receiver hands up and sends. The datagrams
+//! are lines of hexadecimal. The program calls [`end_gather`].
+
+ghost use Rattle.std.specs.Prelude.{◌≡◌, ◌+◌, ◌≤◌, ◌<◌, ℕ, List, [], ◌∷◌, length, Some, IfOk, IfErr, IfSome, OnOk, IsSome};
+ghost use Rattle.std.specs.List.{flat_map};
+ghost use Rattle.norm_base.specs.Told.{gained};
+ghost use Rattle.norm_journal.specs.Lines.{of_line};
+ghost use Rattle.norm_journal.specs.Totals.{with_up};
+ghost use Rattle.norm_multi.specs.Beginning.{IsFault};
+ghost use Rattle.norm_multi.specs.Calls.{member_of};
+ghost use Rattle.norm_multi.specs.MultiMoves.{AreTaken};
+ghost use Rattle.norm_script.specs.Text.{text_lines};
+ghost use Rattle.norm_turns.specs.Causes.{WriteCause, NeedsMemory};
+ghost use Rattle.norm_turns.specs.Printing.{IsUnwritten};
+ghost use Rattle.norm_program.specs.Ends.{Called, outside};
+ghost use Rattle.norm_program.specs.GatherEnds.{Hearer, SoFar, Printed, AreLoaded, EndsAmong, EndsGather, draws_of, opening, moment_of_line, send_line, up_lines, told, last_line, gather_line, gather_lines, gathered, lines_of};
+ghost use Rattle.norm_program.specs.Hearing.{AllAnswered, Answered, AreHeard, AreReady, Delivers, HandedAll, HandsOn, Heard, IsAt, IsLinesEnding, IsLoadingPair, IsMembersEnding, IsReady, KeepsOthers, StandsFor, TakesLine, TickedAt, TookLines};
+ghost use Rattle.norm_program.specs.Lending.{GivesBack};
+ghost use Rattle.norm_program.specs.TailEnds.{LeavesLines};
+
+use crate::input::read_input;
+use crate::last_line::stop_session;
+use crate::lent::Lent;
+use crate::profiles::{copy_of, load, refuse_profile};
+use crate::show::refuse_line;
+use crate::status::{Ending, ProfileFault};
+use norm_args::Pairs;
+use norm_base::{
+    Clock, Datagram, Fabric, Files, InstanceId, Moment, NodeId, Notice, Profile, Sent, Sink,
+    Source, Text,
+};
+use norm_journal::{Totals, of_line};
+use norm_multi::{Multi, MultiFault};
+use norm_order::Up;
+use norm_script::split_at_first;
+use norm_show::{NoDatagram, datagram_in, why_none};
+use norm_text::Line;
+use norm_turns::{SessionFault, first_draws, next_draw, up_notice, write_line};
+use rand_pcg::Lcg64Xsh32;
+use std::alloc::{AllocError, Global};
+
+/// Microseconds between two lines.
+// Our own choice: a thousandth of a second for each line, so that empty lines let time pass.
+const LINE_TIME: u64 = 1_000;
+
+/// The most senders that are heard at once.
+// It is the limit of `Multi`. The words name no more.
+const MOST_SENDERS: usize = 8;
+
+/// The receivers of several senders, and what the lines so far led to.
+#[derive(Drop)]
+struct Gathering {
+    multi: Multi,
+    /// The next draw, which is used if a datagram belongs to one of the senders.
+    // It is drawn before it is known whether it is used: `deliver` takes it and says whose the datagram was.
+    draw: u32,
+    /// The draws after it.
+    draws: Lcg64Xsh32,
+    /// How many lines were not empty.
+    lines: u64,
+    counts: Totals,
+    /// Each printed line is made in its memory.
+    line: Line,
+    /// What a receiver sends is written into it.
+    datagram: Datagram,
+}
+
+/// The sender of a profile.
+fn sender_of(profile: &Profile) -> NodeId
+    ensures { result ≡ profile.now.sender }
+{
+    NodeId::of(profile.sender).unwrap()
+}
+
+/// Returns the first line of a text without its line feed, and what follows it. The last line may lack the line feed.
+fn first_line(text: &[u8]) -> (&[u8], &[u8])
+    requires { 1 ≤ length text.now }
+    ensures lines { text_lines text.now ≡ result.0.now ∷ text_lines result.1.now }
+    ensures less { length result.1.now < length text.now }
+{
+    match split_at_first(text, b'\n') {
+        Some(parts) => parts,
+        None => text.split_at(text.len()),
+    }
+}
+
+/// Returns the moment of line `number`, or the last one if there is none so late.
+fn moment_of(number: u64) -> Moment
+    ensures { result ≡ moment_of_line number }
+{
+    Moment(number.saturating_mul(LINE_TIME))
+}
+
+/// Makes the line of a datagram that is sent to this sender.
+fn put_send(line: &mut Line, sender: NodeId, octets: &[u8]) -> Result<(), AllocError>
+    ensures { OnOk result (line.new ≡ send_line sender octets.now) }
+{
+    line.restart(b"send", octets.len())?;
+    line.number(u64::from(sender.number()))?;
+    line.contents(octets)?;
+    line.finish()
+}
+
+/// Makes the last line.
+fn put_last(line: &mut Line, lines: u64, handed: u64) -> Result<(), AllocError>
+    ensures { OnOk result (line.new ≡ last_line lines handed) }
+{
+    line.restart(b"end", 0)?;
+    line.word(b"lines")?;
+    line.number(lines)?;
+    line.word(b"handed")?;
+    line.number(handed)?;
+    line.finish()
+}
+
+/// Writes the line of a hand-up.
+fn write_of<K: Sink>(
+    line: &mut Line,
+    sender: NodeId,
+    node: NodeId,
+    instance: InstanceId,
+    up: &Up,
+    output: &mut K,
+) -> Result<(), SessionFault>
+    ensures written { OnOk result (K.pieces output.new ≡ gained (K.pieces output.old) (of_line sender node instance up.now ∷ [])) }
+    ensures stops { IfErr result (λ fault. IsUnwritten fault (K.pieces output.old) (K.pieces output.new) (Some (of_line sender node instance up.now))) }
+    ensures cause { WriteCause result (K.fault_count output.old) (K.fault_count output.new) }
+{
+    of_line(line, sender, node, instance, up)?;
+    let notice = up_notice(up);
+    write_line(true, line, &notice, output)
+}
+
+/// Writes the line of a datagram that is sent to this sender.
+fn write_send<K: Sink>(
+    line: &mut Line,
+    sender: NodeId,
+    octets: &[u8],
+    output: &mut K,
+) -> Result<(), SessionFault>
+    ensures written { OnOk result (K.pieces output.new ≡ gained (K.pieces output.old) (send_line sender octets.now ∷ [])) }
+    ensures stops { IfErr result (λ fault. IsUnwritten fault (K.pieces output.old) (K.pieces output.new) (Some (send_line sender octets.now))) }
+    ensures cause { WriteCause result (K.fault_count output.old) (K.fault_count output.new) }
+{
+    put_send(line, sender, octets)?;
+    write_line(true, line, &Notice::Other, output)
+}
+
+/// Writes the last line.
+fn write_last<K: Sink>(
+    line: &mut Line,
+    lines: u64,
+    handed: u64,
+    output: &mut K,
+) -> Result<(), SessionFault>
+    ensures written { OnOk result (K.pieces output.new ≡ gained (K.pieces output.old) (last_line lines handed ∷ [])) }
+    ensures stops { IfErr result (λ fault. IsUnwritten fault (K.pieces output.old) (K.pieces output.new) (Some (last_line lines handed))) }
+    ensures cause { WriteCause result (K.fault_count output.old) (K.fault_count output.new) }
+{
+    put_last(line, lines, handed)?;
+    write_line(true, line, &Notice::Other, output)
+}
+
+/// Returns the number of the next line. `Memory` if it does not fit 64 bits: no text has so many lines.
+fn next_number(number: u64) -> Result<u64, SessionFault>
+    ensures next { IfOk result (λ next. next ≡ number + 1) }
+    ensures cause { NeedsMemory result }
+{
+    match number.checked_add(1) {
+        Some(next) => Ok(next),
+        None => Err(SessionFault::Memory),
+    }
+}
+
+/// Returns the draws as a gathering begins: those of the first profile. `None` does not happen, since the words name one at least.
+fn draws_of(members: &[(Profile, NodeId)]) -> Option<Lcg64Xsh32>
+    ensures { IfSome result (λ draws. draws ≡ draws_of members.now) }
+{
+    match members {
+        [] => None,
+        [first, ..] => Some(first_draws(&first.0)),
+    }
+}
+
+/// Adds a hand-up to the counts. `Memory` if a count does not fit 64 bits.
+fn count_up(counts: &mut Totals, up: &Up) -> Result<(), SessionFault>
+    ensures counted { OnOk result (counts.new ≡ with_up up.now counts.old) }
+    ensures cause { NeedsMemory result }
+{
+    if !counts.has_room_for_up(up) {
+        return Err(SessionFault::Memory);
+    }
+    counts.count_up(up);
+    Ok(())
+}
+
+impl Gathering {
+    /// Begins to hear the senders of these profiles, each as the node beside its profile.
+    ///
+    /// # Errors
+    ///
+    /// `NotReceiver` or `SameId`, the first that applies, or `Memory`.
+    fn begin(alloc: Global, members: &[(Profile, NodeId)]) -> Result<Gathering, MultiFault>
+        requires { length members.now ≤ 8 }
+        ensures stands { IfOk result (λ k. StandsFor members.now k (opening members.now)) }
+        ensures fault { IfErr result (λ why. IsFault why members.now) }
+    {
+        let Some(mut draws) = draws_of(members) else {
+            return Err(MultiFault::Memory);
+        };
+        let draw = next_draw(&mut draws);
+        let datagram = Datagram::new(alloc)?;
+        // Proof: the largest part last, so that no exit drops it.
+        let multi = Multi::new(alloc, members)?;
+        Ok(Gathering {
+            multi,
+            draw,
+            draws,
+            lines: 0,
+            counts: Totals::new(),
+            line: Line::new(alloc),
+            datagram,
+        })
+    }
+
+    /// Takes the next hand-up of a sender's receiver, counts it and writes its line. Does nothing if none is left.
+    fn hand_up<K: Sink>(
+        &mut self,
+        sender: NodeId,
+        node: NodeId,
+        output: &mut K,
+    ) -> Result<(), SessionFault>
+        requires { IsSome (member_of self.old.multi sender) }
+        ensures goes { OnOk result (HandsOn sender node self.old self.new (K.pieces output.old) (K.pieces output.new)) }
+        ensures keeps { OnOk result (KeepsOthers sender self.old self.new) }
+        ensures stops { IfErr result (λ fault. (h : Hearer) → IsAt sender node self.old.multi h
+            → LeavesLines fault (K.pieces output.old) (K.pieces output.new) (up_lines h)) }
+        ensures cause { WriteCause result (K.fault_count output.old) (K.fault_count output.new) }
+    {
+        let within = self.multi.receiver(sender).instance();
+        let Some(up) = self.multi.take_up(sender) else {
+            return Ok(());
+        };
+        // A receiver that hands something up is in an instance.
+        let Some(instance) = within else {
+            return Err(SessionFault::Memory);
+        };
+        count_up(&mut self.counts, &up)?;
+        write_of(&mut self.line, sender, node, instance, &up, output)
+    }
+
+    /// Takes all hand-ups of a sender's receiver, counts them and writes their lines.
+    fn hand_all<K: Sink>(
+        &mut self,
+        sender: NodeId,
+        node: NodeId,
+        output: &mut K,
+    ) -> Result<(), SessionFault>
+        requires { IsSome (member_of self.old.multi sender) }
+        ensures goes { OnOk result ((h : Hearer) → IsAt sender node self.old.multi h
+            → HandedAll sender node h self.old self.new (K.pieces output.old) (K.pieces output.new)) }
+        ensures taken { OnOk result (AreTaken (member_of self.new.multi sender)) }
+        ensures keeps { OnOk result (KeepsOthers sender self.old self.new) }
+        ensures stops { IfErr result (λ fault. (h : Hearer) → IsAt sender node self.old.multi h
+            → LeavesLines fault (K.pieces output.old) (K.pieces output.new) (up_lines h)) }
+        ensures cause { WriteCause result (K.fault_count output.old) (K.fault_count output.new) }
+    {
+        for _ in 0..self.multi.receiver(sender).ups() {
+            self.hand_up(sender, node, output)?;
+        }
+        // Never taken: the loop handed up as many as there were.
+        if self.multi.receiver(sender).ups() > 0 {
+            return Err(SessionFault::Memory);
+        }
+        Ok(())
+    }
+
+    /// Ticks a sender's receiver. If it has a datagram to send, that is in `datagram` afterwards.
+    fn tick(&mut self, sender: NodeId, now: Moment) -> Sent
+        requires there { IsSome (member_of self.old.multi sender) }
+        requires taken { AreTaken (member_of self.old.multi sender) }
+        ensures goes { (node : ℕ) (h : Hearer) → IsAt sender node self.old.multi h → TickedAt sender node now h result self.old self.new }
+        ensures keeps { KeepsOthers sender self.old self.new }
+    {
+        self.multi.tick(sender, now, &mut self.datagram)
+    }
+
+    /// Takes all hand-ups of a sender's receiver and ticks it, and writes the lines of what it handed up and of what it sends. The tick is last,
+    /// because an acknowledgement may leave only after the user has what it confirms.
+    fn answer<K: Sink>(
+        &mut self,
+        sender: NodeId,
+        node: NodeId,
+        now: Moment,
+        output: &mut K,
+    ) -> Result<(), SessionFault>
+        requires { IsSome (member_of self.old.multi sender) }
+        ensures goes { OnOk result ((h : Hearer) → IsAt sender node self.old.multi h
+            → Answered sender node now h self.old self.new (K.pieces output.old) (K.pieces output.new)) }
+        ensures keeps { OnOk result (KeepsOthers sender self.old self.new) }
+        ensures stops { IfErr result (λ fault. (h : Hearer) → IsAt sender node self.old.multi h
+            → LeavesLines fault (K.pieces output.old) (K.pieces output.new) (told now h)) }
+        ensures cause { WriteCause result (K.fault_count output.old) (K.fault_count output.new) }
+    {
+        self.hand_all(sender, node, output)?;
+        match self.tick(sender, now) {
+            Sent::Nothing => Ok(()),
+            Sent::Datagram => { write_send(&mut self.line, sender, self.datagram.bytes(), output) }
+        }
+    }
+
+    /// Does so for each sender in the order of the words.
+    fn answer_all<K: Sink>(
+        &mut self,
+        members: &[(Profile, NodeId)],
+        now: Moment,
+        output: &mut K,
+    ) -> Result<(), SessionFault>
+        requires { AreReady members.now self.old.multi }
+        ensures goes { OnOk result ((hearers : List Hearer) → AreHeard members.now self.old.multi hearers
+            → AllAnswered members.now now hearers self.old self.new (K.pieces output.old) (K.pieces output.new)) }
+        ensures stops { IfErr result (λ fault. (hearers : List Hearer) → AreHeard members.now self.old.multi hearers
+            → LeavesLines fault (K.pieces output.old) (K.pieces output.new) (flat_map (told now) hearers)) }
+        ensures cause { WriteCause result (K.fault_count output.old) (K.fault_count output.new) }
+    {
+        for member in members {
+            self.answer(sender_of(&member.0), member.1, now, output)?;
+        }
+        Ok(())
+    }
+
+    /// Delivers a datagram. Uses a draw exactly if it belongs to one of the senders.
+    fn deliver(&mut self, octets: &[u8], now: Moment) -> Result<(), SessionFault>
+        ensures goes { OnOk result (Delivers octets.now now self.old self.new) }
+        ensures cause { NeedsMemory result }
+    {
+        let owner = self.multi.deliver(octets, now, self.draw)?;
+        // Proof: a return in place of a branch, so that each way has its own facts.
+        if !owner.is_some() {
+            return Ok(());
+        }
+        self.draw = next_draw(&mut self.draws);
+        Ok(())
+    }
+
+    /// Counts a line that is not empty. `Memory` if the count does not fit 64 bits.
+    fn count_line(&mut self) -> Result<(), SessionFault>
+        ensures counted { OnOk result (self.new ≡ record self.old { lines = self.old.lines + 1 }) }
+        ensures cause { NeedsMemory result }
+    {
+        let Some(lines) = self.lines.checked_add(1) else {
+            return Err(SessionFault::Memory);
+        };
+        self.lines = lines;
+        Ok(())
+    }
+
+    /// Delivers the datagram of a line at its moment. Then takes the hand-ups of each sender's receiver and ticks it, whoever the datagram
+    /// belonged to.
+    fn hear<K: Sink>(
+        &mut self,
+        members: &[(Profile, NodeId)],
+        octets: &[u8],
+        now: Moment,
+        output: &mut K,
+    ) -> Result<(), SessionFault>
+        requires { IsReady members.now self.old }
+        ensures goes { OnOk result ((g : SoFar) → StandsFor members.now self.old g
+            → Heard members.now now octets.now g self.new (K.pieces output.old) (K.pieces output.new)) }
+        ensures stops { IfErr result (λ fault. (g : SoFar) → StandsFor members.now self.old g
+            → LeavesLines fault (K.pieces output.old) (K.pieces output.new) (lines_of now octets.now g)) }
+        ensures cause { WriteCause result (K.fault_count output.old) (K.fault_count output.new) }
+    {
+        self.deliver(octets, now)?;
+        self.count_line()?;
+        self.answer_all(members, now, output)
+    }
+
+    /// Takes line `number`, counted from 1. Returns why it spells no datagram, if it spells none; then nothing was done. An empty line does nothing
+    /// but that its moment passes.
+    fn take_line<K: Sink>(
+        &mut self,
+        alloc: Global,
+        members: &[(Profile, NodeId)],
+        number: u64,
+        line: &[u8],
+        output: &mut K,
+    ) -> Result<Option<NoDatagram>, SessionFault>
+        requires { IsReady members.now self.old }
+        ensures goes { IfOk result (λ why. (g : SoFar) → StandsFor members.now self.old g
+            → TakesLine members.now number line.now g self.new (K.pieces output.old) (K.pieces output.new) why) }
+        ensures ready { OnOk result (IsReady members.now self.new) }
+        ensures stops { IfErr result (λ fault. (g : SoFar) (rest : SoFar → Printed) → StandsFor members.now self.old g
+            → LeavesLines fault (K.pieces output.old) (K.pieces output.new) (gather_line number line.now g rest).lines) }
+        ensures cause { WriteCause result (K.fault_count output.old) (K.fault_count output.new) }
+    {
+        if line.is_empty() {
+            return Ok(None);
+        }
+        let Some(datagram) = datagram_in(alloc, line)? else {
+            return Ok(Some(why_none(line)));
+        };
+        self.hear(members, datagram.bytes(), moment_of(number), output)?;
+        Ok(None)
+    }
+
+    /// Takes the lines of a text, and writes the last line. If a line spells no datagram, returns its number and why, and takes no further one.
+    fn take_lines<K: Sink>(
+        &mut self,
+        alloc: Global,
+        members: &[(Profile, NodeId)],
+        text: &[u8],
+        output: &mut K,
+    ) -> Result<Option<(u64, NoDatagram)>, SessionFault>
+        requires { IsReady members.now self.old }
+        ensures goes { IfOk result (λ stop. (g : SoFar) → StandsFor members.now self.old g
+            → TookLines (gather_lines 1 (text_lines text.now) g) (K.pieces output.old) (K.pieces output.new) stop) }
+        ensures stops { IfErr result (λ fault. (g : SoFar) → StandsFor members.now self.old g
+            → LeavesLines fault (K.pieces output.old) (K.pieces output.new) (gather_lines 1 (text_lines text.now) g).lines) }
+        ensures cause { WriteCause result (K.fault_count output.old) (K.fault_count output.new) }
+    {
+        let mut rest = text;
+        let mut number = 1u64;
+        // Proof: the label names the loop for its invariant.
+        'lines: while !rest.is_empty() {
+            let (line, more) = first_line(rest);
+            if let Some(why) = self.take_line(alloc, members, number, line, output)? {
+                return Ok(Some((number, why)));
+            }
+            rest = more;
+            number = next_number(number)?;
+        }
+        write_last(&mut self.line, self.lines, self.counts.handed, output)?;
+        Ok(None)
+    }
+}
+
+/// Writes the last line if these senders are refused, and returns the ending. If memory ran out, it writes none.
+fn refuse_members<K: Sink>(why: MultiFault, output: &mut K) -> Ending
+    ensures { IsMembersEnding why result (K.pieces output.old) (K.pieces output.new) (K.fault_count output.old) (K.fault_count output.new) }
+{
+    match why {
+        MultiFault::Memory => Ending::Memory,
+        MultiFault::NotReceiver { .. } | MultiFault::SameId { .. } => {
+            refuse_profile(ProfileFault::Members { why }, output)
+        }
+    }
+}
+
+/// Takes the lines of a text, writes what is printed of them, and returns the ending.
+fn end_lines<K: Sink>(
+    alloc: Global,
+    gathering: Gathering,
+    members: &[(Profile, NodeId)],
+    text: &[u8],
+    output: &mut K,
+) -> Ending
+    requires { StandsFor members.now gathering (opening members.now) }
+    ensures { IsLinesEnding result (gathered members.now text.now) (K.pieces output.old) (K.pieces output.new)
+        (K.fault_count output.old) (K.fault_count output.new) }
+{
+    let mut gathering = gathering;
+    match gathering.take_lines(alloc, members, text, output) {
+        Ok(None) => Ending::Done,
+        Ok(Some(stop)) => refuse_line(alloc, stop.0, stop.1, output),
+        Err(fault) => stop_session(alloc, fault, output),
+    }
+}
+
+/// Hears these senders: reads the input whole, writes what is printed of its lines, and returns the ending. If the senders are refused, does
+/// not read the input.
+fn gather<S: Source, K: Sink>(
+    alloc: Global,
+    members: &[(Profile, NodeId)],
+    input: &mut S,
+    output: &mut K,
+) -> Ending
+    ensures { (called : Called) → EndsAmong members.now result
+        (outside (S.left input.old) (K.pieces output.old) (S.fault_count input.old) (K.fault_count output.old) called)
+        (outside (S.left input.new) (K.pieces output.new) (S.fault_count input.new) (K.fault_count output.new) called) }
+{
+    // Never taken: the words name at most eight.
+    if members.len() > MOST_SENDERS {
+        return Ending::Memory;
+    }
+    let gathering = match Gathering::begin(alloc, members) {
+        Ok(gathering) => gathering,
+        Err(why) => return refuse_members(why, output),
+    };
+    match read_input(alloc, input, output) {
+        Ok(text) => end_lines(alloc, gathering, members, &text, output),
+        Err(ending) => ending,
+    }
+}
+
+/// Loads the profiles of these pairs in their order. If one cannot be loaded, writes the last line, if the ending has one, and returns the ending.
+fn load_all<K: Sink, D: Files>(
+    alloc: Global,
+    pairs: &[(Text, NodeId)],
+    output: &mut K,
+    files: &mut D,
+) -> Result<Vec<(Profile, NodeId)>, Ending>
+    ensures same { D.contents files.new ≡ D.contents files.old }
+    ensures loaded { IfOk result (λ members. AreLoaded (D.contents files.old) pairs.now members.items) }
+    ensures unwritten { OnOk result (K.pieces output.new ≡ K.pieces output.old) }
+    ensures quiet { OnOk result ((K.fault_count output.new ≡ K.fault_count output.old) × (D.fault_count files.new ≡ D.fault_count files.old)) }
+    ensures ending { IfErr result (λ ending. IsLoadingPair pairs.now ending (D.contents files.old) (K.pieces output.old) (K.pieces output.new)
+        (K.fault_count output.old) (K.fault_count output.new) (D.fault_count files.old) (D.fault_count files.new)) }
+{
+    let mut members = Vec::new(alloc);
+    for pair in pairs {
+        let path = copy_of(&pair.0)?;
+        let profile = load(alloc, path, output, files)?;
+        members.push((profile, pair.1))?;
+    }
+    Ok(members)
+}
+
+/// Loads the profiles of these pairs, hears their senders, and returns the ending; what each ending says is in `EndsGather`. Starts no network.
+pub(crate) fn end_gather<S: Source, K: Sink, F: Fabric, D: Files, C: Clock>(
+    alloc: Global,
+    pairs: Pairs,
+    lent: &mut Lent<'_, S, K, F, D, C>,
+) -> Ending
+    ensures ends { GivesBack S.Source K.Sink F.Fabric D.Files C.Clock (EndsGather pairs result) lent.old lent.new }
+    ensures files { D.contents lent.new.files.now ≡ D.contents lent.old.files.now }
+{
+    let pairs = pairs.into_inner();
+    match load_all(alloc, &pairs, lent.output, lent.files) {
+        Ok(members) => gather(alloc, &members, lent.input, lent.output),
+        Err(ending) => ending,
+    }
+}
