@@ -202,6 +202,7 @@ impl Relay {
     /// `Memory` if memory runs out.
     pub fn deliver_up(&mut self, bytes: &[u8], now: Moment, draw: u32) -> Result<bool, RelayFault>
         ensures call { IfOk result (λ taken. IsCall self.old self.new (UpDelivered bytes.now now draw) (λ answer. answer ≡ Took taken)) }
+        ensures memory { IfErr result (λ why. why ≡ fault.Memory) }
     {
         if !self.waiting.is_empty() {
             return Ok(false);

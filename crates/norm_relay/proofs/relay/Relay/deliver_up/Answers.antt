@@ -13,6 +13,7 @@ returns-then-not-is_empty c =
           is_busy c.args.self.now c.args.bytes.now c.args.now c.args.draw
           (λ none. is_filled i.waiting.items i.waiting.len c.is_empty.result many c.is_empty.ensures c.if-not-is_empty.true
           (ap (λ (k : RelayKept). k.waiting) c.self.view_is ∙ none));
+      memory = tt;
     }
 
 pub returns : goal.returns
@@ -26,4 +27,5 @@ returns c =
           (is_taken i.receiver c.hear.new.receiver c.take_all.new.receiver i.lower i.waiting.items c.take_all.new.waiting.items i.held c.hear.new.held c.args.bytes.now
           c.args.now c.args.draw none c.in_ok-hear.ensures.profile c.in_ok-hear.ensures.stands c.in_ok-hear.ensures.leaves c.in_ok-take_all.ensures.profile
           c.in_ok-take_all.ensures.taken c.in_ok-take_all.ensures.waits);
+      memory = tt;
     }
