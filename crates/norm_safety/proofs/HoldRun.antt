@@ -509,6 +509,12 @@ opening_kept p = record {
   losses = λ node member. refl;
 }
 
+-- what a lawful run in hold mode leaves
+pub kept_of : (p : Settings) → InRange p → p.mode ≡ mode.Hold → (events : List Event) → Lawful p events → AreEvents events
+    → RunKept p [] (world_opening p) events
+kept_of p range hold events lawful are =
+    run_kept p range hold [] [] (world_opening p) events lawful are (opening_world p range) (confirms_opening p) (opening_kept p)
+
 -- In hold mode only a node that was struck reports a loss.
 pub hold_run : (p : Settings) → InRange p → (events : List Event) → Lawful p events → AreEvents events
     → LosesNothing p (history p events)
@@ -543,6 +549,6 @@ hold_run p range events lawful are = go p.mode refl
     go : (m : Mode) → p.mode ≡ m → by m
     go mode.Drop e = tt
     go mode.Hold e =
-        let run = run_kept p range e [] [] (world_opening p) events lawful are (opening_world p range) (confirms_opening p) (opening_kept p) in
+        let run = kept_of p range e events lawful are in
         let A : List ℕ → Type 0 = λ nodes. AllByRecursion (λ node. (listed_in node (history p events).now.sender.listings ≡ true) ⊎ (struck_in node (history p events).now.sender.struck ≡ true)) nodes in
         each run (history p events).now.receivers (subst A (sym (run.nodes ∙ opening_nodes (receivers_of p p.receivers))) run.kept.members)

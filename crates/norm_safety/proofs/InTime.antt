@@ -67,7 +67,7 @@ both_true : (a b : Bool) → a ≡ true → b ≡ true → (a && b) ≡ true
 both_true true b e f = f
 both_true false b e f = absurd (clash e)
 
-near_small : (known : ℕ) (indices : List ℕ) → known ≤ most_apart → AreUpTo most_apart indices → are_near (Some known) indices ≡ true
+pub near_small : (known : ℕ) (indices : List ℕ) → known ≤ most_apart → AreUpTo most_apart indices → are_near (Some known) indices ≡ true
 near_small known [] le all = refl
 near_small known (index ∷ indices) le all =
     let few = all.0 in
@@ -149,7 +149,7 @@ not_above a b (inl lt) = omega arith
 not_above a b (inr same) = (let e = same.0 in omega arith)
 
 -- what is true of orders of few objects has small indices
-true_low : (p : Settings) (s : SenderState) (indices : List ℕ) (m : Message) → OrdersHold p s → FewObjects s → IsSpoken m → IsTrueOf p s indices m
+pub true_low : (p : Settings) (s : SenderState) (indices : List ℕ) (m : Message) → OrdersHold p s → FewObjects s → IsSpoken m → IsTrueOf p s indices m
     → AreUpTo most_apart indices
 true_low p s indices (Data m) orders few spoken (speaks, says) =
     let S : List ℕ → Type 0 = λ xs. AreUpTo most_apart xs in
