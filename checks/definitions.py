@@ -9,7 +9,7 @@ antt computes the defined steps, event by event, and compares each answer and th
 the statement "they never part" is `refl`. Nothing is proved or built of the crates, and no code of theirs is run.
 
 Without a flag the runs are compared. `--safe` evaluates the tests of lawfulness and safety along each lawful run, `--laws` those of
-laws of the rules along each run, and that each damage of a state is noticed, `--cases` the
+laws of the rules along each run, and that each damage of a state is noticed, with those of recovery along each tail, `--cases` the
 small runs and values of checks/cases, `--damaged` the tests of safety on damaged runs, and `--errors` looks whether
 each deliberate error of checks/errors in a definition is noticed by the case that it names. `--rules` compares the rows of
 docs/protocol.md with what stands here, and with `--write` prints them again. `--journals` judges each recorded journal, which has to be
@@ -111,11 +111,12 @@ def main():
                 from evaluate import rules
                 said, differ = rules.look(a.write)
             elif a.laws:
-                from evaluate import handed, journals, laws
+                from evaluate import handed, journals, laws, recovery, tails
                 said, differ = laws.look(space, runs)
                 own, astray = journals.look_at_laws(journals.Judge(tempfile.mkdtemp(dir=scratch)), journals.without_streams(journals.runs_of(a.runs, a.names)))
                 passing, parted = handed.look(handed.Passing(tempfile.mkdtemp(dir=scratch)), runs)
-                said, differ = '%s, %s, %s' % (said, own, passing), differ + astray + parted
+                recovered, unmet = recovery.look(recovery.Recovery(tempfile.mkdtemp(dir=scratch)), tails.runs_of(a.runs, a.names))
+                said, differ = '%s, %s, %s, %s' % (said, own, passing, recovered), differ + astray + parted + unmet
             elif a.safe:
                 said, differ = compare(space, [], [(n, *terms.safe_case(n, r)) for n, r in lawful])
             elif a.gate or a.damaged or a.cases:

@@ -478,13 +478,13 @@ tick_since p s mark t now only h = record {
 -- ---- events
 
 -- no command, and no tick of the sender
-abbrev Quiet : Settings → Event → Type 0
+abbrev pub Quiet : Settings → Event → Type 0
 Quiet p (Commanded by job now) = ⊥
 Quiet p (Ticked node now) = (node == p.sender) ≡ false
 Quiet p _ = ⊤
 
 -- what comes to the sender, or leaves it
-abbrev if_own : Bool → SenderState → SenderState → SenderState
+abbrev pub if_own : Bool → SenderState → SenderState → SenderState
 if_own own after before = elim own [ true ↦ after | false ↦ before ]
 
 quiet_since : (p : Settings) (s : SenderState) (mark : ℕ) (w : World) (e : Event) → Quiet p e → Since p s mark w.sender → Since p s mark (world_step p w e).0.sender
@@ -514,7 +514,7 @@ one_more : (P : ℕ → Type 0) (xs : List ℕ) (x : ℕ) → AllByRecursion P x
 one_more P [] x all h = (h, tt)
 one_more P (y ∷ xs) x all h = (all.0, one_more P xs x all.1 h)
 
-not_sender : (p : Settings) (n : ℕ) → AllByRecursion (λ (node : ℕ). (node == p.sender) ≡ false) (receivers_of p n)
+pub not_sender : (p : Settings) (n : ℕ) → AllByRecursion (λ (node : ℕ). (node == p.sender) ≡ false) (receivers_of p n)
 not_sender p zero = tt
 not_sender p (suc n) =
     one_more (λ (node : ℕ). (node == p.sender) ≡ false) (receivers_of p n) (p.sender + 1 + n) (not_sender p n) (go ((p.sender + 1 + n) == p.sender) refl)

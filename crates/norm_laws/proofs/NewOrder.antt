@@ -22,7 +22,7 @@ clash e = cc
 
 -- ---- the order of wants, as numbers
 
-abbrev Earlier : Want → Want → Type 0
+abbrev pub Earlier : Want → Want → Type 0
 Earlier (Info i) (Info j) = i < j
 Earlier (Info i) (Symbol at) = i ≤ at.index
 Earlier (Symbol at) (Info j) = at.index < j
@@ -35,7 +35,7 @@ le_decides a b = go (leb_tells a b)
     go (inl tells) = (λ e. tells.1, λ le. tells.0)
     go (inr tells) = (λ e. absurd (clash (sym tells.0 ∙ e)), λ le. absurd (let lt = tells.1 in omega (arith, lt, le)))
 
-earlier_decides : (a b : Want) → Decides (want_before a b) (Earlier a b)
+pub earlier_decides : (a b : Want) → Decides (want_before a b) (Earlier a b)
 earlier_decides (Info i) (Info j) = Decides-ltb i j
 earlier_decides (Info i) (Symbol at) = le_decides i at.index
 earlier_decides (Symbol at) (Info j) = Decides-ltb at.index j

@@ -1,0 +1,88 @@
+-- A flush goes if nothing else does.
+use Rattle.std.proofs.Math.Nat.{min-le_left}
+use Rattle.std.proofs.Common.{◌≡◌, ℕ, zero, suc, ◌+◌, ◌*◌, ◌<◌, ◌≤◌, List, [], ◌∷◌, length, Bool, true, false, Option, None, Some, refl, sym, ap, ◌∙◌, arith}
+use Rattle.std.specs.Prelude.{nat_lt, nat_le, IfSome}
+use Rattle.std.proofs.lemmas.Bool.{le-ltb}
+use Rattle.std.proofs.lemmas.Bool.Decides.{Decides-ltb, leb_tells}
+use Rattle.norm_base.specs.Settings.{Settings}
+use Rattle.norm_ext.specs.Written.{Written, writes}
+use Rattle.norm_order.specs.Moments.{moment_after}
+use Rattle.norm_send_rules.specs.Flushing.{most_flushes, may_flush, flushes_for, flushes_no_more, flushed, flushes_in_turn, flushes}
+use Rattle.norm_send_rules.specs.Messages.{squelch_message}
+use Rattle.norm_send_rules.specs.SenderState.{SenderState, Watermark}
+use Rattle.norm_send_rules.specs.Sending.{sends, next_new, behind, sends_new, repairs_next}
+use Rattle.norm_send_rules.specs.Ticking.{sends_further, sends_wanted, sends_first, sends_in_time, ticked}
+use Rattle.norm_send_rules.specs.declared.want.Want.{Want}
+use Rattle.norm_recovery.specs.Flush.{MayFlush, FlushGoes}
+use Rattle.norm_recovery.specs.RunsOut.{all_new, one_if}
+use Rattle.norm_recovery.proofs.RunsOutNew.{fewer_new}
+
+-- ---- with nothing to be sent, each part has nothing
+
+no_squelch : (b : Bool) → one_if b ≡ 0 → b ≡ false
+no_squelch true e = cc
+no_squelch false e = refl
+
+no_want : (ws : List Want) → length ws ≡ 0 → ws ≡ []
+no_want [] e = refl
+no_want (w ∷ ws) e = absurd (omega (arith, e))
+
+no_new : (p : Settings) (s : SenderState) → length (all_new p s) ≡ 0 → next_new p s ≡ None
+no_new p s e = go (next_new p s) refl
+  where
+    go : (found : Option Want) → next_new p s ≡ found → found ≡ None
+    go None is = refl
+    go (Some w) is = let less = fewer_new p s (record s { next = behind w }) w is refl refl in absurd (omega (arith, less, e))
+
+first_none : (a b c : ℕ) → a + b + c ≡ 0 → a ≡ 0
+first_none a b c e = omega (arith, e)
+
+second_none : (a b c : ℕ) → a + b + c ≡ 0 → b ≡ 0
+second_none a b c e = omega (arith, e)
+
+third_none : (a b c : ℕ) → a + b + c ≡ 0 → c ≡ 0
+third_none a b c e = omega (arith, e)
+
+at_most : (a b : ℕ) → a ≤ b → nat_le a b ≡ true
+at_most a b le = grind (arith, leb_tells a b)
+
+flush_time : (p : Settings) (now : ℕ) (last : Option ℕ) → IfSome last (λ m. m + 2 * p.grtt ≤ now)
+    → (elim last as (λ _. Bool) [ Some m ↦ nat_le (moment_after m (2 * p.grtt)) now | None ↦ true ]) ≡ true
+flush_time p now None h = refl
+flush_time p now (Some m) h =
+    let least = min-le_left (m + 2 * p.grtt) 18446744073709551615 in at_most (moment_after m (2 * p.grtt)) now (omega (arith, least, h))
+
+pub flush_goes : FlushGoes
+flush_goes p now s w h = ap (λ (t : SenderState). sends_in_time p now t) h.closes_none ∙ in_time
+  where
+    squelch : ℕ
+    squelch = one_if s.squelch_due
+
+    counts : flushed p now w s ≡ flushes_for p now w s
+    counts = ap (λ (b : Bool). elim b as (λ _. SenderState × Option Written) [ true ↦ flushes_for p now w s | false ↦ flushes_no_more p now w s ])
+        ((Decides-ltb s.flushes most_flushes).1 h.few)
+
+    turn : flushes_in_turn p now s ≡ flushes_for p now w s
+    turn = ap (λ (o : Option Watermark). elim o as (λ _. SenderState × Option Written) [ Some v ↦ flushed p now v s | None ↦ (s, None) ]) h.is_oldest ∙ counts
+
+    flushing : flushes p now s ≡ flushes_for p now w s
+    flushing = ap (λ (b : Bool). elim b as (λ _. SenderState × Option Written) [ true ↦ flushes_in_turn p now s | false ↦ (s, None) ])
+        (flush_time p now s.last_flush h.apart) ∙ turn
+
+    further : sends_further p now s ≡ flushes_for p now w s
+    further = ap (λ (o : Option Want). elim o as (λ _. SenderState × Option Written) [ Some v ↦ sends_new p now v s | None ↦ flushes p now s ])
+        (no_new p s (third_none squelch (length s.wants) (length (all_new p s)) h.nothing)) ∙ flushing
+
+    wanted : sends_wanted p now s ≡ flushes_for p now w s
+    wanted = ap (λ (ws : List Want). elim ws as (λ _. SenderState × Option Written) [ [] ↦ sends_further p now s | v ∷ more ↦ repairs_next p now v more s ])
+        (no_want s.wants (second_none squelch (length s.wants) (length (all_new p s)) h.nothing)) ∙ further
+
+    first : sends_first p now s ≡ flushes_for p now w s
+    first = ap (λ (b : Bool). elim b as (λ _. SenderState × Option Written) [
+      | true ↦ sends p now (writes (squelch_message p s s.current.drop) (s.current.drop.index ∷ [])) (record s { squelch_due = false })
+      | false ↦ sends_wanted p now s
+    ]) (no_squelch s.squelch_due (first_none squelch (length s.wants) (length (all_new p s)) h.nothing)) ∙ wanted
+
+    in_time : sends_in_time p now s ≡ flushes_for p now w s
+    in_time = ap (λ (b : Bool). elim b as (λ _. SenderState × Option Written) [ true ↦ (s, None) | false ↦ sends_first p now s ])
+        (le-ltb now s.next_send h.due) ∙ first

@@ -1,0 +1,11 @@
+pub mod Timely
+pub mod RunsOut
+pub mod Flush
+pub mod TailOf
+pub mod TailLawful
+pub mod TailKeeps
+pub mod MembersStand
+pub mod MembersEnter
+pub mod FlushTurn
+pub mod FlushListed
+pub mod FlushConfirmed

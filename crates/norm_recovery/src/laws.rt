@@ -1,0 +1,90 @@
+//! Laws of bounded recovery. Each law is the contract of a function that does nothing. Begin with [`tail_is_lawful`].
+
+ghost use Rattle.norm_recovery.specs.Flush.{FlushGoes, FlushHeard};
+ghost use Rattle.norm_recovery.specs.FlushConfirmed.{FlushConfirmed};
+ghost use Rattle.norm_recovery.specs.FlushListed.{FlushListed};
+ghost use Rattle.norm_recovery.specs.FlushTurn.{FlushReaches};
+ghost use Rattle.norm_recovery.specs.MembersEnter.{MembersEnter};
+ghost use Rattle.norm_recovery.specs.MembersStand.{MembersStand};
+ghost use Rattle.norm_recovery.specs.RunsOut.{RunsOutLaws, TailRunsOut};
+ghost use Rattle.norm_recovery.specs.TailKeeps.{TailKeeps};
+ghost use Rattle.norm_recovery.specs.TailLawful.{TailIsLawful};
+ghost use Rattle.norm_recovery.specs.Timely.{RunsAreTimely};
+
+/// No run, lawful or not, puts anything off further than the rules say. If no event passes a moment, then within a gap of it the sender may
+/// send, within K + 1 round trips an open round closes, within K a back-off ends, and within K + 2 nobody is held off any more. The last
+/// flush was not later than that moment.
+pub fn runs_are_timely()
+    ensures { RunsAreTimely }
+{}
+
+/// A tail of a lawful run is lawful with it, and may be followed by another tail, if the commands are such as a program can make and no
+/// instance has more than 32,768 objects. The tail may be cut. Mode, pace, draws and moments do not matter, and streams may be there.
+#[tactic(auto, using(crate::proofs::LawfulTail::tail_is_lawful))]
+pub fn tail_is_lawful()
+    ensures { TailIsLawful }
+{}
+
+/// At every moment of each tail of each run, the sender's orders, drop points, members and struck nodes are as they were when it began, and
+/// so are the number, command, position and quorum of each watermark.
+pub fn tail_keeps()
+    ensures { TailKeeps }
+{}
+
+/// In `hold` mode, at every moment of each tail, a member that is in the sender's current instance stands at the drop point or past it, and
+/// lost nothing there. If a member is in another instance or in none, nothing was dropped of the current one.
+#[tactic(auto, using(crate::proofs::MembersTail::members_stand))]
+pub fn members_stand()
+    ensures { MembersStand }
+{}
+
+/// Whoever hears a datagram of the sender at a moment of a tail is in the sender's current instance then, if the datagram is of it. What the
+/// sender's tick gives is.
+#[tactic(auto, using(crate::proofs::MembersEnter::members_enter))]
+pub fn members_enter()
+    ensures { MembersEnter }
+{}
+
+/// What one sender has to send runs out while its rounds stay open: a squelch that is due, the wants, and what is new take a gap and a step
+/// each. The wants are no more than the infos and encoded symbols of the window, and nor is what is new.
+pub fn what_is_to_send()
+    ensures { RunsOutLaws }
+{}
+
+/// In a tail all that is to be sent runs out, whatever the draws: a round trip after the tail began, or after the last closing of a round,
+/// nothing is. The window has to be so small that it can be sent twice in a round trip.
+pub fn tail_runs_out()
+    ensures { TailRunsOut }
+{}
+
+/// A flush goes if nothing else does. If nothing is to be sent, two round trips have passed since the last flush and fewer than 20 were
+/// counted, a due tick that closes no round flushes for the oldest watermark.
+pub fn flush_goes()
+    ensures { FlushGoes }
+{}
+
+/// A receiver that hears a flush in its instance, or in one that it goes on to, knows that position or a further one from then on, until it
+/// leaves that instance. If the flush asks it, and it handed up all through that position, it owes an acknowledgement.
+#[tactic(auto, using(crate::proofs::FlushHeard::flush_heard))]
+pub fn flush_heard()
+    ensures { FlushHeard }
+{}
+
+/// A flush reaches every receiver. If the sender flushes in a turn after a lawful run of few objects, each receiver is then in the current
+/// instance, and knows that position or a further one, whatever the draws.
+pub fn flush_comes()
+    ensures { FlushReaches }
+{}
+
+/// A sender that hears a member confirm a position, or a further one, lists it past that position. It stays listed through whatever is no
+/// command.
+#[tactic(auto, using(crate::proofs::FlushListed::flush_listed))]
+pub fn flush_listed()
+    ensures { FlushListed }
+{}
+
+/// In the turn of a flush every member that it asks and that handed up all through its position is listed past that position, if it is in the
+/// current instance and lost nothing there, after a lawful run of few objects, whatever the draws.
+pub fn flush_confirmed()
+    ensures { FlushConfirmed }
+{}
