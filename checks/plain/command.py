@@ -1,8 +1,9 @@
-"""The command: reads words and a script, runs the session, and prints its lines."""
+"""The commands: read words and an input, and print lines."""
 from __future__ import annotations
 
 import sys
 
+from .gather import gather, pairs_of
 from .keys import NUMBERS, number
 from .script import NoMeaning, read_script
 from .session import Fault, Session
@@ -51,6 +52,10 @@ def ended(session: Session, tail: int | None) -> int:
 
 def run(words: list[str], text: bytes, folder: str) -> tuple[int, str]:
     """Runs the program on words and an input, in a folder with files. Returns the status and what it prints."""
+    pairs = pairs_of(words[1:]) if words[:1] == ['gather'] else None
+    if pairs is not None:
+        status, lines = gather(pairs, text, folder)
+        return status, ''.join(line + '\n' for line in lines)
     options = options_of(words[1:]) if words[:1] == ['session'] else None
     if options is None:
         return NO_COMMAND, USAGE + '\n'

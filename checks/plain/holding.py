@@ -8,6 +8,20 @@ from .order import SEGMENT_HEAD, ObjectCut, StreamCut
 MOST_AHEAD = 256                                # objects from the hand-up point on
 
 
+def length_said(p: Profile, message: wire.Object) -> int:
+    """Returns how many octets an object takes, by a message of it: a stream its buffer."""
+    return p.blocks * p.b * p.e if message.flags & wire.IS_STREAM else message.fti[0]
+
+
+def length_of(segment: bytes) -> int:
+    """Returns how many octets a segment says that it has."""
+    return int.from_bytes(segment[:2], 'big')
+
+
+def shape(p: Profile) -> tuple[int, int, int]:
+    return p.e, p.b, p.max_n
+
+
 class Plan:
     """What is known and held of an object: its cut, its flags, of a stream the greatest block seen and the end, and the symbols of its blocks."""
 
@@ -16,14 +30,29 @@ class Plan:
         self.is_stream = bool(message.flags & wire.IS_STREAM)
         self.is_file = bool(message.flags & wire.IS_FILE)
         self.has_info = bool(message.flags & wire.HAS_INFO)
-        self.length = p.blocks * p.b * p.e if self.is_stream else message.length
-        self.cut = StreamCut(p) if self.is_stream else ObjectCut(p, message.length)
+        self.length = length_said(p, message)
+        self.cut = StreamCut(p) if self.is_stream else ObjectCut(p, self.length)
         self.info: bytes | None = None
         self.seen = 0
         self.end: tuple[int, int] | None = None
         self.held: dict[int, dict[int, bytes]] = {}
         self.done: dict[int, list[bytes]] = {}  # the source symbols of each block of which k symbols are held
         self.first_short = 0                    # each block before this one is done
+
+    def is_same(self, p: Profile, message: wire.Object) -> bool:
+        """Returns whether a message says this plan too."""
+        return message.fti[1:] == shape(p) and bool(message.flags & wire.IS_STREAM) == self.is_stream and length_said(p, message) == self.length
+
+    def fits(self, block: int, symbol: int, payload: bytes) -> bool:
+        """Returns whether this is a symbol of the object, at its length."""
+        if block >= self.cut.blocks or symbol >= self.cut.encoded(block):
+            return False
+        e, is_source = self.cut.p.e, symbol < self.cut.sources(block)
+        if not self.is_stream:
+            return len(payload) == (min(e, self.length - self.cut.number(block, symbol) * e) if is_source else e)
+        if not is_source:
+            return len(payload) == e + SEGMENT_HEAD
+        return SEGMENT_HEAD <= len(payload) == SEGMENT_HEAD + length_of(payload) <= SEGMENT_HEAD + e
 
     def lacks_info(self) -> bool:
         return self.has_info and self.info is None
@@ -42,7 +71,7 @@ class Plan:
         return self.held.get(block, {}).get(symbol) if self.is_stream else None
 
     def put(self, block: int, symbol: int, payload: bytes) -> None:
-        if block in self.done or self.holds(block, symbol):
+        if block in self.done or self.holds(block, symbol) or not self.fits(block, symbol, payload):
             return
         k = self.cut.sources(block)
         held = self.held.setdefault(block, {})
@@ -51,9 +80,10 @@ class Plan:
             self.done[block] = field.solved(held, k, self.cut.size)
         while self.first_short in self.done:
             self.first_short += 1
-        if self.is_stream and self.end is None:
+        if self.is_stream:
             new = range(k) if block in self.done else range(symbol, min(symbol + 1, k))
-            self.end = next(((block, i) for i in new if self._is_end(self.value(block, i))), None)
+            ends = [(block, i) for i in new if self._is_end(self.value(block, i))]
+            self.end = min(ends + [self.end] if self.end else ends, default=None)
 
     def is_whole(self) -> bool:
         return not self.lacks_info() and self.first_short == self.cut.blocks
@@ -63,7 +93,7 @@ class Plan:
 
     @staticmethod
     def _is_end(segment: bytes | None) -> bool:
-        return segment is not None and segment[:2] == b'\0\0'
+        return segment is not None and length_of(segment) == 0
 
 
 class Holding:
@@ -75,29 +105,34 @@ class Holding:
         self.ups: list[tuple] = []              # hand-ups that were not taken
 
     def take_in(self, index: int, message: wire.Object) -> None:
-        """An INFO or DATA comes. Its plan is taken up if there is room.
+        """An INFO or DATA comes. A new plan is taken up if there is room, and its block is seen.
 
-        Its block is seen, what it brings is kept, and what can be is handed up."""
+        If it says no other plan, what it brings is kept if it fits, and what can be is handed up."""
         if index < self.point[0]:
             return
-        plan = self.plans.get(index) or self._take_up(Plan(self.p, index, message))
+        self._take_up(index, message)
+        plan = self.plans.get(index)
         if plan is None:
             return
         if plan.is_stream:
             plan.seen = max(plan.seen, message.block)
+        if message.fti is not None and not plan.is_same(self.p, message):
+            return
         if message.symbol is None:
-            plan.info = message.payload
+            if plan.lacks_info() and len(message.payload) <= self.p.e:
+                plan.info = message.payload
         elif not plan.is_stream or message.block < self.first_block(index) + self.p.blocks:
             plan.put(message.block, message.symbol, message.payload)
         self.hand_up()
 
-    def _take_up(self, plan: Plan) -> Plan | None:
-        """Takes up a plan, if its object is not too far ahead and has room."""
-        room = sum(other.length for other in self.plans.values()) + plan.length
-        if plan.index >= self.point[0] + MOST_AHEAD or room > self.p.octets:
-            return None
-        self.plans[plan.index] = plan
-        return plan
+    def _take_up(self, index: int, message: wire.Object) -> None:
+        """Takes up the plan of a new object, if it is one of this profile, is not too far ahead and has room."""
+        if index in self.plans or message.fti is None or message.fti[1:] != shape(self.p):
+            return
+        length = length_said(self.p, message)
+        room = sum(plan.length for plan in self.plans.values()) + length
+        if length > 0 and index < self.point[0] + MOST_AHEAD and room <= self.p.octets:
+            self.plans[index] = Plan(self.p, index, message)
 
     def first_block(self, index: int) -> int:
         """Returns the first block of an object that was not handed up whole."""
@@ -125,7 +160,7 @@ class Holding:
         index, block, symbol = self.point
         if (block, symbol) == (0, 0):
             self.ups.append(('open', index))
-        length, offset = int.from_bytes(segment[:2], 'big'), int.from_bytes(segment[4:8], 'big')
+        length, offset = min(length_of(segment), self.p.e), int.from_bytes(segment[4:8], 'big')
         if length == 0:
             self.ups.append(('end', index))
             self._pass_object()

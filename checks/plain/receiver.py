@@ -24,9 +24,9 @@ class Receiver:
         self.due: tuple | None = None           # the acknowledgement that the next tick sends
 
     def deliver(self, message, now: int, draw: int) -> None:
-        if isinstance(message, wire.Nack):
+        if isinstance(message, (wire.Nack, wire.Adv)):
             self._overhear(message)
-        elif not isinstance(message, wire.Ack) and message.source == self.p.sender:
+        elif isinstance(message, (wire.Object, wire.Flush, wire.Squelch)) and message.source == self.p.sender:
             self._receive(message, now, draw)
 
     def _receive(self, message, now: int, draw: int) -> None:
@@ -67,9 +67,10 @@ class Receiver:
     def _needs_something(self) -> bool:
         return next(self._needs(), None) is not None
 
-    def _overhear(self, message: wire.Nack) -> None:
-        """Another node's NACK to this sender and instance is heard while a back-off runs."""
-        is_other = message.source != self.node and message.sender == self.p.sender and message.instance == self.instance
+    def _overhear(self, message: wire.Nack | wire.Adv) -> None:
+        """While a back-off runs, another node's NACK to this sender and instance is heard, and the sender's word of what it was asked for."""
+        sender = message.sender if isinstance(message, wire.Nack) else message.source
+        is_other = message.source != self.node and sender == self.p.sender and message.instance == self.instance
         if is_other and self.back_off is not None:
             self.heard.hear([wire.Named(self.p, self.known, request) for request in message.requests])
 

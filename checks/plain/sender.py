@@ -271,7 +271,8 @@ class Sender:
         entry = self.order[want[0]]
         flags = wire.IS_STREAM if entry.is_stream else wire.IS_FILE if entry.kind == 'file' else 0
         flags |= wire.HAS_INFO if entry.info is not None else 0
-        head = (self.p.sender, self.instance, wire.object_id(self.p, want[0]), flags, entry.length)
+        fti = (entry.length, self.p.e, self.p.b, self.p.max_n)
+        head = (self.p.sender, self.instance, wire.object_id(self.p, want[0]), flags, fti)
         if want[1:] == AN_INFO:
             return wire.Object(*head, 0, None, entry.info)
         return wire.Object(*head, *want[1:], entry.payload(*want[1:]))

@@ -1,4 +1,4 @@
-"""Messages as objects, with what a session needs of them, and what their ids and repair requests name.
+"""Messages as objects, with what nodes need of them, and what their ids and repair requests name.
 
 An item is (object id, block, symbol). A span is two positions, both included."""
 from __future__ import annotations
@@ -16,10 +16,11 @@ SEGMENT, BLOCK, INFO, OBJECT = 1, 2, 4, 8       # flags of requests
 REQUEST_HEAD, ITEM_SIZE = 4, 8                  # octets
 
 
-# INFO, if `symbol` is None, or DATA. Both have EXT_FTI: the length; all else in it is the profile's.
-Object = namedtuple('Object', 'source instance object flags length block symbol payload')
+# INFO, if `symbol` is None, or DATA. `fti` is what EXT_FTI says, which a sender always writes: the length, e, b and max_n.
+Object = namedtuple('Object', 'source instance object flags fti block symbol payload')
 Flush = namedtuple('Flush', 'source instance object block symbol nodes')
 Squelch = namedtuple('Squelch', 'source instance object block')
+Adv = namedtuple('Adv', 'source instance requests')             # no sender of a session makes one
 Nack = namedtuple('Nack', 'source sender instance requests')
 Ack = namedtuple('Ack', 'source sender instance item')
 Request = namedtuple('Request', 'form flags items')
