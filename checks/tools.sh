@@ -42,6 +42,13 @@ else
     done
 fi
 
+# Captures of recorded sessions, and what their receivers make of them.
+if [ -x "$program" ]; then
+    checks/tools/captured.py "$program" checks/runs/journal-*.json examples/repair.json || exit 1
+else
+    missing 'captures through gather' "$program is not there"
+fi
+
 if there rsvg-convert; then
     rsvg-convert docs/pictures/repair.svg -o "$scratch/repair.png" || wrong 'docs/pictures/repair.svg cannot be drawn'
 else
