@@ -828,9 +828,9 @@ done
 wait $eight
 holds 'eight sends at once' "$(((last + 8) % 65536))\n"
 
-# One that is given is kept if it is above the last one, and else it is used with a warning. So is that of a restart.
+# One that is given is kept if it is above the kept one, and else it is used with a warning. So is that of a restart.
 passed() {
-    printf '%s\\n' "instance $1 is not above $2, the last one used at port $at: receivers that run since then pass it over, or take it for what they have"
+    printf '%s\\n' "instance $1 is not above $2, the one kept for port $at: receivers that run since then pass it over, or take it for what they have"
 }
 
 rm -rf "$state"

@@ -40,7 +40,7 @@ impl Numbers {
             let last = last.0;
             let port = self.port;
             let _ = eprintln!(self.rt;
-                "instance {instance} is not above {last}, the last one used at port {port}: receivers that run since then pass it over, or take it for what they have"
+                "instance {instance} is not above {last}, the one kept for port {port}: receivers that run since then pass it over, or take it for what they have"
             );
         }
     }
