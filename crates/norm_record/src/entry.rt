@@ -36,9 +36,9 @@ pub(crate) struct Turn {
 
 /// A node's hand-up, by its index among those that are kept.
 #[derive(Clone, Copy)]
-pub(crate) struct Hand {
-    pub(crate) node: NodeId,
-    pub(crate) at: u32,
+pub struct Hand {
+    pub node: NodeId,
+    pub at: u32,
 }
 
 /// An event that is kept whole. [`Entry::Rare`] has its index.

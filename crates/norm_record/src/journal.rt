@@ -1,13 +1,15 @@
 //! The journal of a session. `norm_session` adds each event to it, and tests read its events, hand-ups and counts.
 
-ghost use Rattle.std.specs.Prelude.{◌≡◌, ◌<◌, [], count_by, length, slice_get, Some, sum_by, nat_eq};
+ghost use Rattle.std.specs.Prelude.{◌≡◌, ◌<◌, [], All, count_by, length, map, slice_get, Some, sum_by, nat_eq};
+ghost use Rattle.std.specs.List.{IsDistinct};
 ghost use Rattle.std.specs.Option.{option_map};
 ghost use Rattle.std.specs.Set.{distinct_count};
 ghost use Rattle.norm_journal.specs.Counts.{is_expired};
 ghost use Rattle.norm_journal.specs.declared.event.Event.TheVariants as event;
 ghost use Rattle.norm_record.specs.Counted.{is_refused};
 ghost use Rattle.norm_record.specs.Events.{rare_event};
-ghost use Rattle.norm_record.specs.HandedUp.{handed_up};
+ghost use Rattle.norm_record.specs.HandUps.{kept_names};
+ghost use Rattle.norm_record.specs.HandedUp.{handed_up, hand_of, IsAmong};
 ghost use Rattle.norm_record.specs.Offered.{Adds, TakesOffered, offered};
 ghost use Rattle.norm_record.specs.Once.{UpsAgree, names_in};
 ghost use Rattle.norm_record.specs.Told.{told_of};
@@ -112,11 +114,21 @@ impl Journal {
     }
 
     /// Returns hand-up `i` of all nodes, counted from 0 in the order of the events, with its node. `None` if there are no more.
-    // `normd` calls neither this nor `refused` nor `expired`. They stay for programs that ask what became of a session.
+    // `normd` calls neither this nor `kept_ups`, `refused` or `expired`. They stay for programs that ask what became of a session.
     pub fn up(&self, i: u64) -> Option<(NodeId, &Up)>
         ensures { option_map (λ hand. (hand.0, hand.1.now)) result ≡ slice_get (handed_up self.now) i }
     {
         hand_at(&self.ups, &self.hands, i)
+    }
+
+    /// Returns the hand-ups that are kept, and for each hand-up of all nodes, in the order of the events, its node and the index of what is kept of it.
+    /// So what is computed of a kept hand-up, such as its digest, serves each node that handed it up.
+    pub fn kept_ups(&self) -> (&[HandUp], &[Hand])
+        ensures there { All (IsAmong result.0.now) result.1.now }
+        ensures are { map (hand_of result.0.now) result.1.now ≡ handed_up self.now }
+        ensures once { UpsAgree self.now → IsDistinct nat_eq (kept_names result.0.now) }
+    {
+        (self.ups.kept(), self.hands.as_slice())
     }
 
     /// How many commands were refused for good. An offer after which a command has to wait does not count.

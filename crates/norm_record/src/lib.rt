@@ -12,5 +12,7 @@ mod row;
 mod seen;
 mod ups;
 
+pub use crate::entry::Hand;
 pub use crate::journal::Journal;
 pub use crate::seen::Seen;
+pub use crate::ups::HandUp;

@@ -12,9 +12,9 @@ use std::marker::Model;
 
 /// What is handed up in an instance, without the node: several may hand up the same.
 #[derive(Drop)]
-pub(crate) struct HandUp {
-    pub(crate) instance: InstanceId,
-    pub(crate) up: Up,
+pub struct HandUp {
+    pub instance: InstanceId,
+    pub up: Up,
 }
 
 /// Hand-ups. Contracts see the list of them. Of each name, the index of the latest one is known.
@@ -144,6 +144,12 @@ impl Ups {
         ensures { result ≡ length self.now }
     {
         self.kept.len()
+    }
+
+    pub(crate) fn kept(&self) -> &[HandUp]
+        ensures { result.now ≡ self.now }
+    {
+        self.kept.as_slice()
     }
 
     pub(crate) fn hand_up(&self, at: u32) -> &HandUp
