@@ -2,7 +2,7 @@ use Rattle.std.specs.Prelude.{ℕ, ◌==◌, ◌&&◌, ◌||◌, nat_le, not, Li
 use Rattle.std.specs.Cmp.Lexicographic.{pointwise}
 use Rattle.std.specs.List.{list_all, list_any}
 
--- The names of files, as a script may give them.
+-- The names of files, and their paths.
 
 -- an octet from a first one to a last one
 abbrev pub lies : ℕ → ℕ → ℕ → Bool
@@ -13,10 +13,14 @@ unfoldable pub is_name_octet : ℕ → Bool
 is_name_octet octet =
     lies 97 122 octet || lies 65 90 octet || lies 48 57 octet || octet == 46 || octet == 95 || octet == 45
 
--- 1 to 64 of them, of which the first is no `.`: so it has no slash, and is neither `.` nor `..`
+-- 1 to so many of them, of which the first is no `.`: so it has no slash, and is neither `.` nor `..`
+abbrev pub is_name_within : ℕ → List ℕ → Bool
+is_name_within most name =
+    nat_le 1 (length name) && nat_le (length name) most && not (slice_index name 0 == 46) && list_all is_name_octet name
+
+-- the names of files that are read, as a script may give them
 abbrev pub is_file_name : List ℕ → Bool
-is_file_name name =
-    nat_le 1 (length name) && nat_le (length name) 64 && not (slice_index name 0 == 46) && list_all is_name_octet name
+is_file_name name = is_name_within 64 name
 
 -- a name in a folder
 abbrev pub path_in : List ℕ → List ℕ → List ℕ

@@ -7,7 +7,7 @@ ghost use Rattle.std.specs.IoError.{error_kind};
 ghost use Rattle.std.specs.declared.io.ErrorKind.TheVariants.{NotFound, IsADirectory};
 ghost use Rattle.std.specs.List.{list_all};
 ghost use Rattle.norm_base.specs.Faults.{Counts, file_failed};
-ghost use Rattle.norm_host.specs.FileNames.{is_name_octet, is_file_name, path_in, path_beside, path_read, is_told};
+ghost use Rattle.norm_host.specs.FileNames.{is_name_octet, is_name_within, path_in, path_beside, path_read, is_told};
 ghost use Rattle.norm_host.specs.Streams.{folder_of, told_to, is_stopped};
 
 use crate::folder_cause::FolderCause;
@@ -32,13 +32,21 @@ fn has_name_octets(name: &[u8]) -> bool
     name.iter().all(|octet| is_name_octet(*octet))
 }
 
-/// Whether this is the name of a file: 1 to 64 ASCII letters, digits, `.`, `_` or `-`, of which the first is no `.`.
-fn is_file_name(name: &[u8]) -> bool
-    ensures { result ≡ is_file_name name.now }
+/// The most octets of a name that is read.
+// Our own choice: as many as a name in a script has, which is the info of its file.
+const MOST_READ: usize = 64;
+
+/// The most octets of a name that is put.
+// `nNODE-` and a name that is read, for what node NODE handed up: NODE has at most ten digits.
+const MOST_PUT: usize = 76;
+
+/// Whether this is a name: 1 to `most` ASCII letters, digits, `.`, `_` or `-`, of which the first is no `.`.
+fn is_name_within(most: usize, name: &[u8]) -> bool
+    ensures { result ≡ is_name_within most name.now }
 {
     // A name with a slash or a leading dot could lead out of the folder. A symbolic link in it is the user's own: a read follows it, and a
     // put that succeeds takes its place.
-    if name.is_empty() || name.len() > 64 || name[0] == b'.' {
+    if name.is_empty() || name.len() > most || name[0] == b'.' {
         return false;
     }
     has_name_octets(name)
@@ -54,8 +62,7 @@ fn path_in(alloc: Global, folder: &str, name: &str) -> Result<String, AllocError
     Ok(path)
 }
 
-/// Returns the path at which a put writes first, `.NAME.part` beside the file. No name of a file leads to it in the folder, since it begins
-/// with a `.`.
+/// Returns the path at which a put writes first, `.NAME.part` beside the file. No name leads to it in the folder, since it begins with a `.`.
 fn path_beside(alloc: Global, folder: &str, name: &str) -> Result<String, AllocError>
     ensures { IfOk result (λ path. string_bytes path ≡ path_beside folder.now name.now) }
 {
@@ -173,8 +180,9 @@ impl Said {
 }
 
 /// The files of one folder, and the paths that it was told ([`tell`](FolderFiles::tell)), each of which is measured and read as it stands.
-/// Any other name that is not the name of a file is absent. A put does not heed the paths that were told: it fails if its name is not the
-/// name of a file, or if what has that name in the folder is no plain file or cannot be measured. It writes a file beside that name and
+/// A name is made of ASCII letters, digits, `.`, `_` and `-`, and does not begin with `.`. One that is read has 1 to 64 of them, and any other is
+/// absent. A put does not heed the paths that were told: it fails if its name is not 1 to 76 of them, or if what has that name in the folder is no
+/// plain file or cannot be measured. It writes a file beside that name and
 /// renames it, so that the name does not lead to a part of it unless two put it at once. A read at the end of a file, and a length or a
 /// read of what is no plain file, are faults. Contracts cannot rely on what the files hold.
 ///
@@ -269,12 +277,13 @@ impl<F: fs::Files + Drop> FolderFiles<F> {
         }
     }
 
-    /// Returns the path of a file in the folder, which need not be there. Any other error than `NotFound` is a lack of memory.
-    fn path(&self, name: &str) -> io::Result<String>
-        ensures path { IfOk result (λ path. (string_bytes path ≡ path_in (string_bytes self.now.folder) name.now) × IsTrue (is_file_name name.now)) }
-        ensures absent { IfErr result (λ error. (error_kind error ≡ NotFound) ↔ (is_file_name name.now ≡ false)) }
+    /// Returns the path of a file in the folder, which need not be there, if its name has at most `most` octets. Any other error than `NotFound` is
+    /// a lack of memory.
+    fn path(&self, most: usize, name: &str) -> io::Result<String>
+        ensures path { IfOk result (λ path. (string_bytes path ≡ path_in (string_bytes self.now.folder) name.now) × IsTrue (is_name_within most name.now)) }
+        ensures absent { IfErr result (λ error. (error_kind error ≡ NotFound) ↔ (is_name_within most name.now ≡ false)) }
     {
-        if !is_file_name(name.as_bytes()) {
+        if !is_name_within(most, name.as_bytes()) {
             return Err(io::Error::from(ErrorKind::NotFound));
         }
         Ok(path_in(self.alloc, &self.folder, name)?)
@@ -295,7 +304,7 @@ impl<F: fs::Files + Drop> FolderFiles<F> {
         if self.is_told(name) {
             return Ok(String::from_str(self.alloc, name)?);
         }
-        self.path(name)
+        self.path(MOST_READ, name)
     }
 
     /// Returns how many octets the plain file at this path has. Follows a symbolic link.
@@ -409,7 +418,7 @@ impl<F: fs::Files + Drop> FolderFiles<F> {
 
     /// Writes a file anew. Fails, and leaves the old one, if what has its name is no plain file or cannot be measured.
     fn write_of(&self, name: &str, bytes: &[u8]) -> io::Result<()> {
-        let path = self.path(name)?;
+        let path = self.path(MOST_PUT, name)?;
         if let Err(error) = self.plain_length(path.as_str()) {
             // A folder or a device of this name is not replaced.
             if fault_of(&error) == FileFault::Failed {

@@ -165,8 +165,14 @@ fn a_clock_begins_at_nothing(rt: HostRuntime) -> Result<(), Fail> {
     Ok(())
 }
 
-/// Calls of a folder: files in it, names that are no file in it, and a put outside of it.
-const CALLS: [Call; 9] = [
+/// The longest name that is put: that of the copy of a file with the longest name that is read, for the receiver with the greatest id.
+const COPY: &str = "n4294967294-abcdefghijklmnopqrstuvwxyz.ABCDEFGHIJKLMNOPQRSTUVWXYZ_0123456789";
+
+const TOO_LONG: &str =
+    "n4294967294-abcdefghijklmnopqrstuvwxyz.ABCDEFGHIJKLMNOPQRSTUVWXYZ_0123456789-";
+
+/// Calls of a folder: files in it, names that are no file in it, a put outside of it, and the longest names.
+const CALLS: [Call; 12] = [
     Call::Put("a.txt", b"a longer one"),
     Call::Put("a.txt", b"hello"),
     Call::Length("a.txt"),
@@ -176,6 +182,9 @@ const CALLS: [Call; 9] = [
     Call::Length("folder"),
     Call::Length("../norm_host_test/a.txt"),
     Call::Put("../b", b"x"),
+    Call::Put(COPY, b"x"),
+    Call::Put(TOO_LONG, b"x"),
+    Call::Length(COPY),
 ];
 
 #[test]
@@ -186,7 +195,7 @@ fn a_folder_keeps_names_within(rt: HostRuntime) -> Result<(), Fail> {
     let alloc = rt.alloc();
     let mut files = FolderFiles::of(alloc, rt, FOLDER)?;
     let all = answers(alloc, &mut files, &CALLS)?;
-    assert!(rt; all.as_slice() == b"..5---!-!2".as_slice());
+    assert!(rt; all.as_slice() == b"..5---!-!.!-3".as_slice());
     let mut buf = [0; 3];
     assert!(rt; files.read_at("a.txt", 3, &mut buf) == Ok(2));
     assert!(rt; buf.as_slice() == b"lo\0".as_slice());
