@@ -31,7 +31,7 @@ EDITS = {
     'stream_buffer/zeros_for_a_symbol_of_a_block_that_was_given_up': 'norm_order/Symbols',
 }
 # crates whose edits break no rule of that page: their READMEs have them
-OTHER = ('norm_host', 'norm_multi', 'norm_program', 'norm_turns', 'producer_gate')
+OTHER = ('norm_host', 'norm_mirror', 'norm_multi', 'norm_program', 'norm_turns', 'producer_gate')
 
 
 def read(path):

@@ -1,0 +1,4 @@
+pub mod CutLemmas
+pub mod SpellLemmas
+pub mod CheckLemmas
+pub mod DifferLemmas
