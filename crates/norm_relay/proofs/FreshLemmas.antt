@@ -128,14 +128,14 @@ events_front : (events : List Event) (e : Event) → AreEvents (events ++ e ∷ 
 events_front [] e all = tt
 events_front (x ∷ events) e all = (all.0, events_front events e all.1)
 
-side_lawful : (s : Side) (e : Event) → IsLawfulSide (happens_in s e).0 → IsLawfulSide s
+pub side_lawful : (s : Side) (e : Event) → IsLawfulSide (happens_in s e).0 → IsLawfulSide s
 side_lawful s e l = record {
   range = l.range;
   lawful = lawful_front s.p (world_opening s.p) [] s.events e l.lawful;
   events = events_front s.events e l.events;
 }
 
-takes_lawful : (node : ℕ) (ups : List Up) (s : Side) → IsLawfulSide (takes node ups s) → IsLawfulSide s
+pub takes_lawful : (node : ℕ) (ups : List Up) (s : Side) → IsLawfulSide (takes node ups s) → IsLawfulSide s
 unfolding takes
 takes_lawful node [] s l = l
 takes_lawful node (u ∷ ups) s l = side_lawful s (UpTaken node) (takes_lawful node ups (happens_in s (UpTaken node)).0 l)

@@ -60,10 +60,10 @@ pub side_run : (s : Side) (e : Event) → IsRun s → IsRun (happens_in s e).0
 side_run s e is = ap (λ (w : World). (world_step s.p w e).0) is ∙ sym (run_more s.p (world_opening s.p) s.events e)
 
 -- what an event brings of hand-ups
-abbrev brings : Settings → ℕ → ℕ → Event → World → List Up
+abbrev pub brings : Settings → ℕ → ℕ → Event → World → List Up
 brings p node id e w = elim (is_at w node id) [ true ↦ taken_in node e (world_step p w e).1 | false ↦ [] ]
 
-side_hands : (s : Side) (e : Event) (node id : ℕ) → IsRun s → handed_in (happens_in s e).0 node id ≡ handed_in s node id ++ brings s.p node id e s.world
+pub side_hands : (s : Side) (e : Event) (node id : ℕ) → IsRun s → handed_in (happens_in s e).0 node id ≡ handed_in s node id ++ brings s.p node id e s.world
 side_hands s e node id is =
     let w : World = world_opening s.p in
     ap (λ (past : List Happening). hands past node id) (happens_more s.p w s.events e)
@@ -360,7 +360,7 @@ pub record Moves (x y : Relaying) : Type 0 where
   pub node : y.node ≡ x.node
   pub handed : (H : ℕ → List Up) (i : Option ℕ) → HandsIn x.anew H x.done x.waiting i → HandsIn y.anew H y.done y.waiting i
 
-moves_handed : (x y : Relaying) → Moves x y → Handed (core_of x) → Handed (core_of y)
+pub moves_handed : (x y : Relaying) → Moves x y → Handed (core_of x) → Handed (core_of y)
 moves_handed x y m h =
     subst (λ (s : Side). Handed (record { upper = s; node = y.node; anew = y.anew; done = y.done; waiting = y.waiting })) (sym m.upper)
     (subst (λ n. Handed (record { upper = x.upper; node = n; anew = y.anew; done = y.done; waiting = y.waiting })) (sym m.node) (record {

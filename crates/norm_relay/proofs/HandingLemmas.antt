@@ -14,7 +14,7 @@ use Rattle.norm_relay.proofs.NewLemmas.{relays_member}
 use Rattle.norm_relay.proofs.StepLemmas.{lower_order}
 
 -- what waits was handed up
-waiting_named : (anew : Bool) (handed : ℕ → List Up) (done waiting : List Up) (i : Option ℕ) → ((id : ℕ) → AreNamed (handed id))
+pub waiting_named : (anew : Bool) (handed : ℕ → List Up) (done waiting : List Up) (i : Option ℕ) → ((id : ℕ) → AreNamed (handed id))
     → HandsIn anew handed done waiting i → AreNamed waiting
 waiting_named anew handed done waiting None named at = subst AreNamed (sym at.1) tt
 waiting_named false handed done waiting (Some id) named at = rest_named done waiting (subst AreNamed at (named id))

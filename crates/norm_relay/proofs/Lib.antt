@@ -14,3 +14,11 @@ mod HandLemmas
 mod FreshLemmas
 mod NamedLemmas
 mod HandingLemmas
+mod EndedOrders
+mod StreamItems
+mod BeginLemmas
+mod GoesOnLemmas
+mod ConfirmLemmas
+mod PledgeLemmas
+mod PromiseLemmas
+mod RelayLemmas

@@ -92,7 +92,7 @@ restart_empties s id = go (is_used s id)
     go false = refl
 
 -- what waits is enqueued, after the lower session began anew if it has to
-first_ordered : (now : ℕ) (x : Relaying) → AreNamed x.waiting → Ordered x → Ordered (enqueues_first now (begins_anew now x)).state
+pub first_ordered : (now : ℕ) (x : Relaying) → AreNamed x.waiting → Ordered x → Ordered (enqueues_first now (begins_anew now x)).state
 unfolding flat_from open_behind
 first_ordered now x named h = go x.anew
   where
@@ -118,7 +118,7 @@ first_ordered now x named h = go x.anew
         let own = restarted x.lower.world.sender id in
         by own.0 own.1 (restart_empties x.lower.world.sender id) (commands now (job.Restart id) x).0 named refl refl refl
 
-marks_ordered : (now : ℕ) (x : Relaying) → Ordered x → Ordered (marks now x).0
+pub marks_ordered : (now : ℕ) (x : Relaying) → Ordered x → Ordered (marks now x).0
 marks_ordered now x h = record { order = mark_keeps x.lower.p x.lower.world.sender (next_origin x) ∙ h.order; opened = h.opened }
 
 -- what a step of asking leaves

@@ -31,7 +31,7 @@ abbrev pub OrderedStep : Relaying × RelayAnswer → Type 0
 OrderedStep step = Ordered step.0
 
 -- the current instance of the sender is the same after what it hears, after its tick, and as it tells news
-heard_current : (p : Settings) (w : World) (datagram : List ℕ) (now : ℕ)
+pub heard_current : (p : Settings) (w : World) (datagram : List ℕ) (now : ℕ)
     → (world_step p w (Delivered p.sender datagram now 0)).0.sender.current ≡ w.sender.current
 heard_current p w datagram now =
     let G : Bool → Type 0 = λ b. (moved p w (node_move b (receiver_at w p.sender) (sender.Delivered datagram now) (receiver.Delivered datagram now 0))).0.sender.current ≡ w.sender.current in
@@ -41,7 +41,7 @@ given_current : (node : ℕ) (datagram : Option Written) (w : World) (i : Instan
 given_current node None w i e = e
 given_current node (Some datagram) w i e = e
 
-ticked_current : (p : Settings) (w : World) (now : ℕ) → (world_step p w (Ticked p.sender now)).0.sender.current ≡ w.sender.current
+pub ticked_current : (p : Settings) (w : World) (now : ℕ) → (world_step p w (Ticked p.sender now)).0.sender.current ≡ w.sender.current
 ticked_current p w now =
     let G : Bool → Type 0 = λ b. (moved p w (node_move b (receiver_at w p.sender) (sender.Ticked now) (receiver.Ticked now))).0.sender.current ≡ w.sender.current in
     subst G (sym ((Decides-eqb p.sender p.sender).1 refl)) (given_current p.sender _ _ w.sender.current (ticked_keeps p w.sender now).current)

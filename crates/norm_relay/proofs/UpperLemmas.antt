@@ -55,7 +55,7 @@ not_same a b h = go (a == b) refl
     go true e = absurd (h ((Decides-eqb a b).0 e))
     go false e = refl
 
-no_sender : (p : Settings) (node : ℕ) → is_receiver p node ≡ true → (node == p.sender) ≡ false
+pub no_sender : (p : Settings) (node : ℕ) → is_receiver p node ≡ true → (node == p.sender) ≡ false
 no_sender p node e =
     let lt : p.sender < node = (Decides-ltb p.sender node).0 (first_of (nat_lt p.sender node) (nat_le node (p.sender + p.receivers)) e) in
     not_same node p.sender (λ same. omega (arith, lt, same))
@@ -215,7 +215,7 @@ all_wait old k before waiting n many f past is s st =
 
 -- ---- a tick, as the code does it
 
-abbrev IsNoAck : Option Written → Type 0
+abbrev pub IsNoAck : Option Written → Type 0
 IsNoAck None = Unit {0}
 IsNoAck (Some datagram) = is_ack datagram.message ≡ false
 
@@ -223,7 +223,7 @@ abbrev says : ReceiverState × Option Written → Option Written
 says step = step.1
 
 -- without an acknowledgement that is due a tick gives none
-no_ack : (p : Settings) (r : ReceiverState) (now : ℕ) → r.knows.due ≡ None → IsNoAck (ticked p r now).1
+pub no_ack : (p : Settings) (r : ReceiverState) (now : ℕ) → r.knows.due ≡ None → IsNoAck (ticked p r now).1
 no_ack p r now none = due r.knows.due none
   where
     asked : (wanted : List Need) (s : ReceiverState) (all : Bool) → IsNoAck (says (elim all [

@@ -2,6 +2,7 @@
 
 ghost use Rattle.norm_relay.specs.AskLaws.{AsksWhereItWaits};
 ghost use Rattle.norm_relay.specs.HandLaws.{HandsWhole, HandsOnInRuns};
+ghost use Rattle.norm_relay.specs.Handing.{RelayLaw};
 ghost use Rattle.norm_relay.specs.OrderLaws.{LowerOrder};
 
 /// After each pump that was not refused, if a hand-up waits or an acknowledgement has a watermark, then a watermark is open below, or the one that
@@ -29,4 +30,14 @@ pub fn hands_whole()
 /// and with what waits that is all that its node handed up. It is the second sentence of `RelayLaw`.
 pub fn hands_on()
     ensures { HandsOnInRuns }
+{}
+
+/// The law of a relay. After any calls that leave both sessions lawful, however streams are cut into pieces:
+/// 1. If the next tick acknowledges a position above, each member below handed up everything before that position. A receiver that was struck is no
+/// member.
+/// 2. The relay hands on below what it was handed up ([`hands_on`]).
+// Proof: an acknowledgement that waits was handed up above (Confirmed). If it has a watermark, all of it stands before that below (Pledged), because
+// the mark was made after all of it was enqueued, and cut the open stream (PledgeLemmas).
+pub fn relay_run()
+    ensures { RelayLaw }
 {}
