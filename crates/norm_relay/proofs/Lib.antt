@@ -22,3 +22,4 @@ mod ConfirmLemmas
 mod PledgeLemmas
 mod PromiseLemmas
 mod RelayLemmas
+mod TakeLemmas

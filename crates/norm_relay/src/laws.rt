@@ -4,6 +4,7 @@ ghost use Rattle.norm_relay.specs.AskLaws.{AsksWhereItWaits};
 ghost use Rattle.norm_relay.specs.HandLaws.{HandsWhole, HandsOnInRuns};
 ghost use Rattle.norm_relay.specs.Handing.{RelayLaw};
 ghost use Rattle.norm_relay.specs.OrderLaws.{LowerOrder};
+ghost use Rattle.norm_relay.specs.TakeLaws.{TakesOnceConfirmed};
 
 /// After each pump that was not refused, if a hand-up waits or an acknowledgement has a watermark, then a watermark is open below, or the one that
 /// was made was satisfied at once, or the acknowledgement may be sent. So a relay that waits has always asked.
@@ -40,4 +41,10 @@ pub fn hands_on()
 // the mark was made after all of it was enqueued, and cut the open stream (PledgeLemmas).
 pub fn relay_run()
     ensures { RelayLaw }
+{}
+
+/// In each state of a session below whose profile is in its ranges: if all that was enqueued was sent, and every member is listed past its last source
+/// symbol, then no hand-up is refused for want of room.
+pub fn takes_once_confirmed()
+    ensures { TakesOnceConfirmed }
 {}
