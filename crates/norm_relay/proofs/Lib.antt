@@ -22,4 +22,5 @@ mod ConfirmLemmas
 mod PledgeLemmas
 mod PromiseLemmas
 mod RelayLemmas
+mod SaysLemmas
 mod TakeLemmas

@@ -5,6 +5,7 @@ ghost use Rattle.norm_base.specs.Members.{is_node};
 ghost use Rattle.norm_relay.specs.RelayKept.{StandsFor, waits};
 ghost use Rattle.norm_relay.specs.RelayMoves.{IsCall, IsRefusal, IsSent, outcome, counted, struck};
 ghost use Rattle.norm_relay.specs.RelayState.{Relaying, can_relay, relay_opening, same_sizes, is_hold, share_nobody};
+ghost use Rattle.norm_relay.specs.SaysHanded.{SaysHanded};
 ghost use Rattle.norm_relay.specs.RelayStep.{UpDelivered, DownDelivered, PumpAsked, UpTicked, DownTicked, DownNews, DownStruck, Took, Counted, Other};
 ghost use Rattle.norm_relay.specs.declared.relay.RelayFault.TheVariants as fault;
 ghost use Rattle.norm_safety.specs.Events.{Gave, Told};
@@ -229,8 +230,10 @@ impl Relay {
     /// Writes the datagram to send above now, if there is one: the acknowledgement that is held back, if every member below is listed past its
     /// watermark, else what the receiver's tick gives. An acknowledgement that it gives is held back. If nothing is sent, `out` may hold anything.
     /// It takes no memory.
+    // `handed` speaks of the octets that this call wrote: they are an acknowledgement only if every member below handed up what that confirms.
     pub fn tick_up(&mut self, now: Moment, out: &mut Datagram) -> Sent
         ensures call { IsCall self.old self.new (UpTicked now) (IsSent result out.new) }
+        ensures handed { SaysHanded self.old now result out.new }
     {
         if let Some(ack) = self.held.take_met(&self.lower.sender) {
             write(ack, out);
