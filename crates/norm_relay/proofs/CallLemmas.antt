@@ -1,5 +1,5 @@
 -- The calls of a relay.
-use Rattle.std.proofs.Common.{◌≡◌, ℕ, List, [], ◌∷◌, ◌++◌, map, Bool, true, false, Option, None, Some, Result, Ok, Err, refl, sym, ap, ◌∙◌, subst, arith}
+use Rattle.std.proofs.Common.{◌≡◌, ℕ, ◌+◌, List, [], ◌∷◌, ◌++◌, map, Bool, true, false, Option, None, Some, Result, Ok, Err, refl, sym, ap, ◌∙◌, subst, arith}
 use Rattle.std.specs.Prelude.{⊤, ◌==◌, ◌≢◌, not, length, IfOk}
 use Rattle.std.specs.Option.{option_map}
 use Rattle.std.proofs.lemmas.Bool.Decides.{Decides-eqb}
@@ -43,7 +43,7 @@ use Rattle.norm_relay.specs.Offering.{without_receipt, given_struck}
 use Rattle.norm_relay.specs.Pumping.{commands, is_met}
 use Rattle.norm_relay.specs.RelayKept.{RelayKept, Agrees, StandsFor, IsReceiver, Hears, below, held_of, promise_of, with_ups, waits}
 use Rattle.norm_relay.specs.RelayMoves.{IsCall, IsSent, outcome, counted, struck}
-use Rattle.norm_relay.specs.RelayState.{Relaying, Pledge, upper_instance}
+use Rattle.norm_relay.specs.RelayState.{Relaying, Pledge, upper_instance, untold}
 use Rattle.norm_relay.specs.RelayStep.{RelayEvent, UpDelivered, DownDelivered, PumpAsked, UpTicked, DownTicked, DownNews, DownStruck, RelayAnswer, Took, Counted, Sent, Other, goes_on, leaves, takes, takes_all, ups_of, receiver_hears, hears_up, says_up, given_by, is_ack, receiver_ticks}
 use Rattle.norm_relay.specs.Sides.{Side, happens_in}
 use Rattle.norm_relay.specs.Waiting.{waiting_of}
@@ -433,6 +433,17 @@ is_ticked_up receiver new l waiting held held' now out answer met is none same t
 -- what holds of a relay by its parts holds of its value
 pub call_of : (k v new : RelayKept) (event : RelayEvent) (Fits : RelayAnswer → Type 0) → k ≡ v → IsCall k new event Fits → IsCall v new event Fits
 call_of k v new event Fits same h = subst (λ (u : RelayKept). IsCall u new event Fits) same h
+
+-- what a relay's parts tell
+pub tells_untold : (k v : RelayKept) (x : Relaying) (count : ℕ) → k ≡ v → StandsFor v x
+    → ((s : SenderState) → Stands k.lower.sender s → count ≡ length s.untold_nodes + length s.untold_marks) → count ≡ untold x
+tells_untold k v x count same st h = h x.lower.world.sender (subst (λ (u : RelayKept). StandsFor u x) (sym same) st).agrees.lower.sender
+
+pub tells_instance : (k v : RelayKept) (x : Relaying) (instance : Option ℕ) → k ≡ v → StandsFor v x
+    → ((s : ReceiverState) → ReceiverStands k.receiver s → instance ≡ s.instance) → instance ≡ upper_instance x
+tells_instance k v x instance same st h =
+    let f = found_in k.receiver (receiver_at x.upper.world x.node) (subst (λ (u : RelayKept). StandsFor u x) (sym same) st).agrees.upper.receiver in
+    h f.state f.stands ∙ sym (ap (λ (o : Option ReceiverState). elim o [ Some r ↦ r.instance | None ↦ None ]) f.is)
 
 -- whether a hand-up waits
 pub waits_is : (waiting : List Waiting) (x : Relaying) (empty : Bool) → waiting ≡ map waiting_of x.waiting → (empty ≡ true → waiting ≡ [])

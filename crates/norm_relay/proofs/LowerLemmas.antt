@@ -176,24 +176,24 @@ job_refused old new now given result refusal said h err back refused k x u a is 
     (command_err old new now given result refusal refusal.1 h err back refl b.1) a is refl)
 
 -- a loss closes a stream that is open, and is nothing else
-pub loss_accepted : (old new : Lower) (now : ℕ) (receipt : Receipt) → Commands old new now job.Close (Ok receipt) → old.opened ≡ true
-    → (k : RelayKept) (x : Relaying) (u : Up) → Agrees (below old k) x → Lost ≡ waiting_of u
-    → IsOffered k (lower_of new.sender false new.jobs) Lost (offer.Done 1) (offers now u x)
-loss_accepted old new now receipt h opened k x u a is =
-    accepted old new now job.Close false Lost receipt k x u h a is (ap (λ b. job_at b Lost) (sym a.lower.opened ∙ opened)) (opens_by Lost u is)
+pub loss_accepted : (index : ℕ) (old new : Lower) (now : ℕ) (receipt : Receipt) → Commands old new now job.Close (Ok receipt) → old.opened ≡ true
+    → (k : RelayKept) (x : Relaying) (u : Up) → Agrees (below old k) x → Lost index ≡ waiting_of u
+    → IsOffered k (lower_of new.sender false new.jobs) (Lost index) (offer.Done 1) (offers now u x)
+loss_accepted index old new now receipt h opened k x u a is =
+    accepted old new now job.Close false (Lost index) receipt k x u h a is (ap (λ b. job_at b (Lost index)) (sym a.lower.opened ∙ opened)) (opens_by (Lost index) u is)
 
-pub loss_refused : (old new : Lower) (now : ℕ) (fault : SendFault) → Commands old new now job.Close (Err fault) → old.opened ≡ true
-    → (k : RelayKept) (x : Relaying) (u : Up) → Agrees (below old k) x → Lost ≡ waiting_of u
-    → IsOffered k new Lost (offer.Refused Lost fault) (offers now u x)
-loss_refused old new now fault h opened k x u a is =
-    refused_job old new now job.Close Lost fault k x u h a is (ap (λ b. job_at b Lost) (sym a.lower.opened ∙ opened))
+pub loss_refused : (index : ℕ) (old new : Lower) (now : ℕ) (fault : SendFault) → Commands old new now job.Close (Err fault) → old.opened ≡ true
+    → (k : RelayKept) (x : Relaying) (u : Up) → Agrees (below old k) x → Lost index ≡ waiting_of u
+    → IsOffered k new (Lost index) (offer.Refused (Lost index) fault) (offers now u x)
+loss_refused index old new now fault h opened k x u a is =
+    refused_job old new now job.Close (Lost index) fault k x u h a is (ap (λ b. job_at b (Lost index)) (sym a.lower.opened ∙ opened))
 
-pub loss_passed : (l : Lower) (now : ℕ) → l.opened ≡ false → (k : RelayKept) (x : Relaying) (u : Up) → Agrees (below l k) x → Lost ≡ waiting_of u
-    → IsOffered k l Lost (offer.Done 0) (offers now u x)
-loss_passed l now closed k x u a is =
-    subst (IsOffered k l Lost (offer.Done 0))
-    (sym (ap (offers_job now u x) (job_by x.opened Lost u is ∙ ap (λ b. job_at b Lost) (sym a.lower.opened ∙ closed))))
-    (refl, passes_agrees u l l.opened k x a (closed ∙ opens_by Lost u is))
+pub loss_passed : (index : ℕ) (l : Lower) (now : ℕ) → l.opened ≡ false → (k : RelayKept) (x : Relaying) (u : Up) → Agrees (below l k) x → Lost index ≡ waiting_of u
+    → IsOffered k l (Lost index) (offer.Done 0) (offers now u x)
+loss_passed index l now closed k x u a is =
+    subst (IsOffered k l (Lost index) (offer.Done 0))
+    (sym (ap (offers_job now u x) (job_by x.opened (Lost index) u is ∙ ap (λ b. job_at b (Lost index)) (sym a.lower.opened ∙ closed))))
+    (refl, passes_agrees u l l.opened k x a (closed ∙ opens_by (Lost index) u is))
 
 -- the same, if the refusal was not want of memory
 pub if_refused : (old new : Lower) (now : ℕ) (given : Job) (result : Result Receipt (Option Job × SendFault)) (refusal : Option Job × SendFault)

@@ -1,5 +1,5 @@
 -- The state of a relay: a receiver of the session above, and the sender of the one below.
-use Rattle.std.specs.Prelude.{ℕ, ◌+◌, ◌==◌, ◌&&◌, not, List, [], Bool, true, false, Option, None}
+use Rattle.std.specs.Prelude.{ℕ, ◌+◌, ◌==◌, ◌&&◌, not, List, [], length, Bool, true, false, Option, None}
 use Rattle.std.specs.List.{list_any}
 use Rattle.norm_base.specs.Settings.{Settings}
 use Rattle.norm_base.specs.Members.{is_receiver, is_node, members_of}
@@ -72,6 +72,10 @@ next_origin x = record { producer = 1; number = x.jobs + 1 }
 -- the upper instance that the relay is in
 abbrev pub upper_instance : Relaying → Option ℕ
 upper_instance x = instance_at x.upper.world x.node
+
+-- how many news the lower sender has still to tell
+abbrev pub untold : Relaying → ℕ
+untold x = length x.lower.world.sender.untold_nodes + length x.lower.world.sender.untold_marks
 
 -- the lower instance
 abbrev pub lower_instance : Relaying → ℕ

@@ -14,13 +14,13 @@ waiting_of (up.Object index kind info bytes) = Given (object_job kind info bytes
 waiting_of (up.StreamOpen index) = Given job.Open
 waiting_of (up.StreamBytes index offset bytes) = Given (job.Write bytes)
 waiting_of (up.StreamEnd index) = Given job.Close
-waiting_of (up.Lost index) = Lost
+waiting_of (up.Lost index) = Lost index
 
 -- What waits, as a job. A loss is one only if a stream is open.
 abbrev pub job_at : Bool → Waiting → Option Job
 job_at opened (Given given) = Some given
-job_at true Lost = Some job.Close
-job_at false Lost = None
+job_at true (Lost index) = Some job.Close
+job_at false (Lost index) = None
 
 -- a stream is open after a job of a hand-up
 abbrev pub job_opens : Job → Bool
@@ -31,4 +31,4 @@ job_opens _ = false
 -- a stream is open after what waits
 abbrev pub opens : Waiting → Bool
 opens (Given given) = job_opens given
-opens Lost = false
+opens (Lost index) = false

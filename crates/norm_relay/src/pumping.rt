@@ -240,11 +240,11 @@ impl Lower {
         }
     }
 
-    fn offer_loss(&mut self, now: Moment) -> Result<Offer, Memory>
+    fn offer_loss(&mut self, index: u32, now: Moment) -> Result<Offer, Memory>
         requires { IsReady self.old }
         ensures ready { IsReady self.new }
-        ensures offers { IfOk result (λ offer. (k : RelayKept) (x : Relaying) (u : HandUp) → Agrees (below self.old k) x → waits.Lost ≡ waiting_of u
-            → IsOffered k self.new waits.Lost offer (offers now u x)) }
+        ensures offers { IfOk result (λ offer. (k : RelayKept) (x : Relaying) (u : HandUp) → Agrees (below self.old k) x → waits.Lost index ≡ waiting_of u
+            → IsOffered k self.new (waits.Lost index) offer (offers now u x)) }
     {
         if !self.opened {
             return Ok(Offer::Done { jobs: 0 });
@@ -257,7 +257,7 @@ impl Lower {
                 Ok(Offer::Done { jobs: 1 })
             }
             Err(fault) => Ok(Offer::Refused {
-                first: Waiting::Lost,
+                first: Waiting::Lost { index },
                 fault,
             }),
         }
@@ -276,7 +276,7 @@ impl Lower {
     {
         match first {
             Waiting::Given(job) => self.offer_job(job, now),
-            Waiting::Lost => self.offer_loss(now),
+            Waiting::Lost { index } => self.offer_loss(index, now),
         }
     }
 

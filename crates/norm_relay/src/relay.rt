@@ -4,8 +4,8 @@ ghost use Rattle.std.specs.Prelude.{◌≡◌, ◌≢◌, ⊤, true, Err, IfOk, 
 ghost use Rattle.norm_base.specs.Members.{is_node};
 ghost use Rattle.norm_relay.specs.RelayKept.{StandsFor, waits};
 ghost use Rattle.norm_relay.specs.RelayMoves.{IsCall, IsRefusal, IsSent, outcome, counted, struck};
-ghost use Rattle.norm_relay.specs.RelayState.{Relaying, can_relay, relay_opening, same_sizes, is_hold, share_nobody};
 ghost use Rattle.norm_relay.specs.SaysHanded.{SaysHanded};
+ghost use Rattle.norm_relay.specs.RelayState.{Relaying, can_relay, relay_opening, same_sizes, is_hold, share_nobody, untold, upper_instance};
 ghost use Rattle.norm_relay.specs.RelayStep.{UpDelivered, DownDelivered, PumpAsked, UpTicked, DownTicked, DownNews, DownStruck, Took, Counted, Other};
 ghost use Rattle.norm_relay.specs.declared.relay.RelayFault.TheVariants as fault;
 ghost use Rattle.norm_safety.specs.Events.{Gave, Told};
@@ -277,6 +277,28 @@ impl Relay {
     {
         let told = self.lower.strike(node, now);
         strike_outcome(told)
+    }
+
+    /// How many changes [`news`](Relay::news) has still to return.
+    pub fn untold(&self) -> usize
+        ensures { (x : Relaying) → StandsFor self.now x → result ≡ untold x }
+    {
+        self.lower.sender.untold()
+    }
+
+    /// The instance above, or `None` before the first one.
+    pub fn instance(&self) -> Option<InstanceId>
+        ensures { (x : Relaying) → StandsFor self.now x → result ≡ upper_instance x }
+    {
+        self.receiver.instance()
+    }
+
+    /// The hand-ups that wait, in order. After [`deliver_up`](Relay::deliver_up) returned `true` they are what that call made the receiver hand up. Of
+    /// what the sender above dropped nothing is seen below, so whoever drives a relay reports each loss.
+    pub fn waiting(&self) -> &VecDeque<Waiting>
+        ensures { result.now.items ≡ self.now.waiting }
+    {
+        &self.waiting
     }
 
     /// Whether a hand-up waits: if so, nothing from above is taken.

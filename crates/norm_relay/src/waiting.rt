@@ -15,7 +15,7 @@ pub enum Waiting {
     Given(Job),
     /// An object, or the rest of a stream, was lost. Whether that is a job is known only once everything before it was enqueued: it closes the
     /// stream if one is open then.
-    Lost,
+    Lost { index: u32 },
 }
 
 fn object_job(kind: Kind, info: Option<Octets>, bytes: Octets) -> Job
@@ -45,7 +45,7 @@ pub(crate) fn waiting_of(up: Up) -> Waiting
         Up::StreamOpen { .. } => Waiting::Given(Job::Open),
         Up::StreamBytes { bytes, .. } => Waiting::Given(Job::Write { bytes }),
         Up::StreamEnd { .. } => Waiting::Given(Job::Close),
-        Up::Lost { .. } => Waiting::Lost,
+        Up::Lost { index } => Waiting::Lost { index },
     }
 }
 
