@@ -1,8 +1,6 @@
 -- The octets that a tick above wrote are an acknowledgement only of what every member below handed up.
-use Rattle.std.proofs.Common.{◌≡◌, ℕ, List, [], ◌∷◌, Bool, true, false, Option, None, Some, Result, Ok, refl, sym, ap, ◌∙◌, subst}
+use Rattle.std.proofs.Common.{◌≡◌, ℕ, List, [], ◌∷◌, Bool, true, false, Option, None, Some, Ok, refl, sym, ap, ◌∙◌, subst}
 use Rattle.std.specs.Prelude.{IfSome}
-use Rattle.std.specs.Option.{option_map}
-use Rattle.norm_base.specs.Datagrams.{datagram_of}
 use Rattle.norm_base.specs.declared.kinds.Sent.{Sent as Said}
 use Rattle.norm_ext.specs.Message.{Message, Ack, AckMessage}
 use Rattle.norm_ext.specs.Reading.{decoded}
@@ -18,10 +16,10 @@ use Rattle.norm_safety.specs.Said.{about}
 use Rattle.norm_safety.specs.World.{receiver_at}
 use Rattle.norm_relay.specs.Handing.{history_of, AreLawful}
 use Rattle.norm_relay.specs.Pumping.{is_met}
-use Rattle.norm_relay.specs.RelayKept.{RelayKept, StandsFor}
+use Rattle.norm_relay.specs.RelayKept.{RelayKept}
 use Rattle.norm_relay.specs.RelayMoves.{IsCall, IsSent}
 use Rattle.norm_relay.specs.RelayState.{Relaying, Pledge}
-use Rattle.norm_relay.specs.RelayStep.{RelayEvent, UpTicked, RelayAnswer, Took, Counted, Sent, Other, relay_step, is_ack, says_up, given_by, receiver_ticks, relay_run}
+use Rattle.norm_relay.specs.RelayStep.{UpTicked, RelayAnswer, Took, Counted, Sent, Other, relay_step, is_ack, says_up, given_by, receiver_ticks, relay_run}
 use Rattle.norm_relay.specs.SaysHanded.{ConfirmsHanded, SaysHanded}
 use Rattle.norm_relay.specs.Sides.{happens_in}
 use Rattle.norm_relay.proofs.ConfirmLemmas.{Pledged, says, names, tick_told}
