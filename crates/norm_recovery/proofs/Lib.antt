@@ -25,3 +25,4 @@ pub mod FlushTurn
 pub mod FlushListed
 pub mod FlushOwed
 pub mod FlushConfirmed
+pub mod FlushNeeds

@@ -9,3 +9,4 @@ pub mod MembersEnter
 pub mod FlushTurn
 pub mod FlushListed
 pub mod FlushConfirmed
+pub mod FlushNeeds

@@ -3,6 +3,7 @@
 ghost use Rattle.norm_recovery.specs.Flush.{FlushGoes, FlushHeard};
 ghost use Rattle.norm_recovery.specs.FlushConfirmed.{FlushConfirmed};
 ghost use Rattle.norm_recovery.specs.FlushListed.{FlushListed};
+ghost use Rattle.norm_recovery.specs.FlushNeeds.{FlushNeeds};
 ghost use Rattle.norm_recovery.specs.FlushTurn.{FlushReaches};
 ghost use Rattle.norm_recovery.specs.MembersEnter.{MembersEnter};
 ghost use Rattle.norm_recovery.specs.MembersStand.{MembersStand};
@@ -87,4 +88,9 @@ pub fn flush_listed()
 /// current instance and lost nothing there, after a lawful run of few objects, whatever the draws.
 pub fn flush_confirmed()
     ensures { FlushConfirmed }
+{}
+
+/// A receiver that knows a flush and did not come past its object needs something of the object at its hand-up point, if that is data or a file.
+pub fn flush_needs()
+    ensures { FlushNeeds }
 {}
