@@ -18,16 +18,16 @@ use Rattle.norm_journal.specs.Lines.{of_line}
 use Rattle.norm_journal.specs.Totals.{nothing_counted, with_up}
 use Rattle.norm_journal.specs.declared.totals.Totals.{Totals}
 use Rattle.norm_multi.specs.Calls.{Delivered, Taken, Ticked, member_of, owner_in}
-use Rattle.norm_multi.specs.MultiMoves.{IsCall, Answers, IsSent, AreTaken}
+use Rattle.norm_multi.specs.MultiMoves.{IsCall, Answers, IsSent}
 use Rattle.norm_multi.specs.Owner.{owner_of}
 use Rattle.norm_multi.specs.declared.member.Member.{Member}
 use Rattle.norm_multi.proofs.MemberLemmas.{is_same}
 use Rattle.norm_order.specs.declared.up.Up.{Up}
 use Rattle.norm_receive_rules.specs.Holding.{Holding}
 use Rattle.norm_receive_rules.specs.ReceiverState.{ReceiverState}
-use Rattle.norm_receive_rules.specs.ReceiverStep.{ReceiverAnswer, receiver_step}
+use Rattle.norm_receive_rules.specs.ReceiverStep.{ReceiverAnswer}
 use Rattle.norm_receive_rules.specs.ReceiverStep as receiver
-use Rattle.norm_receive_rules.specs.Taking.{took, up_taken}
+use Rattle.norm_receive_rules.specs.Taking.{took}
 use Rattle.norm_receive_rules.specs.Ticking.{ticked}
 use Rattle.norm_receiver.specs.ReceiverKept.{ReceiverKept}
 use Rattle.norm_receiver.specs.ReceiverSound.{StandsFor as ReceiverStands}
@@ -38,11 +38,11 @@ use Rattle.norm_show.specs.declared.fault.NoDatagram.{NoDatagram}
 use Rattle.norm_turns.specs.Printing.{IsUnwritten}
 use Rattle.norm_turns.specs.declared.fault.SessionFault.{SessionFault}
 use Rattle.norm_turns.specs.declared.fault.SessionFault.TheVariants as fault
-use Rattle.norm_program.specs.GatherEnds.{Hearer, hearer_at, SoFar, draws_of, opening, Printed, in_front, stopped, ended, hears, hearer_of, uses_draw, draws_if, up_lines_in, up_lines, send_line, send_lines, emptied, tick_of, after_tick, told, with_ups, all_hear, after_datagram, lines_of, moment_of_line, last_line, gather_or_stop, gather_line, gather_lines}
-use Rattle.norm_program.specs.Hearing.{IsMemberOf, IsAt, AreHeard, AreReady, StandsFor, IsReady, KeepsOthers, Hands, HandsTo, HandsOn, HandedAll, TickedAt, Answered, AllAnswered, IsDelivered, Heard, LeadsTo, TakesLine, TookLines, role}
+use Rattle.norm_program.specs.Gathered.{Hearer, hearer_at, SoFar, draws_of, opening, Printed, in_front, stopped, ended, hears, uses_draw, draws_if, up_lines_in, up_lines, send_line, send_lines, emptied, tick_of, after_tick, told, with_ups, all_hear, after_datagram, lines_of, moment_of_line, last_line, gather_or_stop, gather_line, gather_lines}
+use Rattle.norm_program.specs.Hearing.{IsMemberOf, IsAt, AreHeard, StandsFor, IsReady, KeepsOthers, Hands, HandsOn, HandedAll, TickedAt, Answered, AllAnswered, IsDelivered, Heard, LeadsTo, TakesLine, TookLines, role}
 use Rattle.norm_program.specs.TailEnds.{LeavesLines}
 use Rattle.norm_program.specs.declared.gather.Gathering.{Gathering}
-use Rattle.norm_program.proofs.HearerLemmas.{same_inside, nothing_inside, others_stay, own_moves, there_still, is_there, answers_it, lends, taken_all, all_heard, draws_it, at_one, one_changed}
+use Rattle.norm_program.proofs.HearerLemmas.{same_inside, nothing_inside, others_stay, own_moves, there_still, answers_it, lends, all_heard, draws_it, at_one, one_changed}
 use Rattle.norm_program.proofs.TailLemmas.{leaves_more, leaves_after, leaves_same, leaves_one, wants_memory}
 
 abbrev Lines : Type 0

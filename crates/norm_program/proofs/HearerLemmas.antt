@@ -16,7 +16,7 @@ use Rattle.norm_receive_rules.specs.ReceiverStep as receiver
 use Rattle.norm_receive_rules.specs.Receiving.{received}
 use Rattle.norm_receiver.specs.ReceiverKept.{ReceiverKept}
 use Rattle.norm_receiver.specs.ReceiverSound.{StandsFor as ReceiverStands}
-use Rattle.norm_program.specs.GatherEnds.{Hearer, hearer_at, hears, hearer_of, uses_draw}
+use Rattle.norm_program.specs.Gathered.{Hearer, hearer_at, hears, hearer_of, uses_draw}
 use Rattle.norm_program.specs.Hearing.{IsMemberOf, IsAt, IsApart, AreApart, AreHeard, role}
 
 -- ---- one value or another

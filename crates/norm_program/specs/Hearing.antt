@@ -18,10 +18,10 @@ use Rattle.norm_multi.specs.declared.multi.MultiFault.TheVariants as multi
 use Rattle.norm_receive_rules.specs.Ticking.{ticked}
 use Rattle.norm_receiver.specs.ReceiverSound.{StandsFor as ReceiverStands}
 use Rattle.norm_show.specs.declared.fault.NoDatagram.{NoDatagram}
-use Rattle.norm_turns.specs.declared.fault.SessionFault.{SessionFault}
 use Rattle.norm_turns.specs.declared.fault.SessionFault.TheVariants as fault
 use Rattle.norm_program.specs.Ends.{Says, refused_line}
-use Rattle.norm_program.specs.GatherEnds.{Hearer, SoFar, Printed, AreLoaded, in_front, stopped, gather_line, hearer_of, up_lines, emptied, after_tick, told, with_ups, all_hear, uses_draw, draws_if, after_datagram, lines_of}
+use Rattle.norm_program.specs.GatherEnds.{AreLoaded}
+use Rattle.norm_program.specs.Gathered.{Hearer, SoFar, Printed, in_front, stopped, gather_line, hearer_of, up_lines, emptied, after_tick, told, with_ups, all_hear, uses_draw, draws_if, after_datagram, lines_of}
 use Rattle.norm_program.specs.NodeEnds.{IsLoading, IsRefusing}
 use Rattle.norm_program.specs.TailEnds.{LeavesLines}
 use Rattle.norm_program.specs.declared.gather.Gathering.{Gathering}

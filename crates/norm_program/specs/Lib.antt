@@ -9,6 +9,7 @@ pub mod Lending
 pub mod ShowEnds
 pub mod GenerateEnds
 pub mod NodeEnds
+pub mod Gathered
 pub mod GatherEnds
 pub mod Hearing
 pub mod Commands

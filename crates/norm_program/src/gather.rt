@@ -1,23 +1,22 @@
 //! `gather`: hears several senders at once, each in a session with its own profile, and prints what each receiver hands up and sends. The datagrams
 //! are lines of hexadecimal. The program calls [`end_gather`].
 
-ghost use Rattle.std.specs.Prelude.{◌≡◌, ◌+◌, ◌≤◌, ◌<◌, ℕ, List, [], ◌∷◌, length, Some, IfOk, IfErr, IfSome, OnOk, IsSome};
+ghost use Rattle.std.specs.Prelude.{◌≡◌, ◌+◌, ◌≤◌, ◌<◌, ℕ, List, ◌∷◌, length, IfOk, IfErr, IfSome, OnOk, IsSome};
 ghost use Rattle.std.specs.List.{flat_map};
-ghost use Rattle.norm_base.specs.Told.{gained};
-ghost use Rattle.norm_journal.specs.Lines.{of_line};
 ghost use Rattle.norm_journal.specs.Totals.{with_up};
 ghost use Rattle.norm_multi.specs.Beginning.{IsFault};
 ghost use Rattle.norm_multi.specs.Calls.{member_of};
 ghost use Rattle.norm_multi.specs.MultiMoves.{AreTaken};
 ghost use Rattle.norm_script.specs.Text.{text_lines};
 ghost use Rattle.norm_turns.specs.Causes.{WriteCause, NeedsMemory};
-ghost use Rattle.norm_turns.specs.Printing.{IsUnwritten};
 ghost use Rattle.norm_program.specs.Ends.{Called, outside};
-ghost use Rattle.norm_program.specs.GatherEnds.{Hearer, SoFar, Printed, AreLoaded, EndsAmong, EndsGather, draws_of, opening, moment_of_line, send_line, up_lines, told, last_line, gather_line, gather_lines, gathered, lines_of};
+ghost use Rattle.norm_program.specs.GatherEnds.{AreLoaded, EndsAmong, EndsGather};
+ghost use Rattle.norm_program.specs.Gathered.{Hearer, SoFar, Printed, draws_of, opening, moment_of_line, up_lines, told, gather_line, gather_lines, gathered, lines_of};
 ghost use Rattle.norm_program.specs.Hearing.{AllAnswered, Answered, AreHeard, AreReady, Delivers, HandedAll, HandsOn, Heard, IsAt, IsLinesEnding, IsLoadingPair, IsMembersEnding, IsReady, KeepsOthers, StandsFor, TakesLine, TickedAt, TookLines};
 ghost use Rattle.norm_program.specs.Lending.{GivesBack};
 ghost use Rattle.norm_program.specs.TailEnds.{LeavesLines};
 
+use crate::gathered_lines::{write_last, write_of, write_send};
 use crate::input::read_input;
 use crate::last_line::stop_session;
 use crate::lent::Lent;
@@ -26,18 +25,17 @@ use crate::show::refuse_line;
 use crate::status::{Ending, ProfileFault};
 use norm_args::Pairs;
 use norm_base::{
-    Clock, Datagram, Fabric, Files, InstanceId, Moment, NodeId, Notice, Profile, Sent, Sink,
-    Source, Text,
+    Clock, Datagram, Fabric, Files, Moment, NodeId, Profile, Sent, Sink, Source, Text,
 };
-use norm_journal::{Totals, of_line};
+use norm_journal::Totals;
 use norm_multi::{Multi, MultiFault};
 use norm_order::Up;
 use norm_script::split_at_first;
 use norm_show::{NoDatagram, datagram_in, why_none};
 use norm_text::Line;
-use norm_turns::{SessionFault, first_draws, next_draw, up_notice, write_line};
+use norm_turns::{SessionFault, first_draws, next_draw};
 use rand_pcg::Lcg64Xsh32;
-use std::alloc::{AllocError, Global};
+use std::alloc::Global;
 
 /// Microseconds between two lines.
 // Our own choice: a thousandth of a second for each line, so that empty lines let time pass.
@@ -89,76 +87,6 @@ fn moment_of(number: u64) -> Moment
     ensures { result ≡ moment_of_line number }
 {
     Moment(number.saturating_mul(LINE_TIME))
-}
-
-/// Makes the line of a datagram that is sent to this sender.
-fn put_send(line: &mut Line, sender: NodeId, octets: &[u8]) -> Result<(), AllocError>
-    ensures { OnOk result (line.new ≡ send_line sender octets.now) }
-{
-    line.restart(b"send", octets.len())?;
-    line.number(u64::from(sender.number()))?;
-    line.contents(octets)?;
-    line.finish()
-}
-
-/// Makes the last line.
-fn put_last(line: &mut Line, lines: u64, handed: u64) -> Result<(), AllocError>
-    ensures { OnOk result (line.new ≡ last_line lines handed) }
-{
-    line.restart(b"end", 0)?;
-    line.word(b"lines")?;
-    line.number(lines)?;
-    line.word(b"handed")?;
-    line.number(handed)?;
-    line.finish()
-}
-
-/// Writes the line of a hand-up.
-fn write_of<K: Sink>(
-    line: &mut Line,
-    sender: NodeId,
-    node: NodeId,
-    instance: InstanceId,
-    up: &Up,
-    output: &mut K,
-) -> Result<(), SessionFault>
-    ensures written { OnOk result (K.pieces output.new ≡ gained (K.pieces output.old) (of_line sender node instance up.now ∷ [])) }
-    ensures stops { IfErr result (λ fault. IsUnwritten fault (K.pieces output.old) (K.pieces output.new) (Some (of_line sender node instance up.now))) }
-    ensures cause { WriteCause result (K.fault_count output.old) (K.fault_count output.new) }
-{
-    of_line(line, sender, node, instance, up)?;
-    let notice = up_notice(up);
-    write_line(true, line, &notice, output)
-}
-
-/// Writes the line of a datagram that is sent to this sender.
-fn write_send<K: Sink>(
-    line: &mut Line,
-    sender: NodeId,
-    octets: &[u8],
-    output: &mut K,
-) -> Result<(), SessionFault>
-    ensures written { OnOk result (K.pieces output.new ≡ gained (K.pieces output.old) (send_line sender octets.now ∷ [])) }
-    ensures stops { IfErr result (λ fault. IsUnwritten fault (K.pieces output.old) (K.pieces output.new) (Some (send_line sender octets.now))) }
-    ensures cause { WriteCause result (K.fault_count output.old) (K.fault_count output.new) }
-{
-    put_send(line, sender, octets)?;
-    write_line(true, line, &Notice::Other, output)
-}
-
-/// Writes the last line.
-fn write_last<K: Sink>(
-    line: &mut Line,
-    lines: u64,
-    handed: u64,
-    output: &mut K,
-) -> Result<(), SessionFault>
-    ensures written { OnOk result (K.pieces output.new ≡ gained (K.pieces output.old) (last_line lines handed ∷ [])) }
-    ensures stops { IfErr result (λ fault. IsUnwritten fault (K.pieces output.old) (K.pieces output.new) (Some (last_line lines handed))) }
-    ensures cause { WriteCause result (K.fault_count output.old) (K.fault_count output.new) }
-{
-    put_last(line, lines, handed)?;
-    write_line(true, line, &Notice::Other, output)
 }
 
 /// Returns the number of the next line. `Memory` if it does not fit 64 bits: no text has so many lines.

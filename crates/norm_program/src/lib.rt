@@ -6,12 +6,13 @@
 //! `gather` are the commands; `tail` has what `session --tail` does after its turns, its last line too. `lent` lends them the outside as one value.
 //! `words` reads the command line, `input` the input, `commands` the script of a sender, and `profiles` the profile of a node. `boarded` runs
 //! what was read of a script. `last_line` writes any other last line, `status` has the endings and their statuses, `reason` writes to
-//! standard error, and [`laws`] are promises about the statuses.
+//! standard error, and [`laws`] are promises about the statuses. `gathered_lines` has the lines of `gather`.
 #![tactic(auto)]
 
 mod boarded;
 mod commands;
 mod gather;
+mod gathered_lines;
 mod generate;
 mod hub;
 mod input;

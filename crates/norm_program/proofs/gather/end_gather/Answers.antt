@@ -1,6 +1,4 @@
-use Rattle.std.proofs.Common.{◌∙◌, sym, ap, refl, subst}
-use Rattle.norm_program.specs.GatherEnds.{EndsAmong, AreLoaded}
-use Rattle.norm_program.specs.Hearing.{IsLoadingPair}
+use Rattle.std.proofs.Common.{◌∙◌, refl}
 use Rattle.norm_program.specs.Lending.{told}
 use Rattle.norm_program.proofs.GatherEndLemmas.{pair_ends, gather_ends, loaded_here, loading_here}
 use Rattle.norm_program.proofs.gather.end_gather.Goals as goal

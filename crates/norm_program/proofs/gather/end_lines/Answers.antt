@@ -1,6 +1,6 @@
-use Rattle.std.proofs.Common.{◌≡◌, ◌∙◌, ap, sym, subst, Some, None}
+use Rattle.std.proofs.Common.{ap, subst}
 use Rattle.norm_turns.specs.Causes.{Counted}
-use Rattle.norm_program.specs.GatherEnds.{opening, gathered}
+use Rattle.norm_program.specs.Gathered.{opening, gathered}
 use Rattle.norm_program.specs.Hearing.{TookLines}
 use Rattle.norm_program.proofs.GatherEndLemmas.{lines_done, lines_refused, lines_broken}
 use Rattle.norm_program.proofs.gather.end_lines.Goals as goal

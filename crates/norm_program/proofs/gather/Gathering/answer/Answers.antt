@@ -1,9 +1,9 @@
-use Rattle.std.proofs.Common.{◌≡◌, ◌∙◌, sym, ap, subst, refl, ◌∷◌, []}
+use Rattle.std.proofs.Common.{◌∙◌, ap, subst, refl, ◌∷◌, []}
 use Rattle.std.proofs.lemmas.Result.{err_from_is_err_and}
 use Rattle.norm_base.specs.Told.{gained}
 use Rattle.norm_turns.specs.Causes.{HasCause, counted}
 use Rattle.norm_turns.proofs.FaultLemmas.{at_fault, on_ok, on_err}
-use Rattle.norm_program.specs.GatherEnds.{send_line}
+use Rattle.norm_program.specs.Gathered.{send_line}
 use Rattle.norm_program.proofs.GatherLemmas.{keeps_both, answered_nothing, answered_sent, answer_breaks, send_breaks, unwritten_same}
 use Rattle.norm_program.proofs.gather.Gathering.answer.Goals as goal
 

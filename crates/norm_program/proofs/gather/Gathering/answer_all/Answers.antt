@@ -1,4 +1,4 @@
-use Rattle.std.proofs.Common.{◌≡◌, ◌∙◌, ◌≤◌, ◌<◌, length, sym, ap, refl, rules, Some}
+use Rattle.std.proofs.Common.{◌∙◌, ◌≤◌, ◌<◌, length, ap, refl, rules}
 use Rattle.std.proofs.lemmas.Result.{err_from_is_err_and}
 use Rattle.norm_multi.specs.Calls.{member_of}
 use Rattle.norm_turns.specs.Causes.{Counted}

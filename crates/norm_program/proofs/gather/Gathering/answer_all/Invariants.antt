@@ -1,5 +1,5 @@
 use Rattle.std.proofs.Common.{◌≡◌, List}
-use Rattle.norm_program.specs.GatherEnds.{Hearer}
+use Rattle.norm_program.specs.Gathered.{Hearer}
 use Rattle.norm_program.specs.Hearing.{AreHeard}
 use Rattle.norm_program.proofs.GatherLemmas.{AnsweredSoFar}
 use Rattle.norm_program.proofs.gather.Gathering.answer_all.Given as goal

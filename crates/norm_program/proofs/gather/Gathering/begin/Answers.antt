@@ -1,4 +1,4 @@
-use Rattle.std.proofs.Common.{refl, ◌∙◌}
+use Rattle.std.proofs.Common.{refl}
 use Rattle.norm_program.proofs.HearerLemmas.{begun_heard}
 use Rattle.norm_program.proofs.GatherLemmas.{begun_stands}
 use Rattle.norm_program.proofs.gather.Gathering.begin.Goals as goal

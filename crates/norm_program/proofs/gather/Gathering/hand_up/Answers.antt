@@ -1,6 +1,6 @@
-use Rattle.std.proofs.Common.{◌≡◌, ◌∙◌, sym, ap, refl, Some, None}
+use Rattle.std.proofs.Common.{◌∙◌, refl, Some}
 use Rattle.std.proofs.lemmas.Result.{err_from_is_err_and}
-use Rattle.norm_turns.proofs.FaultLemmas.{at_fault, on_ok, on_err, cause_exit}
+use Rattle.norm_turns.proofs.FaultLemmas.{at_fault, on_ok, on_err}
 use Rattle.norm_turns.specs.declared.fault.SessionFault.TheVariants as fault
 use Rattle.norm_program.proofs.GatherLemmas.{gave_this, hands_one, hands_broken, hands_none, keeps_none, keeps_taken, lacks_memory}
 use Rattle.norm_program.proofs.gather.Gathering.hand_up.Goals as goal

@@ -1,4 +1,4 @@
-use Rattle.std.proofs.Common.{◌≡◌, ◌∙◌, sym, ap, refl}
+use Rattle.std.proofs.Common.{◌∙◌, refl}
 use Rattle.std.proofs.lemmas.Result.{err_from_is_err_and}
 use Rattle.norm_turns.proofs.FaultLemmas.{at_fault, on_ok, on_err}
 use Rattle.norm_turns.specs.declared.fault.SessionFault.TheVariants as fault

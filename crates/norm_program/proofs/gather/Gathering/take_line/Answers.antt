@@ -1,9 +1,7 @@
-use Rattle.std.proofs.Common.{◌≡◌, ◌∙◌, sym, ap, refl, subst, [], None}
+use Rattle.std.proofs.Common.{◌∙◌, sym, refl}
 use Rattle.std.proofs.lemmas.Result.{err_from_is_err_and}
 use Rattle.norm_turns.proofs.FaultLemmas.{at_fault}
 use Rattle.norm_turns.specs.declared.fault.SessionFault.TheVariants as fault
-use Rattle.norm_program.specs.GatherEnds.{lines_of}
-use Rattle.norm_program.specs.Hearing.{Heard}
 use Rattle.norm_program.proofs.GatherLemmas.{takes_empty, takes_datagram, takes_none, line_breaks, ready_heard, lacks_memory, no_line, some_line, heard_at, breaks_at}
 use Rattle.norm_program.proofs.gather.Gathering.take_line.Goals as goal
 

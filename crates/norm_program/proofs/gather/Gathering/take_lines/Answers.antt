@@ -1,4 +1,4 @@
-use Rattle.std.proofs.Common.{◌≡◌, ◌∙◌, ◌+◌, sym, ap, refl, subst}
+use Rattle.std.proofs.Common.{◌∙◌, ◌+◌, sym, ap, refl, subst}
 use Rattle.std.proofs.lemmas.Result.{err_from_is_err_and}
 use Rattle.norm_turns.specs.Causes.{Counted, counted}
 use Rattle.norm_turns.proofs.FaultLemmas.{at_fault, cause_exit}

@@ -1,5 +1,5 @@
 use Rattle.std.proofs.Common.{◌≡◌, length}
-use Rattle.norm_program.specs.GatherEnds.{SoFar}
+use Rattle.norm_program.specs.Gathered.{SoFar}
 use Rattle.norm_program.specs.Hearing.{StandsFor, IsReady, LeadsTo}
 use Rattle.norm_program.proofs.GatherLemmas.{from_line}
 use Rattle.norm_program.proofs.gather.Gathering.take_lines.Given as goal

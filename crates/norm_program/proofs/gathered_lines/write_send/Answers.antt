@@ -2,7 +2,7 @@ use Rattle.std.proofs.Common.{◌≡◌, ◌∷◌, [], List, ℕ, Some, subst}
 use Rattle.std.specs.Prelude.{OnOk, IfErr}
 use Rattle.norm_base.specs.Told.{gained}
 use Rattle.norm_turns.specs.Printing.{IsUnwritten}
-use Rattle.norm_program.proofs.gather.write_send.Goals as goal
+use Rattle.norm_program.proofs.gathered_lines.write_send.Goals as goal
 
 pub returns-clause-written : goal.returns-clause-written
 returns-clause-written g c =
