@@ -1,8 +1,8 @@
 #!/usr/bin/env python3
 """Evaluates the definitions of the protocol (crates/*/specs) on recorded runs.
 
-    checks/definitions.py [--runs DIR] [--count N] [--safe] [--laws] [--cases] [--damaged] [--journals] [--tails] [--relays] [--manifests] [--errors] [--rules [--write]]
-                          [--gate] [NAME ..]
+    checks/definitions.py [--runs DIR] [--count N] [--safe] [--laws] [--cases] [--damaged] [--journals] [--tails] [--relays] [--gathers] [--manifests]
+                          [--errors] [--rules [--write]] [--gate] [NAME ..]
 
 A recorded run is a list of events with what each gave, and where the nodes stood at its end (checks/runs). For each run
 antt computes the defined steps, event by event, and compares each answer and the end state with the record: the proof of
@@ -15,10 +15,11 @@ each deliberate error of checks/errors in a definition is noticed by the case th
 docs/protocol.md with what stands here, and with `--write` prints them again. `--journals` judges each recorded journal, which has to be
 accepted event by event, to end as recorded and to print the recorded text, and damaged ones, which have to be refused (with
 `--count N` those of the N shortest). `--tails` compares each recorded tail (checks/runs/tails) with the defined one, and damages of the
-shortest, which have to be refused. `--relays` compares each recorded relay (checks/runs/relays), and lists of calls made by hand.
-`--manifests` compares rows of manifests and of checks made by hand. `--gate` compares the rows, ten runs, the four shortest tails, the relays and
-manifests made by hand, and evaluates the cases, the damaged runs, all journals and the damaged ones of the ten shortest. NAME is a part of a run's name, or with `--errors` of an error's words, and
-`--count N` takes N runs evenly (with `--tails` the N shortest).
+shortest, which have to be refused. `--relays` compares each recorded relay (checks/runs/relays), and lists of calls made by hand. `--gathers` compares
+what is printed of each recorded input of `gather` (checks/runs/gathers), and of the shortest two damages. `--manifests` compares rows of manifests and
+of checks made by hand. `--gate` compares the rows, ten runs, the four shortest tails, the relays and manifests made by hand and the shortest inputs of
+`gather`, and evaluates the cases, the damaged runs, all journals and the damaged ones of the ten shortest. NAME is a part of a run's name, or with
+`--errors` of an error's words, and `--count N` takes N runs evenly (with `--tails` and `--gathers` the N shortest).
 Exit status: 0 where all is as expected, 1 where something differs, 2 where the evaluation failed.
 """
 import argparse, glob, json, os, re, sys, tempfile, time
@@ -34,6 +35,8 @@ from evaluate.evaluating import Failed, Workspace, found_in     # noqa: E402
 UNEVALUATED = 'hostile-008'
 # the gate takes so many tails, the shortest, of which one is cut; `--tails` takes all, which is a minute
 GATE_TAILS = 4
+# and so many inputs of `gather`, the shortest
+GATE_GATHERS = 20
 
 
 def runs_of(folder, names, count):
@@ -87,7 +90,7 @@ def main():
     a.add_argument('--runs', default=os.path.join(HERE, 'runs'))
     a.add_argument('--count', type=int, default=0)
     a.add_argument('--work')
-    for flag in ('safe', 'laws', 'cases', 'damaged', 'journals', 'tails', 'relays', 'manifests', 'errors', 'rules', 'write', 'gate'):
+    for flag in ('safe', 'laws', 'cases', 'damaged', 'journals', 'tails', 'relays', 'gathers', 'manifests', 'errors', 'rules', 'write', 'gate'):
         a.add_argument('--' + flag, action='store_true')
     a = a.parse_args()
     runs = list(runs_of(a.runs, [] if a.errors else a.names, 0 if a.gate else a.count))
@@ -110,6 +113,9 @@ def main():
             elif a.manifests:
                 from evaluate import manifests
                 said, differ = manifests.look(manifests.Manifests(tempfile.mkdtemp(dir=scratch)))
+            elif a.gathers:
+                from evaluate import gathers
+                said, differ = gathers.look(gathers.Gathers(tempfile.mkdtemp(dir=scratch)), gathers.runs_of(a.runs, a.names, a.count))
             elif a.rules:
                 from evaluate import rules
                 said, differ = rules.look(a.write)
@@ -129,12 +135,14 @@ def main():
                 more += [tails.case(*t) for t in tails.runs_of(a.runs, (), GATE_TAILS)] if a.gate else []
                 said, differ = compare(space, [runs[i * len(runs) // 10] for i in range(10)] if a.gate else [], more)
                 if a.gate:
-                    from evaluate import manifests, relays, rules
+                    from evaluate import gathers, manifests, relays, rules
                     judged, refused = judge(a, 10)
                     relayed, parted = relays.look(relays.Relays(tempfile.mkdtemp(dir=scratch)), [])
+                    heard, misheard = gathers.look(gathers.Gathers(tempfile.mkdtemp(dir=scratch)), gathers.runs_of(a.runs, (), GATE_GATHERS))
                     spelt, other = manifests.look(manifests.Manifests(tempfile.mkdtemp(dir=scratch)))
                     there, astray = rules.look()
-                    said, differ = '%s, %s, %s, %s, %s' % (said, judged, relayed, spelt, there), differ + refused + parted + other + astray
+                    said = '%s, %s, %s, %s, %s, %s' % (said, judged, relayed, heard, spelt, there)
+                    differ += refused + parted + misheard + other + astray
             else:
                 said, differ = compare(space, runs)
         except Failed as e:
