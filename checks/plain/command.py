@@ -5,6 +5,7 @@ import sys
 
 from .gather import gather, pairs_of
 from .keys import NUMBERS, number
+from .relay import relay, relay_words
 from .script import NoMeaning, read_script
 from .session import Fault, Session
 from .tail import run_tails
@@ -50,12 +51,20 @@ def ended(session: Session, tail: int | None) -> int:
     return NO_TAIL if last.startswith('tail refused') else DONE
 
 
-def run(words: list[str], text: bytes, folder: str) -> tuple[int, str]:
-    """Runs the program on words and an input, in a folder with files. Returns the status and what it prints."""
+def run_datagrams(words: list[str], text: bytes, folder: str) -> tuple[int, list[str]] | None:
+    """Runs a command on lines of datagrams. Returns None if these are the words of no such command."""
     pairs = pairs_of(words[1:]) if words[:1] == ['gather'] else None
     if pairs is not None:
-        status, lines = gather(pairs, text, folder)
-        return status, ''.join(line + '\n' for line in lines)
+        return gather(pairs, text, folder)
+    relayed = relay_words(words[1:]) if words[:1] == ['relay'] else None
+    return None if relayed is None else relay(*relayed, text, folder)
+
+
+def run(words: list[str], text: bytes, folder: str) -> tuple[int, str]:
+    """Runs the program on words and an input, in a folder with files. Returns the status and what it prints."""
+    done = run_datagrams(words, text, folder)
+    if done is not None:
+        return done[0], ''.join(line + '\n' for line in done[1])
     options = options_of(words[1:]) if words[:1] == ['session'] else None
     if options is None:
         return NO_COMMAND, USAGE + '\n'

@@ -28,7 +28,7 @@ def need(is_so: bool) -> None:
 # ---- reading
 
 def read(octets: bytes) -> tuple:
-    """Returns whose a datagram is, and what it says to a receiver: None if that is nothing. A report, and what spells no message, is nobody's."""
+    """Returns whose a datagram is, and what it says to a node: None if that is nothing. A report, and what spells no message, is nobody's."""
     try:
         return read_message(octets)
     except Refused:
@@ -71,7 +71,7 @@ def read_object(kind: int, source: int, octets: bytes, end: int) -> wire.Object:
 
 
 def read_command(sub_type: int, source: int, octets: bytes, end: int):
-    """Returns a FLUSH, a SQUELCH or a REPAIR_ADV; to a receiver any other command says nothing."""
+    """Returns a FLUSH, a SQUELCH or a REPAIR_ADV; any other command says nothing."""
     need(EOT <= sub_type <= APPLICATION or sub_type == FLUSH)
     rest, instance = octets[end:], number(octets, 8, 2)
     if sub_type in (FLUSH, SQUELCH):
@@ -92,7 +92,7 @@ def read_command(sub_type: int, source: int, octets: bytes, end: int):
 
 
 def read_feedback(kind: int, source: int, octets: bytes, end: int) -> tuple:
-    """Returns the sender that a NACK or an acknowledgement names, and of a NACK what it says."""
+    """Returns the sender that a NACK or an acknowledgement names, and what it says: an acknowledgement of another kind nothing."""
     extensions(octets, 24, end)
     rest, sender = octets[end:], number(octets, 8, 4)
     need(sender not in NO_NODES)
@@ -100,7 +100,7 @@ def read_feedback(kind: int, source: int, octets: bytes, end: int) -> tuple:
         return sender, wire.Nack(source, sender, number(octets, 12, 2), read_requests(rest))
     if octets[14] == ACK_OF_FLUSH:
         need(len(rest) == wire.ITEM_SIZE)
-        read_item(rest)
+        return sender, wire.Ack(source, sender, number(octets, 12, 2), read_item(rest))
     return sender, None
 
 

@@ -259,17 +259,19 @@ class Sender:
             self.squelch_due = False
             return wire.Squelch(self.p.sender, self.instance, wire.object_id(self.p, self.drop[0]), self.drop[1])
         if self.wants:
-            return self._message_of(self.wants.pop(0))
+            want = self.wants.pop(0)
+            is_source = want[1:] == AN_INFO or want[2] < self.order[want[0]].cut.sources(want[1])
+            return self._message_of(want, wire.IS_REPAIR | (wire.IS_EXPLICIT if is_source else 0))
         new = self._next_new()
         if new is not None:
             self.next = (new[0], 0, 0) if new[1:] == AN_INFO else (*new[:2], new[2] + 1)
             return self._message_of(new)
         return self._flush(now)
 
-    def _message_of(self, want: tuple) -> wire.Object:
+    def _message_of(self, want: tuple, flags: int = 0) -> wire.Object:
         self.sent.add(want)
         entry = self.order[want[0]]
-        flags = wire.IS_STREAM if entry.is_stream else wire.IS_FILE if entry.kind == 'file' else 0
+        flags |= wire.IS_STREAM if entry.is_stream else wire.IS_FILE if entry.kind == 'file' else 0
         flags |= wire.HAS_INFO if entry.info is not None else 0
         fti = (entry.length, self.p.e, self.p.b, self.p.max_n)
         head = (self.p.sender, self.instance, wire.object_id(self.p, want[0]), flags, fti)

@@ -9,7 +9,7 @@ IDS = 65536                                     # object transport ids and insta
 LAST_INDEX = 4294967294
 LAST_BLOCK, LAST_SYMBOL = 16777215, 255         # the greatest that a payload id has
 
-HAS_INFO, IS_FILE, IS_STREAM = 4, 16, 32        # flags of INFO and DATA
+IS_REPAIR, IS_EXPLICIT, HAS_INFO, IS_FILE, IS_STREAM = 1, 2, 4, 16, 32     # flags of INFO and DATA
 
 ITEMS, RANGES, ERASURES = 1, 2, 3               # forms of requests
 SEGMENT, BLOCK, INFO, OBJECT = 1, 2, 4, 8       # flags of requests
