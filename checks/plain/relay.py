@@ -44,7 +44,6 @@ class Relay:
 
     def deliver_down(self, octets: bytes, now: int) -> None:
         self.sender.deliver(read(octets)[1], now)
-        self.sender.book.news()
 
     def tick_up(self, now: int) -> bytes | None:
         """Returns the datagram that goes up. An acknowledgement waits until each member below confirmed as much."""
@@ -66,17 +65,10 @@ class Relay:
         count, crowded = self._enqueue()
         if self.sender.book.oldest() is None:
             self._mark(crowded)
-        self.sender.book.news()
         return count
 
     def tick_down(self, now: int) -> bytes | None:
-        message = self.sender.tick(now)
-        self.sender.book.news()
-        return self._octets('down', self.sender.p, message)
-
-    def strike(self, node: int) -> None:
-        self.sender.strike(node)
-        self.sender.book.news()
+        return self._octets('down', self.sender.p, self.sender.tick(now))
 
     def _is_met(self) -> bool:
         return self.sender.book.all_past(self.pledge[1])
@@ -183,6 +175,7 @@ class Relaying:
         except Refused:
             raise Stop(JOB_REFUSED, 'refused command') from None
         self._say('down', self.relay.tick_down(line.now))
+        self.relay.sender.book.news()           # nobody asks for them
 
     def end(self) -> None:
         self.printed.append(f'end lines {self.lines} enqueued {self.enqueued} acknowledged {self.acknowledged}')
