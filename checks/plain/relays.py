@@ -6,7 +6,7 @@ from . import wire
 from .gather import Stop
 from .keys import Profile
 from .mixes import BAD_LINES as BAD_HEX, Mixer
-from .octets import read, written
+from .octets import read
 from .receiver import Receiver
 from .relay import Line, Relaying
 from .sender import Refused, Sender, Waits
@@ -26,12 +26,10 @@ class Side:
     def __init__(self, maker: RelayMaker, p: Profile, loss: int):
         self.maker, self.p, self.loss = maker, p, loss
         self.on_their_way: list[tuple[int, int, bytes]] = []          # (the line at which it comes, node, octets)
-        self.sequence = 0
 
     def offer(self, source: int, message, n: int) -> None:
         """A node offers a message at line n."""
         if message is not None:
-            self.sequence += 1
             for octets in self.maker.disturbed(self.p, source, message):
                 self.pass_on(source, octets, n)
 
