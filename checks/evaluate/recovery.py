@@ -1,19 +1,40 @@
 """Laws of bounded recovery as tests of each event along the recorded tails: all are true there, their premises are met, and wrong statements are refused."""
 import os, re
 
-from evaluate import evaluating, terms
+from evaluate import evaluating, laws, terms
 from evaluate.evaluating import found_in
 
 HERE = os.path.dirname(os.path.abspath(__file__))
 USES = '''use Rattle.std.specs.Prelude.{◌*◌, ◌-◌, max}
 use Rattle.norm_send_rules.specs.Flushing.{most_flushes}
-use Rattle.norm_send_rules.specs.Watermarks.{oldest}
+use Rattle.std.specs.Prelude.{nat_eq}
+use Rattle.std.specs.List.{list_any}
+use Rattle.std.specs.Option.{option_eq}
+use Rattle.fec_plan.specs.Points.{point_of}
+use Rattle.norm_receive_rules.specs.Leaving.{is_in}
+use Rattle.norm_send_rules.specs.Restarting.{instances}
+use Rattle.norm_send_rules.specs.SenderState.{Instance}
+use Rattle.norm_send_rules.specs.Watermarks.{oldest, members, has_member}
+use Rattle.norm_safety.specs.Hands.{is_at}
+use Rattle.norm_safety.specs.InTime.{most_objects}
+use Rattle.norm_safety.specs.Lawful.{is_near}
+use Rattle.norm_safety.specs.World.{is_of}
+use Rattle.norm_send_rules.specs.Wants.{want_before}
+use Rattle.norm_recovery.specs.Left.{has, will_have, in_window, left}
 use Rattle.norm_recovery.specs.RunsOut.{all_new, to_send, last_closing}
 '''
 RECOVERY = open(os.path.join(HERE, 'Recovery.txt'), encoding='utf-8').read()
 # wrong statements, each of which some recorded tail refuses: a hold-off of K round trips, a flush a microsecond sooner, and that all is out a
 # round trip after the tail began, whatever was asked for since
 WRONG = {'a hold-off of K': 'timely_for (λ q. q.k)', 'a flush after 2G - 1': 'goes_after (λ q. 2 * q.grtt - 1)', 'out whatever closes': 'runs_out_of %d'}
+# wrong statements of members, each refused by this tail: that struck nodes stand as members do, that members stand where a datagram came
+# that nobody offered, and that whoever hears the sender was in its instance before
+ASTRAY = {'tail-13': 'all_stand', 'tail-16': 'members_stand', 'tail-19': 'was_there'}
+# wrong counts of what is left, each of which differs from the record of this tail: of struck nodes too, of what is wanted too, of what a member
+# lacks now, and of what a member holds in another instance
+COUNTS = {'left_of_all': 'tail-13', 'left_with_wanted': 'tail-05', 'left_now': 'tail-05', 'left_elsewhere': 'tail-19'}
+# and in this one it rises, if it is counted before the sender's datagram was delivered
+EARLY = 'tail-05'
 
 
 class Recovery(evaluating.Workspace):
@@ -33,13 +54,48 @@ def has_flush(run):
     return any(e.get('sent') and int(e['sent'][:2], 16) & 15 == 3 and int(e['sent'][24:26], 16) == 1 for e in run['tail'] if e.get('tick') == run['profile']['sender'])
 
 
-def case(name, run, test):
-    """The test is true at each event of the tail."""
+def tail_of(name, run):
+    """The profile, what is declared, the name of the events before a tail, and those of the tail."""
     n = re.sub(r'\W', '_', name)
     p, declared = terms.profile_of(name, run)
     declared += '\n\nabbrev events_%s : List Event\nevents_%s = %s' % (n, n, terms.lst([terms.event(e) for e in run['before']]))
-    tail = terms.lst([terms.event(e) for e in run['tail']])
-    return name, declared, 'fails_after (%s) %s events_%s %d %s ≡ []' % (test, p, n, run['last'], tail)
+    return p, declared, 'events_' + n, terms.lst([terms.event(e) for e in run['tail']])
+
+
+def case(name, run, test):
+    """The test is true at each event of the tail."""
+    p, declared, before, tail = tail_of(name, run)
+    return name, declared, 'fails_after (%s) %s %s %d %s ≡ []' % (test, p, before, run['last'], tail)
+
+
+def left_case(name, run, count):
+    """As a tail begins and after each of its whole turns so much is left as is recorded."""
+    p, declared, before, tail = tail_of(name, run)
+    counted = 'lefts %s %s (run_from %s (world_opening %s) %s) %s' % (count, p, p, p, before, tail)
+    return name, declared, 'take %d (%s) ≡ %s' % (len(run['left']), counted, terms.nums(run['left']))
+
+
+def early_case(name, run):
+    """What is left does not rise, counted also between the sender's tick and the delivery of what it gave."""
+    p, declared, before, tail = tail_of(name, run)
+    return name, declared, 'none_rises (lefts_early %s (run_from %s (world_opening %s) %s) %s) ≡ true' % (p, p, p, before, tail)
+
+
+def takes_late(events):
+    """The events with each receiver's hand-ups taken after its tick."""
+    out = []
+    for e in events:
+        at = len(out)
+        while 'tick' in e and at and out[at - 1].get('take') == e['tick']:
+            at -= 1
+        out.insert(at, e)
+    return out
+
+
+def late_case(name, run):
+    """A tail is lawful if hand-ups are taken after the tick."""
+    p, declared = terms.profile_of(name, run)
+    return name, declared, 'is_lawful %s %s ≡ true' % (p, terms.lst([terms.event(e) for e in [*run['before'], *takes_late(run['tail'])]]))
 
 
 def look(space, runs):
@@ -47,10 +103,20 @@ def look(space, runs):
     whole = {'%s, laws' % name: (run, 'recovers') for name, run in runs}
     flushed = {'%s, flushed' % name: (run, 'no_flush') for name, run in runs if has_flush(run)}
     wrong = {'%s, %s' % (name, w): (run, test % run['last'] if '%' in test else test) for name, run in runs for w, test in WRONG.items()}
-    said = space.evaluate([case(name, *of) for name, of in [*whole.items(), *flushed.items(), *wrong.items()]])
-    false = [name for name in whole if said[name]]
+    members = {'%s, members' % name: (run, 'members_keep') for name, run in runs if run['lawful']}
+    astray = {'%s, %s' % (name, ASTRAY[name]): (run, ASTRAY[name]) for name, run in runs if name in ASTRAY}
+    late = [late_case('%s, takes after ticks' % name, run) for name, run in sorted(runs, key=lambda r: len(r[1]['before'] + r[1]['tail']))
+            if run['lawful'] and takes_late(run['tail']) != run['tail']][:1]
+    far = ('32,769 objects', '', 'is_near most_objects 0 ≡ true')
+    counted = [left_case('%s, left' % name, run, 'left') for name, run in runs if run['lawful']]
+    amiss = [left_case('%s, %s' % (name, count), run, count) for count, tail in COUNTS.items() for name, run in runs if name == tail]
+    amiss += [early_case('%s, early' % name, run) for name, run in runs if name == EARLY]
+    said = space.evaluate([*(case(name, *of) for name, of in [*whole.items(), *flushed.items(), *wrong.items(), *members.items(), *astray.items()]),
+                           *late, far, *counted, *amiss])
+    false = [name for name in [*whole, *members, *(name for name, _, _ in counted)] if said[name]]
     empty = [name for name in flushed if not is_refused(said[name])]
     missed = [w for w in WRONG if not any(is_refused(said['%s, %s' % (name, w)]) for name, _ in runs)]
+    missed += [name for name in astray if not is_refused(said[name])] + [name for name, _, _ in [*late, far, *amiss] if not laws.is_refused(said[name])]
     for name in false:
         print('%s: a law is false: %s' % (name, said[name][:1500]))
     for name in empty:

@@ -26,3 +26,5 @@ pub mod FlushListed
 pub mod FlushOwed
 pub mod FlushConfirmed
 pub mod FlushNeeds
+pub mod LeftStays
+pub mod LeftCounts

@@ -10,3 +10,4 @@ pub mod FlushTurn
 pub mod FlushListed
 pub mod FlushConfirmed
 pub mod FlushNeeds
+pub mod Left

@@ -5,6 +5,7 @@ ghost use Rattle.norm_recovery.specs.FlushConfirmed.{FlushConfirmed};
 ghost use Rattle.norm_recovery.specs.FlushListed.{FlushListed};
 ghost use Rattle.norm_recovery.specs.FlushNeeds.{FlushNeeds};
 ghost use Rattle.norm_recovery.specs.FlushTurn.{FlushReaches};
+ghost use Rattle.norm_recovery.specs.Left.{LeftTells};
 ghost use Rattle.norm_recovery.specs.MembersEnter.{MembersEnter};
 ghost use Rattle.norm_recovery.specs.MembersStand.{MembersStand};
 ghost use Rattle.norm_recovery.specs.RunsOut.{RunsOutLaws, TailRunsOut};
@@ -93,4 +94,11 @@ pub fn flush_confirmed()
 /// A receiver that knows a flush and did not come past its object needs something of the object at its hand-up point, if that is data or a file.
 pub fn flush_needs()
     ensures { FlushNeeds }
+{}
+
+/// No more is left than may need repair. If nothing is wanted and nothing is left, every member has everything of the window. What a receiver
+/// has of it, or will have, stays so whatever happens to it, unless it leaves the sender's instance.
+#[tactic(auto, using(crate::proofs::LeftCounts::left_tells))]
+pub fn left_tells()
+    ensures { LeftTells }
 {}
