@@ -1,7 +1,7 @@
 -- Words that are read in pairs.
 use Rattle.std.proofs.Common.{◌≡◌, ◌∙◌, sym, ap, refl, arith, ℕ, zero, suc, ◌+◌, ◌*◌, ◌/◌, ◌%◌, ◌<◌, List, [], ◌∷◌, ◌++◌, map, drop, length, get_or, append_assoc, Option, Some, None, Bor}
 use Rattle.std.specs.Option.{option_map}
-use Rattle.std.proofs.lemmas.List.{append-nil, length-map, drop_more}
+use Rattle.std.proofs.lemmas.List.{length-map, drop_more}
 use Rattle.norm_script.specs.Words.{number_within}
 use Rattle.norm_args.specs.NodeTasks.{pairs_of, onto_pairs}
 
