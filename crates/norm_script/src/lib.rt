@@ -3,8 +3,8 @@
 //! [`read`] makes a [`Script`] (a profile and commands) of a text, or returns the first line without meaning and why it has none. [`read_script`]
 //! returns only the number of that line. [`read_under`] reads a script whose profile is given, and [`read_commands`] returns only the line's
 //! number then. [`generate`] writes a script to try a session with. The program reads with [`read`] and [`read_under`], and `norm_session` runs
-//! what they read. Readers of other lines use [`split_at_first`], which cuts a text at the first of an octet, [`number_within`], and
-//! [`spelling_of`], which finds what an editor did to a line. [`name_of`] is for such readers too, and only this crate calls it.
+//! what they read. Readers of other lines use [`split_at_first`], which cuts a text at the first of an octet, [`number_within`], [`name_of`], and
+//! [`spelling_of`], which finds what an editor did to a line.
 #![tactic(auto)]
 
 mod generator;
