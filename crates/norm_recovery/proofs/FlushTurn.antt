@@ -39,7 +39,7 @@ use Rattle.norm_laws.proofs.LaterTailLemmas.{not_sender}
 use Rattle.norm_laws.proofs.NewOrder.{clash}
 use Rattle.norm_laws.proofs.PassingWords.{goes_higher}
 use Rattle.norm_recovery.specs.Flush.{MayFlush, KnowsFlush}
-use Rattle.norm_recovery.specs.FlushTurn.{FlushReaches}
+use Rattle.norm_recovery.specs.FlushTurn.{FlushComes}
 use Rattle.norm_recovery.specs.TailKeeps.{Stays}
 use Rattle.norm_recovery.specs.TailLawful.{MayGoOn, GoesOn}
 use Rattle.norm_recovery.specs.TailOf.{ComesInTail}
@@ -61,17 +61,17 @@ same_some x y e = cc
 -- ---- what an event makes of a node's receiver
 
 -- it stays as it is, or takes a step
-data After (p : Settings) (r t : ReceiverState) : Type 0 where
+pub data After (p : Settings) (r t : ReceiverState) : Type 0 where
   Still : t ≡ r → After p r t
   Steps : (own : ReceiverEvent) → t ≡ (receiver_step p r own).0 → After p r t
 
 -- the receiver of a node before and after an event
-record Before (p : Settings) (w : World) (node : ℕ) (t : ReceiverState) : Type 0 where
-  r : ReceiverState
-  found : receiver_at w node ≡ Some r
-  after : After p r t
+pub record Before (p : Settings) (w : World) (node : ℕ) (t : ReceiverState) : Type 0 where
+  pub r : ReceiverState
+  pub found : receiver_at w node ≡ Some r
+  pub after : After p r t
 
-before : (p : Settings) (w : World) (e : Event) (node : ℕ) → (node == p.sender) ≡ false → (t : ReceiverState)
+pub before : (p : Settings) (w : World) (e : Event) (node : ℕ) → (node == p.sender) ≡ false → (t : ReceiverState)
     → receiver_at (world_step p w e).0 node ≡ Some t → Before p w node t
 before p w e node other t is = go (receiver_at w node) refl
   where
@@ -420,8 +420,8 @@ is_there p w nodes node other r found none = by (p.sender == node) (still_there 
     by true e = none_some p.sender (sym e)
     by false e = none_some r (sym (no_receiver node w.receivers (ap (find (λ (n : ℕ). n == node)) nodes ∙ e)) ∙ found)
 
-pub flush_reaches : FlushReaches
-flush_reaches p range events may draws now wm flush node t found = go (receiver_at (run p events) node) refl
+pub flush_comes : FlushComes
+flush_comes p range events may draws now wm flush node t found = go (receiver_at (run p events) node) refl
   where
     calm : IsCalm p (run p events) (tail_turn p draws now (course_from (run p events)))
     calm = turn_keeps p draws (IsCalm p (run p events)) (λ c h. h.nodes ∙ world_laws.nodes p events) (comes_calm p (run p events)) (draw_calm p (run p events)) now

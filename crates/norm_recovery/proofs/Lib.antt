@@ -28,3 +28,5 @@ pub mod FlushConfirmed
 pub mod FlushNeeds
 pub mod LeftStays
 pub mod LeftCounts
+pub mod FlushLacks
+pub mod FlushReaches

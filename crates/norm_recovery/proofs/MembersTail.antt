@@ -129,7 +129,7 @@ module _ (p : Settings) (range : InRange p) (past : List Happening) (accepted : 
   member_stands = record { inside = inside; outside = outside }
 
 -- after a run
-stands_in_run : (p : Settings) → InRange p → p.mode ≡ Hold → (events : List Event) → Lawful p events → AreEvents events → (node : ℕ) (r : ReceiverState)
+pub stands_in_run : (p : Settings) → InRange p → p.mode ≡ Hold → (events : List Event) → Lawful p events → AreEvents events → (node : ℕ) (r : ReceiverState)
     → receiver_at (run p events) node ≡ Some r → listed_in node (run p events).sender.listings ≡ true → Stands (run p events).sender r
 stands_in_run p range hold events lawful are node r found member =
     let past : List Happening = happens p (world_opening p) events in

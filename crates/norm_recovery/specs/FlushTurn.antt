@@ -12,7 +12,7 @@ use Rattle.norm_recovery.specs.TailLawful.{MayGoOn}
 
 -- After a run that may go on comes a turn in which the sender flushes for a watermark, whatever the draws: at its end each receiver is in the
 -- current instance, and knows that position or a further one.
-abbrev pub FlushReaches : Type 0
-FlushReaches = (p : Settings) → InRange p → (events : List Event) → MayGoOn p events → (draws : ℕ → ℕ) (now : ℕ) (w : Watermark)
+abbrev pub FlushComes : Type 0
+FlushComes = (p : Settings) → InRange p → (events : List Event) → MayGoOn p events → (draws : ℕ → ℕ) (now : ℕ) (w : Watermark)
     → MayFlush p now (run p events).sender w → (node : ℕ) (r : ReceiverState)
     → receiver_at (tail_turn p draws now (course_from (run p events))).world node ≡ Some r → KnowsFlush r (run p events).sender.current.id w.at

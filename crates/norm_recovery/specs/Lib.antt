@@ -11,3 +11,5 @@ pub mod FlushListed
 pub mod FlushConfirmed
 pub mod FlushNeeds
 pub mod Left
+pub mod FlushLacks
+pub mod FlushReaches

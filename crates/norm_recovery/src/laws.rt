@@ -1,10 +1,9 @@
 //! Laws of bounded recovery. Each law is the contract of a function that does nothing. Begin with [`tail_is_lawful`].
 
-ghost use Rattle.norm_recovery.specs.Flush.{FlushGoes, FlushHeard};
-ghost use Rattle.norm_recovery.specs.FlushConfirmed.{FlushConfirmed};
+ghost use Rattle.norm_recovery.specs.Flush.{FlushHeard};
 ghost use Rattle.norm_recovery.specs.FlushListed.{FlushListed};
 ghost use Rattle.norm_recovery.specs.FlushNeeds.{FlushNeeds};
-ghost use Rattle.norm_recovery.specs.FlushTurn.{FlushReaches};
+ghost use Rattle.norm_recovery.specs.FlushReaches.{FlushReaches};
 ghost use Rattle.norm_recovery.specs.Left.{LeftTells};
 ghost use Rattle.norm_recovery.specs.MembersEnter.{MembersEnter};
 ghost use Rattle.norm_recovery.specs.MembersStand.{MembersStand};
@@ -59,12 +58,6 @@ pub fn tail_runs_out()
     ensures { TailRunsOut }
 {}
 
-/// A flush goes if nothing else does. If nothing is to be sent, two round trips have passed since the last flush and fewer than 20 were
-/// counted, a due tick that closes no round flushes for the oldest watermark.
-pub fn flush_goes()
-    ensures { FlushGoes }
-{}
-
 /// A receiver that hears a flush in its instance, or in one that it goes on to, knows that position or a further one from then on, until it
 /// leaves that instance. If the flush asks it, and it handed up all through that position, it owes an acknowledgement.
 #[tactic(auto, using(crate::proofs::FlushHeard::flush_heard))]
@@ -72,23 +65,11 @@ pub fn flush_heard()
     ensures { FlushHeard }
 {}
 
-/// A flush reaches every receiver. If the sender flushes in a turn after a lawful run of few objects, each receiver is then in the current
-/// instance, and knows that position or a further one, whatever the draws.
-pub fn flush_comes()
-    ensures { FlushReaches }
-{}
-
 /// A sender that hears a member confirm a position, or a further one, lists it past that position. It stays listed through whatever is no
 /// command.
 #[tactic(auto, using(crate::proofs::FlushListed::flush_listed))]
 pub fn flush_listed()
     ensures { FlushListed }
-{}
-
-/// In the turn of a flush every member that it asks and that handed up all through its position is listed past that position, if it is in the
-/// current instance and lost nothing there, after a lawful run of few objects, whatever the draws.
-pub fn flush_confirmed()
-    ensures { FlushConfirmed }
 {}
 
 /// A receiver that knows a flush and did not come past its object needs something of the object at its hand-up point, if that is data or a file.
@@ -101,4 +82,14 @@ pub fn flush_needs()
 #[tactic(auto, using(crate::proofs::LeftCounts::left_tells))]
 pub fn left_tells()
     ensures { LeftTells }
+{}
+
+/// A flush reaches every member. If nothing is to be sent, two round trips have passed since the last flush and fewer than 20 were counted, a due
+/// tick that closes no round flushes for the oldest watermark. At the end of that turn, after a lawful run of few objects and whatever the draws:
+/// 1. Every receiver is in the current instance, and knows that position or a further one.
+/// 2. Every member that the flush asks and that, in the current instance and without a loss, had handed up all through that position is listed past it.
+/// 3. In `hold` mode, with no stream in the window, every member that is not past the position needs something of the object at its hand-up point,
+///    which is in the window, if the position is the last of its object.
+pub fn flush_reaches()
+    ensures { FlushReaches }
 {}
