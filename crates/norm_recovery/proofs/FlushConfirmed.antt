@@ -1,5 +1,5 @@
 -- In the turn of a flush a member that is asked and handed up all through its position is listed.
-use Rattle.std.proofs.Common.{◌≡◌, ◌≢◌, ℕ, zero, suc, ◌+◌, ◌<◌, ◌≤◌, cond, List, [], ◌∷◌, ◌++◌, filter, length, Bool, true, false, Option, None, Some, Ok, refl, sym, ap, ◌∙◌, subst, arith}
+use Rattle.std.proofs.Common.{◌≡◌, ◌≢◌, ℕ, zero, suc, ◌+◌, ◌≤◌, cond, List, [], ◌∷◌, ◌++◌, filter, length, Bool, true, false, Option, None, Some, refl, sym, ap, ◌∙◌, subst, arith}
 use Rattle.std.specs.Prelude.{◌==◌, not, find, fold, ⊤}
 use Rattle.std.specs.Fn.{iterate}
 use Rattle.std.specs.List.{AllByRecursion, list_any}
@@ -26,14 +26,15 @@ use Rattle.norm_send_rules.specs.SenderState.{SenderState, Instance, Watermark}
 use Rattle.norm_send_rules.specs.SenderStep as sender
 use Rattle.norm_send_rules.specs.Ticking.{ticked}
 use Rattle.norm_send_rules.specs.Watermarks.{members}
-use Rattle.norm_safety.specs.Acknowledges.{owes, HandedAll}
+use Rattle.norm_safety.specs.Acknowledges.{owes, EndsPartOf, HandedAll}
 use Rattle.norm_safety.specs.CreditsMembers.{is_listed_past}
 use Rattle.norm_safety.specs.Events.{Event, Commanded, Delivered, Ticked, Offered, UpTaken, NewsAsked, Sent}
 use Rattle.norm_safety.specs.History.{history}
 use Rattle.norm_safety.specs.Tail.{Course, course_from, events_of, comes, untold, tells, untaken, takes, copy_comes, others_than, given_by, passes_on, sender_ticks, receiver_ticks, serves, tail_turn}
-use Rattle.norm_safety.specs.World.{World, receiver_at}
+use Rattle.norm_safety.specs.OnceEach.{order_of}
+use Rattle.norm_safety.specs.World.{World, world_opening, receiver_at}
 use Rattle.norm_safety.specs.WorldLaws.{is_senders, to_receiver, comes_to, nodes_of}
-use Rattle.norm_safety.specs.WorldStep.{node_move, receiver_move, moved, world_step, run_from, run}
+use Rattle.norm_safety.specs.WorldStep.{node_move, receiver_move, moved, world_step, run}
 use Rattle.norm_safety.proofs.Feedback.{ack_of}
 use Rattle.norm_safety.proofs.Owing.{owing_laws}
 use Rattle.norm_safety.proofs.Spoken.{current_order}
@@ -43,7 +44,7 @@ use Rattle.norm_laws.proofs.CountSender.{sender_after, sender_is}
 use Rattle.norm_laws.proofs.LaterTailLemmas.{if_own}
 use Rattle.norm_laws.proofs.NewOrder.{clash}
 use Rattle.norm_recovery.specs.Flush.{MayFlush}
-use Rattle.norm_recovery.specs.FlushConfirmed.{is_asked, FlushConfirmed}
+use Rattle.norm_recovery.specs.FlushConfirmed.{is_asked, HandedThrough, FlushConfirmed}
 use Rattle.norm_recovery.specs.TailKeeps.{Stays}
 use Rattle.norm_recovery.specs.TailLawful.{MayGoOn, GoesOn}
 use Rattle.norm_recovery.specs.TailOf.{ComesInTail}
@@ -53,6 +54,8 @@ use Rattle.norm_recovery.proofs.FlushOwed.{handed_there, owes_flush, Says, says_
 use Rattle.norm_recovery.proofs.FlushTurn.{stays_in, same_id, Waits, calm_then, comes_lawfully, is_other, is_there, flush_passed}
 use Rattle.norm_recovery.proofs.KeepsSender.{quiet_run_stays}
 use Rattle.norm_recovery.proofs.LawfulTail.{goes_on}
+use Rattle.norm_recovery.proofs.MarksEnd.{oldest_ends, marks_end}
+use Rattle.norm_recovery.proofs.MembersTail.{last_is_run}
 use Rattle.norm_recovery.proofs.TailCourses.{IsCalm, comes_calm, draw_calm}
 use Rattle.norm_recovery.proofs.TailWalk.{HasOffered, Gift, no_receiver, all_are_taken, given_may_come, given_offered, offered_may_come, others_differ, copy_offered, copies_keep, tells_keep, all_served}
 
@@ -358,8 +361,28 @@ module _ (p : Settings) (range : InRange p) (events : List Event) (may : MayGoOn
 
 -- ---- the turn
 
-pub flush_confirmed : FlushConfirmed
-flush_confirmed p range events may draws now wm flush node r asked handed =
+-- a part of the order ends with the position of a watermark
+handed_part : (p : Settings) → InRange p → (events : List Event) → MayGoOn p events → (now : ℕ) (wm : Watermark) → MayFlush p now (run p events).sender wm
+    → (node : ℕ) (r : ReceiverState) → HandedThrough p (history p events) node (run p events).sender.current.id r wm.at
+    → HandedAll p (history p events) node (run p events).sender.current.id r wm.at
+handed_part p range events may now wm flush node r through = record {
+  there = through.there;
+  inside = through.inside;
+  ends = subst (λ (w : World). EndsPartOf p (order_of w.sender s.current.id) wm.at) (sym (last_is_run p (world_opening p) events))
+      (subst (λ (order : List Entry). EndsPartOf p order wm.at) (sym (current_order s (after_run p range events may.lawful may.jobs).holds.once.ids))
+      (oldest_ends p s wm (marks_end p range events may.lawful may.jobs) flush.is_oldest));
+  lost = through.lost;
+  front = through.front;
+}
+  where
+    s : SenderState
+    s = (run p events).sender
+
+is_listed : (p : Settings) → InRange p → (events : List Event) → MayGoOn p events → (draws : ℕ → ℕ) (now : ℕ) (wm : Watermark)
+    → MayFlush p now (run p events).sender wm → (node : ℕ) (r : ReceiverState) → is_asked (run p events).sender wm.at node ≡ true
+    → HandedAll p (history p events) node (run p events).sender.current.id r wm.at
+    → is_listed_past (tail_turn p draws now (course_from (run p events))).world.sender node wm.at ≡ true
+is_listed p range events may draws now wm flush node r asked handed =
     (all_served_list p range events may node other wm.at asked draws now (receivers_of p p.receivers) there
     (passes_on p draws now (sender_ticks p now (course_from (run p events))) p.sender)
     (flush_passed p range events may draws now wm flush node other r found (is_there p (run p events) (world_laws.nodes p events) node other r found) K hears
@@ -415,3 +438,7 @@ flush_confirmed p range events may draws now wm flush node r asked handed =
             (ap (λ (v : World). receiver_at v node) on.leads ∙ h.found) octets (flush_command p (run p events).sender wm) wm.at says.read
             (sym (same_id p range events may node other wm.at c h.calm)) refl says.small
             (comes_lawfully p range events may node other wm.at octets (flush_command p (run p events).sender wm) says draws now r c h)
+
+pub flush_confirmed : FlushConfirmed
+flush_confirmed p range events may draws now wm flush node r asked through =
+    is_listed p range events may draws now wm flush node r asked (handed_part p range events may now wm flush node r through)

@@ -1,28 +1,27 @@
 -- A member that knows a flush and is not past it lacks something of the window.
-use Rattle.std.proofs.Common.{◌≡◌, ℕ, zero, suc, ◌+◌, ◌-◌, ◌*◌, ◌/◌, ◌<◌, ◌≤◌, ◌⊎◌, inl, inr, cond, List, [], ◌∷◌, ◌++◌, map, filter, drop, length, Bool, true, false, Option, None, Some, refl, sym, ap, ◌∙◌, subst, arith}
-use Rattle.std.specs.Prelude.{◌==◌, not, find, slice_get, IfSome, IsSomeAnd}
+use Rattle.std.proofs.Common.{◌≡◌, ℕ, zero, suc, ◌+◌, ◌-◌, ◌*◌, ◌/◌, ◌≤◌, cond, List, [], ◌∷◌, ◌++◌, map, filter, drop, length, Bool, true, false, Option, None, Some, refl, sym, ap, ◌∙◌, subst, arith}
+use Rattle.std.specs.Prelude.{◌==◌, not, slice_get, IfSome, IsSomeAnd}
 use Rattle.std.specs.List.{AllByRecursion}
 use Rattle.std.proofs.lemmas.Bool.Decides.{Decides-eqb}
 use Rattle.norm_base.specs.Members.{receivers_of}
 use Rattle.norm_base.specs.Settings.{Settings, InRange}
 use Rattle.norm_base.specs.declared.kinds.Mode.TheVariants.{Hold}
 use Rattle.fec_plan.specs.Partition.{Cut, blocks}
-use Rattle.fec_plan.specs.Points.{Point, position, point_of, point_before, position_before, reached_by}
+use Rattle.fec_plan.specs.Points.{position, point_of, point_before, position_before}
 use Rattle.fec_plan.specs.declared.position.Position.{Position}
 use Rattle.fec_plan.proofs.PointLemmas.{behind_point}
-use Rattle.fec_plan.proofs.PositionLemmas.{Behind, behind}
+use Rattle.fec_plan.proofs.PositionLemmas.{behind}
 use Rattle.norm_order.specs.Entries.{Object, Whole, Stream, Entry}
-use Rattle.norm_order.specs.Shapes.{Shape, shape_of, closed_in, closed_blocks, last_in}
+use Rattle.norm_order.specs.Shapes.{Shape, shape_of, closed_in, closed_blocks}
 use Rattle.norm_receive_rules.specs.FarLaws.{IsFar}
 use Rattle.norm_receive_rules.specs.Holding.{Holding, Plan}
 use Rattle.norm_receive_rules.specs.Leaving.{is_in}
 use Rattle.norm_receive_rules.specs.Plans.{plan_of, says_stream, cut_of_plan}
 use Rattle.norm_receive_rules.specs.ReceiverState.{ReceiverState, receiver_opening}
-use Rattle.norm_receive_rules.specs.ReceiverStep.{receiver_step}
 use Rattle.norm_receive_rules.proofs.FarLemmas.{far_laws}
 use Rattle.norm_send_rules.specs.Messages.{fti_of_object, object_flags}
 use Rattle.norm_send_rules.specs.Repairable.{is_stream, streams}
-use Rattle.norm_send_rules.specs.SenderState.{SenderState, Instance, Watermark}
+use Rattle.norm_send_rules.specs.SenderState.{SenderState, Instance}
 use Rattle.norm_send_rules.specs.Watermarks.{has_member}
 use Rattle.norm_safety.specs.Acknowledges.{EndsPart, EndsPartOf}
 use Rattle.norm_safety.specs.Events.{Event}
@@ -30,10 +29,8 @@ use Rattle.norm_safety.specs.Hands.{hands}
 use Rattle.norm_safety.specs.InOrder.{is_stream_object}
 use Rattle.norm_safety.specs.Jobs.{AreEvents}
 use Rattle.norm_safety.specs.Lawful.{Lawful}
-use Rattle.norm_safety.specs.OnceEach.{order_of}
 use Rattle.norm_safety.specs.Tail.{Course, course_from, events_of, tail_turn}
 use Rattle.norm_safety.specs.World.{World, world_opening, receiver_at}
-use Rattle.norm_safety.specs.WorldLaws.{nodes_of}
 use Rattle.norm_safety.specs.WorldStep.{world_step, run_from, run}
 use Rattle.norm_safety.proofs.Holding.{IsPlanOf, found_plan}
 use Rattle.norm_safety.proofs.OrderRun.{found_holds}
@@ -43,15 +40,16 @@ use Rattle.norm_safety.proofs.WorldHolds.{AtReceiver, AtNode}
 use Rattle.norm_safety.proofs.WorldLemmas.{world_laws}
 use Rattle.norm_laws.proofs.HeldLengths.{PlanIs, says_its, its_cut}
 use Rattle.norm_laws.proofs.NewOrder.{clash}
-use Rattle.norm_recovery.specs.Flush.{MayFlush, KnowsFlush}
+use Rattle.norm_recovery.specs.Flush.{KnowsFlush}
 use Rattle.norm_recovery.specs.FlushLacks.{Lacks, FlushLacks}
 use Rattle.norm_recovery.specs.TailKeeps.{Stays}
-use Rattle.norm_recovery.specs.TailLawful.{MayGoOn, GoesOn}
-use Rattle.norm_recovery.proofs.FlushKnown.{HoldsIn, after_run}
+use Rattle.norm_recovery.specs.TailLawful.{GoesOn}
+use Rattle.norm_recovery.proofs.FlushKnown.{after_run}
 use Rattle.norm_recovery.proofs.FlushNeeds.{flush_needs}
 use Rattle.norm_recovery.proofs.FlushTurn.{After, Still, Steps, Before, before, is_other, flush_comes}
 use Rattle.norm_recovery.proofs.KeepsSender.{quiet_run_stays}
 use Rattle.norm_recovery.proofs.LawfulTail.{goes_on}
+use Rattle.norm_recovery.proofs.MarksEnd.{oldest_ends, marks_end}
 use Rattle.norm_recovery.proofs.MembersTail.{stands_in_run}
 use Rattle.norm_recovery.proofs.TailCourses.{IsCalm, comes_calm, begins_calm, draw_calm}
 use Rattle.norm_recovery.proofs.TailWalk.{turn_keeps}
@@ -243,7 +241,7 @@ lacks_in_run p range hold events lawful are none node other r found member at en
 -- ---- after the turn
 
 pub flush_lacks : FlushLacks
-flush_lacks p range hold events may none draws now wm flush ends node r found member early =
+flush_lacks p range hold events may none draws now wm flush node r found member early =
     subst (λ (v : World). Lacks p v.sender r) on.leads
     (lacks_in_run p range hold (events ++ events_of turn) on.again.lawful on.again.jobs
     (ap (λ (i : Instance). length (filter is_stream (drop i.drop.index i.order))) same ∙ none) node other r
@@ -251,6 +249,9 @@ flush_lacks p range hold events may none draws now wm flush ends node r found me
     (subst (λ (i : Instance). EndsPartOf p i.order wm.at) (sym same) ends)
     (subst (λ (i : Instance). KnowsFlush r i.id wm.at) (sym same) (flush_comes p range events may draws now wm flush node r found)) early)
   where
+    ends : EndsPartOf p (run p events).sender.current.order wm.at
+    ends = oldest_ends p (run p events).sender wm (marks_end p range events may.lawful may.jobs) flush.is_oldest
+
     turn : Course
     turn = tail_turn p draws now (course_from (run p events))
 

@@ -21,6 +21,7 @@ pub mod MembersTail
 pub mod MembersOwn
 pub mod MembersEnter
 pub mod FlushKnown
+pub mod MarksEnd
 pub mod FlushTurn
 pub mod FlushListed
 pub mod FlushOwed

@@ -8,7 +8,6 @@ use Rattle.norm_receive_rules.specs.ReceiverState.{ReceiverState}
 use Rattle.norm_send_rules.specs.Repairable.{streams}
 use Rattle.norm_send_rules.specs.SenderState.{SenderState, Watermark}
 use Rattle.norm_send_rules.specs.Watermarks.{has_member}
-use Rattle.norm_safety.specs.Acknowledges.{EndsPartOf}
 use Rattle.norm_safety.specs.Events.{Event}
 use Rattle.norm_safety.specs.Tail.{course_from, tail_turn}
 use Rattle.norm_safety.specs.World.{receiver_at}
@@ -21,11 +20,11 @@ pub record Lacks (p : Settings) (s : SenderState) (r : ReceiverState) : Type 0 w
   pub needs : needs_nothing_first p r ≡ false
   pub in_window : point_before (point_of r.holding.point) s.current.drop ≡ false
 
--- In `hold` mode, with no stream in the window, comes a turn in which the sender flushes for a watermark whose position is the last of its
--- object, after a run that may go on, whatever the draws. A member whose hand-up point is then not behind that position lacks something.
+-- In `hold` mode, with no stream in the window, comes a turn in which the sender flushes for a watermark, after a run that may go on, whatever the
+-- draws. A member whose hand-up point is then not behind the watermark's position lacks something.
 abbrev pub FlushLacks : Type 0
 FlushLacks = (p : Settings) → InRange p → p.mode ≡ Hold → (events : List Event) → MayGoOn p events → streams (run p events).sender ≡ 0
-    → (draws : ℕ → ℕ) (now : ℕ) (w : Watermark) → MayFlush p now (run p events).sender w → EndsPartOf p (run p events).sender.current.order w.at
+    → (draws : ℕ → ℕ) (now : ℕ) (w : Watermark) → MayFlush p now (run p events).sender w
     → (node : ℕ) (r : ReceiverState) → receiver_at (tail_turn p draws now (course_from (run p events))).world node ≡ Some r
     → has_member node (tail_turn p draws now (course_from (run p events))).world.sender ≡ true → position_before w.at r.holding.point ≡ false
     → Lacks p (tail_turn p draws now (course_from (run p events))).world.sender r

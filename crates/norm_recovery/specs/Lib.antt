@@ -8,6 +8,7 @@ pub mod MembersStand
 pub mod MembersEnter
 pub mod FlushTurn
 pub mod FlushListed
+pub mod MarksEnd
 pub mod FlushConfirmed
 pub mod FlushNeeds
 pub mod Left

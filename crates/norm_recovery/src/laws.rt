@@ -5,6 +5,7 @@ ghost use Rattle.norm_recovery.specs.FlushListed.{FlushListed};
 ghost use Rattle.norm_recovery.specs.FlushNeeds.{FlushNeeds};
 ghost use Rattle.norm_recovery.specs.FlushReaches.{FlushReaches};
 ghost use Rattle.norm_recovery.specs.Left.{LeftTells};
+ghost use Rattle.norm_recovery.specs.MarksEnd.{MarksEnd};
 ghost use Rattle.norm_recovery.specs.MembersEnter.{MembersEnter};
 ghost use Rattle.norm_recovery.specs.MembersStand.{MembersStand};
 ghost use Rattle.norm_recovery.specs.RunsOut.{RunsOutLaws, TailRunsOut};
@@ -84,12 +85,19 @@ pub fn left_tells()
     ensures { LeftTells }
 {}
 
+/// With the position of an open watermark a part of the order ends: it is the last source symbol of data or a file, or a closed segment of a
+/// stream ends with it. So it is after every lawful run, whatever was enqueued since. A restart leaves no watermark open.
+#[tactic(auto, using(crate::proofs::MarksEnd::marks_end))]
+pub fn marks_end()
+    ensures { MarksEnd }
+{}
+
 /// A flush reaches every member. If nothing is to be sent, two round trips have passed since the last flush and fewer than 20 were counted, a due
 /// tick that closes no round flushes for the oldest watermark. At the end of that turn, after a lawful run of few objects and whatever the draws:
 /// 1. Every receiver is in the current instance, and knows that position or a further one.
 /// 2. Every member that the flush asks and that, in the current instance and without a loss, had handed up all through that position is listed past it.
 /// 3. In `hold` mode, with no stream in the window, every member that is not past the position needs something of the object at its hand-up point,
-///    which is in the window, if the position is the last of its object.
+///    which is in the window.
 pub fn flush_reaches()
     ensures { FlushReaches }
 {}
