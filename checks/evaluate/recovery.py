@@ -12,14 +12,14 @@ use Rattle.std.specs.List.{list_any}
 use Rattle.std.specs.Option.{option_eq}
 use Rattle.fec_plan.specs.Points.{point_of, reached_by, same_position}
 use Rattle.std.specs.Prelude.{slice_get}
-use Rattle.norm_order.specs.Shapes.{shape_of, last_in}
+use Rattle.norm_order.specs.Shapes.{shape_of, shapes_of, closed_in, last_in, last_source}
 use Rattle.norm_safety.specs.CreditsMembers.{is_listed_past}
 use Rattle.norm_safety.specs.InOrder.{is_stream_object}
 use Rattle.norm_safety.specs.Tail.{drops}
 use Rattle.norm_receive_rules.specs.Leaving.{is_in}
 use Rattle.norm_send_rules.specs.Restarting.{instances}
 use Rattle.norm_send_rules.specs.SenderState.{Instance}
-use Rattle.norm_send_rules.specs.Watermarks.{oldest, members, has_member}
+use Rattle.norm_send_rules.specs.Watermarks.{is_open, oldest, members, has_member}
 use Rattle.norm_safety.specs.Hands.{is_at}
 use Rattle.norm_safety.specs.InTime.{most_objects}
 use Rattle.norm_safety.specs.Lawful.{is_near}
@@ -42,6 +42,8 @@ COUNTS = {'left_of_all': 'tail-13', 'left_with_wanted': 'tail-05', 'left_now': '
 EARLY = 'tail-05'
 # in this one not every member that a flush asks has handed up everything: not all of them are listed at once
 LATER = 'tail-04'
+# in this one something is enqueued while a watermark is open, which does not ask for that
+FURTHER = 'tail-07'
 
 
 class Recovery(evaluating.Workspace):
@@ -79,6 +81,12 @@ def flush_case(name, run, test):
     """The test is true of each receiver at the end of each turn of the tail that flushes."""
     p, declared, before, tail = tail_of(name, run)
     return name, declared, 'unmet_after %s %s %s %s ≡ []' % (test, p, before, tail)
+
+
+def marks_case(name, run, test):
+    """The test is true at each event of the run and of its tail."""
+    p, declared, before, tail = tail_of(name, run)
+    return name, declared, 'fails_after %s %s [] 0 (%s ++ %s) ≡ []' % (test, p, before, tail)
 
 
 def left_case(name, run, count):
@@ -125,14 +133,16 @@ def look(space, runs):
     amiss = [left_case('%s, %s' % (name, count), run, count) for count, tail in COUNTS.items() for name, run in runs if name == tail]
     reached = [flush_case('%s, reached' % name, run, 'is_reached_by_flush') for name, run in runs if run['lawful']]
     at_once = [flush_case('%s, listed at once' % name, run, 'is_listed_at_once') for name, run in runs if name == LATER]
+    marks = [marks_case('%s, marks' % name, run, 'marks_end') for name, run in runs if run['lawful']]
+    further = [marks_case('%s, marks of all' % name, run, 'marks_end_all') for name, run in runs if name == FURTHER]
     met = [flush_case('%s, a turn with a flush' % name, run, 'is_never_flushed') for name, run in runs if run['lawful'] and has_flush(run)]
     amiss += [early_case('%s, early' % name, run) for name, run in runs if name == EARLY]
     said = space.evaluate([*(case(name, *of) for name, of in [*whole.items(), *flushed.items(), *wrong.items(), *members.items(), *astray.items()]),
-                           *late, far, *counted, *amiss, *reached, *at_once, *met])
-    false = [name for name in [*whole, *members, *(name for name, _, _ in [*counted, *reached])] if said[name]]
+                           *late, far, *counted, *amiss, *reached, *at_once, *marks, *further, *met])
+    false = [name for name in [*whole, *members, *(name for name, _, _ in [*counted, *reached, *marks])] if said[name]]
     empty = [name for name in [*flushed, *(name for name, _, _ in met)] if not is_refused(said[name])]
     missed = [w for w in WRONG if not any(is_refused(said['%s, %s' % (name, w)]) for name, _ in runs)]
-    missed += [name for name in astray if not is_refused(said[name])] + [name for name, _, _ in [*late, far, *amiss, *at_once] if not laws.is_refused(said[name])]
+    missed += [name for name in astray if not is_refused(said[name])] + [name for name, _, _ in [*late, far, *amiss, *at_once, *further] if not laws.is_refused(said[name])]
     for name in false:
         print('%s: a law is false: %s' % (name, said[name][:1500]))
     for name in empty:
