@@ -31,3 +31,4 @@ pub mod LeftStays
 pub mod LeftCounts
 pub mod FlushLacks
 pub mod FlushReaches
+pub mod LeftHeard
