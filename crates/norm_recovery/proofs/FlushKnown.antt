@@ -221,7 +221,7 @@ flush_message_is o m read (inl own) = same (sym own ∙ read)
 flush_message_is o m read (inr nothing) = absurd (subst SaysNothing read nothing)
 
 -- all of a datagram is near what a receiver knows
-near_by : (p : Settings) (v : World) (node : ℕ) → (node == p.sender) ≡ false → (r : ReceiverState) → receiver_at v node ≡ Some r → (o : Written) (x : Message)
+pub near_by : (p : Settings) (v : World) (node : ℕ) → (node == p.sender) ≡ false → (r : ReceiverState) → receiver_at v node ≡ Some r → (o : Written) (x : Message)
     → o.message ≡ x → (indices : List ℕ) → o.indices ≡ indices → IsTrue (comes_in_time p v node o) → are_near (receiver_knows r x) indices ≡ true
 near_by p v node other r found o x is indices alone near =
     ap (are_near (receiver_knows r x)) (sym alone)

@@ -106,7 +106,7 @@ none_at (y ∷ xs) k x none found = go (is_stream y) refl none (none_at xs)
     go true own none more = absurd (omega (arith, none))
     go false own none more = at_place k found own more none
 
-none_in_window : (d : ℕ) (order : List Entry) (i : ℕ) (x : Entry) → length (filter is_stream (drop d order)) ≡ 0 → d ≤ i → slice_get order i ≡ Some x
+pub none_in_window : (d : ℕ) (order : List Entry) (i : ℕ) (x : Entry) → length (filter is_stream (drop d order)) ≡ 0 → d ≤ i → slice_get order i ≡ Some x
     → is_stream x ≡ false
 none_in_window zero order i x none le found = none_at order i x none found
 none_in_window (suc d) [] i x none le found = absurd (none_some found)

@@ -32,3 +32,4 @@ pub mod LeftCounts
 pub mod FlushLacks
 pub mod FlushReaches
 pub mod LeftHeard
+pub mod LeftComes

@@ -14,3 +14,4 @@ pub mod FlushNeeds
 pub mod Left
 pub mod FlushLacks
 pub mod FlushReaches
+pub mod LeftHeard

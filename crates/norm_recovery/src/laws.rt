@@ -5,6 +5,7 @@ ghost use Rattle.norm_recovery.specs.FlushListed.{FlushListed};
 ghost use Rattle.norm_recovery.specs.FlushNeeds.{FlushNeeds};
 ghost use Rattle.norm_recovery.specs.FlushReaches.{FlushReaches};
 ghost use Rattle.norm_recovery.specs.Left.{LeftTells};
+ghost use Rattle.norm_recovery.specs.LeftHeard.{LeftHeard};
 ghost use Rattle.norm_recovery.specs.MarksEnd.{MarksEnd};
 ghost use Rattle.norm_recovery.specs.MembersEnter.{MembersEnter};
 ghost use Rattle.norm_recovery.specs.MembersStand.{MembersStand};
@@ -90,6 +91,12 @@ pub fn left_tells()
 #[tactic(auto, using(crate::proofs::MarksEnd::marks_end))]
 pub fn marks_end()
     ensures { MarksEnd }
+{}
+
+/// In `hold` mode, with no stream in the window, a member that hears an INFO or a DATA of the window has what it brings then. It has to be offered,
+/// of the current instance, and come after a lawful run of few objects.
+pub fn left_heard()
+    ensures { LeftHeard }
 {}
 
 /// A flush reaches every member. If nothing is to be sent, two round trips have passed since the last flush and fewer than 20 were counted, a due
