@@ -4,7 +4,7 @@
 # It is run after `rt ci`, which leaves the program; the first row that differs is named, and ends it with status 1.
 cd "$(dirname "$0")/.." || exit 1
 program=$PWD/crates/normd/out/normd
-usage='usage: normd session | show | generate N | send PROFILE | recv PROFILE NODE | hub PROFILE | gather PROFILE NODE ..'
+usage='usage: normd session | show | generate N | send PROFILE | recv PROFILE NODE | hub PROFILE | gather PROFILE NODE .. | relay UP NODE DOWN'
 version='normd 0.1.0'
 rows=0
 
@@ -170,6 +170,16 @@ words "$gather_takes" gather none.toml 4294967295
 words "$gather_takes" gather a.toml 2 --help
 words "$gather_takes" gather a.toml 2 --instance 1
 words "$gather_takes" gather a.toml 2 b.toml 3 c.toml 4 d.toml 5 e.toml 6 f.toml 7 g.toml 8 h.toml 9 i.toml 10
+relay_takes='relay takes three words, the path of the profile above, a node of it, from 1 to 4294967294, and the path of the profile below, and --instance I, from 0 to 65535, at most once'
+words "$relay_takes" relay
+words "$relay_takes" relay up.toml 2
+words "$relay_takes" relay up.toml 2 down.toml 3
+words "$relay_takes" relay up.toml 0 down.toml
+words "$relay_takes" relay none.toml 4294967295 down.toml
+words "$relay_takes" relay up.toml two none.toml
+words "$relay_takes" relay up.toml 2 down.toml --instance 65536
+words "$relay_takes" relay --instance 1 up.toml 2 down.toml --instance 2
+words "$relay_takes" relay up.toml 2 down.toml --help
 session_takes='session takes --chance N, from 0 to 4294967295, --turns N and --tail T, from 1 to 4000000, each at most once, and no other word'
 words "$session_takes" session now
 words "$session_takes" session --help
@@ -977,6 +987,80 @@ gathers 3 'line 1: it has more than 3000 octets\n' 'refused line 1\n' "$(digits 
 gathers 3 'line 2: it has more than 3000 octets\n' "${up_hello}refused line 2\n" "$hello\n$(digits 3002)" a.toml 2
 gathers 3 'line 2: it ends with a carriage return: write lines that end with a line feed alone\n' "${up_hello}refused line 2\n" "$hello\n00\r\n" a.toml 2
 gathers 0 '' 'end lines 1 handed 0\n' "$(digits 3000)" a.toml 2
+
+# A relay between two sessions: an object and a flush above, the object and a watermark below, and the acknowledgement once it came from below.
+# relays STATUS WHY OUTPUT INPUT WORD..
+relays() {
+    printf '%b' "$4" >"$scratch/in"
+    reason=$2 status=$1 printed=$3
+    shift 4
+    row "relay $*" "$status" "$printed" relay "$@"
+}
+
+# With these octets the patience of the sender above suffices: 256 symbols a millisecond apart take less than 40 round trips of 10.
+sizes='e = 64\nb = 4\noctets = 16384\n'
+printf '%binstance = 7\n' "$sizes" >"$files/up.toml"
+printf '%bsender = 10\ninstance = 3\n' "$sizes" >"$files/down.toml"
+printf '%bsender = 10\ninstance = 3\nwindow = 1\n' "$sizes" >"$files/narrow.toml"
+flush=130500010000000100074041010500000000000000000002
+from_below=150600000000000b0000000a0003020000000000000000000500000000000000
+below_hello='down 120800000000000a00034041000500000000000040030000000000050040040668656c6c6f\n'
+below_mark='down 130500010000000a0003404101050000000000000000000b\n'
+above_ack='up 1506000000000002000000010007020000000000000000000500000000000000\n'
+relays 0 '' "$below_hello$below_mark${above_ack}end lines 3 enqueued 1 acknowledged 1\n" "up $hello\nup $flush\ndown $from_below\n" up.toml 2 down.toml
+relays 0 '' "$below_hello$below_mark${above_ack}end lines 3 enqueued 1 acknowledged 1\n" "up $hello\nup $flush\ndown $from_below" --instance=3 up.toml 2 down.toml
+relays 0 '' "$below_hello${below_mark}end lines 3 enqueued 1 acknowledged 0\n" "up $hello\nup $flush\ntick\n" up.toml 2 down.toml
+relays 0 '' 'end lines 0 enqueued 0 acknowledged 0\n' '' up.toml 2 down.toml
+# Digits of either case; and what spells no datagram changes nothing.
+relays 0 '' 'end lines 4 enqueued 0 acknowledged 0\n' 'up 00\ndown 1908000000000001\nup 16029ABB00002010\ntick\n' up.toml 2 down.toml
+# A second object waits for room below, which a watermark asks for; a third one is not taken.
+second=120800010000000100074041000500010000000040030000000000010040040662
+third=120800020000000100074041000500020000000040030000000000010040040663
+below_second='down 120800020000000a00034041000500010000000040030000000000010040040662\n'
+relays 0 '' "${below_hello}${below_mark}busy\n${below_second}end lines 8 enqueued 2 acknowledged 0\n" \
+    "up $hello\nup $second\nup $third\ntick\ntick\ndown $from_below\ntick\ntick\n" up.toml 2 narrow.toml
+# Lines that are no events; those before stand.
+not_one='it is neither `up HEX` nor `down HEX` nor `tick`\n'
+relays 3 "line 2: $not_one" "${below_hello}refused line 2\n" "up $hello\n\nup $flush\n" up.toml 2 down.toml
+nine='tick\ntick\ntick\ntick\ntick\ntick\ntick\ntick\ntick\n'
+relays 3 "line 11: $not_one" "${below_hello}refused line 11\n" "up $hello\n${nine}tock\n" up.toml 2 down.toml
+relays 3 "line 1: $not_one" 'refused line 1\n' 'up\n' up.toml 2 down.toml
+relays 3 "line 1: $not_one" 'refused line 1\n' "$hello\n" up.toml 2 down.toml
+relays 3 'line 1: its HEX is no datagram: it has an odd number of hexadecimal digits\n' 'refused line 1\n' 'down 123\n' up.toml 2 down.toml
+relays 3 'line 1: its HEX is no datagram: it has an octet that is no hexadecimal digit\n' 'refused line 1\n' 'up xy\n' up.toml 2 down.toml
+relays 3 'line 1: its HEX is no datagram: it has more than 3000 octets\n' 'refused line 1\n' "up $(digits 3002)\n" up.toml 2 down.toml
+relays 3 'line 1: it ends with a space\n' 'refused line 1\n' 'up \n' up.toml 2 down.toml
+relays 3 'line 1: it has two spaces in a row: words have one between them\n' 'refused line 1\n' 'up  00\n' up.toml 2 down.toml
+relays 3 'line 2: it ends with a carriage return: write lines that end with a line feed alone\n' 'refused line 2\n' 'tick\ntick\r\n' up.toml 2 down.toml
+# Sessions that cannot be relayed, each with why.
+# unrelated WHY LINES: the profile below has these lines.
+unrelated() {
+    printf '%b' "$2" >"$files/odd.toml"
+    relays 3 "$1\n" 'refused profile\n' "up $hello\n" up.toml 2 odd.toml
+}
+unrelated 'e is 64 above and 128 below' 'e = 128\nb = 4\noctets = 16384\nsender = 10\n'
+unrelated 'b is 4 above and 5 below' 'e = 64\nb = 5\noctets = 16384\nsender = 10\n'
+unrelated 'blocks is 16 above and 15 below' "${sizes}sender = 10\nblocks = 15\n"
+unrelated 'octets is 16384 above and 16385 below' 'e = 64\nb = 4\noctets = 16385\nsender = 10\n'
+unrelated 'the mode below is drop, and a relay wants hold' "${sizes}sender = 10\nmode = \"drop\"\n"
+unrelated 'the id 1 is a member above and below' "$sizes"
+unrelated 'the id 2 is a member above and below' "${sizes}sender = 2\n"
+relays 3 'the node 3 is no receiver above, where they are 2 to 2\n' 'refused profile\n' "up $hello\n" up.toml 3 down.toml
+relays 3 "$refused_e" 'refused profile\n' "up $hello\n" up.toml 2 refused.toml
+relays 3 "$refused_e" 'refused profile\n' "up $hello\n" refused.toml 9 none.toml
+relays 7 '' 'absent none.toml\n' "up $hello\n" up.toml 9 none.toml
+# Each line begins another instance above, and so a restart below: after 32,767 of them no id is left.
+awk 'BEGIN { for (i = 1; i <= 32769; i++) printf "up 1208000000000001%04x4041000500000000000040030000000000010040040661\n", i }' >"$scratch/in"
+reason='the restart below under instance 32771 is refused: no relay restarts below more than 32767 times\n'
+"$program" relay "$files/up.toml" 2 "$files/down.toml" <"$scratch/in" >"$scratch/out" 2>"$scratch/err"
+ended $? '32,769 instances above' 13
+[ "$(tail -n 1 "$scratch/out")" = 'refused command' ] || { echo 'program: 32,769 instances above wrote'; tail -n 3 "$scratch/out"; exit 1; }
+said '32,769 instances above'
+# What the sender above dropped, and a sender above that has less patience than large objects need below, are said at the end.
+printf 'e = 64\nb = 4\noctets = 32768\ninstance = 7\n' >"$files/hasty.toml"
+printf 'e = 64\nb = 4\noctets = 32768\nsender = 10\n' >"$files/slow.toml"
+relays 0 '40 grtt above are 400000 microseconds, and octets / e * gap below are 512000: the sender above may give up before a large object is sent on\n' \
+    'end lines 1 enqueued 0 acknowledged 0\n' 'tick\n' hasty.toml 2 slow.toml
 
 # Faults, and what they were about.
 "$program" session <. >"$scratch/out" 2>"$scratch/err"

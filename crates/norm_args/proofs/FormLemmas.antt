@@ -7,7 +7,7 @@ use Rattle.clap.specs.declared.error.Error.{Error}
 use Rattle.clap.specs.declared.error.kind.ErrorKind.{ErrorKind}
 use Rattle.clap.specs.declared.error.kind.ErrorKind.TheVariants.{OutOfMemory}
 use Rattle.clap.proofs.OnLiterals.{clap_on_literals}
-use Rattle.norm_args.specs.Forms.{session_form, show_form, generate_form, send_form, recv_form, hub_form, gather_form, is_fine, found_in}
+use Rattle.norm_args.specs.Forms.{session_form, show_form, generate_form, send_form, recv_form, hub_form, gather_form, relay_form, is_fine, found_in}
 
 pub simple_session : is_simple_and_free session_form ≡ true
 unfolding clap_on_literals
@@ -36,6 +36,10 @@ simple_hub = refl
 pub simple_gather : is_simple_and_free gather_form ≡ true
 unfolding clap_on_literals
 simple_gather = refl
+
+pub simple_relay : is_simple_and_free relay_form ≡ true
+unfolding clap_on_literals
+simple_relay = refl
 
 first_of_both : (a b : Bool) → (a && b) ≡ true → a ≡ true
 first_of_both true b h = refl

@@ -3,7 +3,7 @@ use Rattle.std.specs.Prelude.{ℕ, ◌≤◌, Option, IfSome}
 use Rattle.norm_base.specs.Keys.{IsValue}
 use Rattle.norm_base.specs.declared.key.Key.TheVariants as key
 use Rattle.norm_args.specs.declared.node_tasks.NodeTask.{NodeTask}
-use Rattle.norm_args.specs.declared.node_tasks.NodeTask.TheVariants.{Send, Receive, Hub, Gather}
+use Rattle.norm_args.specs.declared.node_tasks.NodeTask.TheVariants.{Send, Receive, Hub, Gather, Relay}
 use Rattle.norm_args.specs.declared.tasks.Options.{Options}
 use Rattle.norm_args.specs.declared.tasks.Task.{Task}
 use Rattle.norm_args.specs.declared.tasks.Task.TheVariants.{Session, Show, Generate}
@@ -28,3 +28,4 @@ FitsNode (Send profile instance) = FitsInstance instance
 FitsNode (Receive profile node) = Unit {0}
 FitsNode (Hub profile) = Unit {0}
 FitsNode (Gather pairs) = Unit {0}
+FitsNode (Relay up node down instance) = FitsInstance instance

@@ -43,6 +43,14 @@ words_named name least most = record (word_named name) { range = Some (record { 
 abbrev pub gather_form : App
 gather_form = with_rule (new_app (codes "gather")) (words_named (codes "PAIRS") 2 16)
 
+-- relay UP NODE DOWN
+abbrev pub relay_words : App
+relay_words = with_rule (with_rule (with_rule (new_app (codes "relay")) (word_named (codes "UP"))) (word_named (codes "NODE"))) (word_named (codes "DOWN"))
+
+-- relay UP NODE DOWN [--instance I]
+abbrev pub relay_form : App
+relay_form = with_rule relay_words (option_named (codes "instance"))
+
 -- no kind of error comes
 abbrev pub is_fine : Kinds → Bool
 is_fine [] = true

@@ -1,10 +1,10 @@
--- What the words of the command line ask for under profiles: of one node of a session over a network, or of receivers of several senders.
+-- What the words of the command line ask for under profiles: of one node of a session over a network, of receivers of several senders, or of a relay.
 use Rattle.std.specs.Prelude.{ℕ, List, [], ◌∷◌, Option, None, Some, codes, if◌then◌else◌, option_and_then}
 use Rattle.std.specs.Option.{option_map}
 use Rattle.clap.specs.Words.{Row, first_of, all_of}
 use Rattle.norm_base.specs.declared.key.Key.TheVariants as key
 use Rattle.norm_script.specs.Words.{is_text, number_within}
-use Rattle.norm_args.specs.Forms.{send_form, recv_form, hub_form, gather_form, found_in}
+use Rattle.norm_args.specs.Forms.{send_form, recv_form, hub_form, gather_form, relay_form, found_in}
 use Rattle.norm_args.specs.Tasks.{value_given}
 use Rattle.norm_args.specs.declared.node_tasks.NodeTask.{NodeTask}
 use Rattle.norm_args.specs.declared.node_tasks.NodeTask.TheVariants as task
@@ -57,13 +57,26 @@ pairs_of (path ∷ node ∷ words) = onto_pairs path (number_within 1 4294967294
 abbrev pub gather_in : List (List ℕ) → Option NodeTask
 gather_in words = option_map task.Gather (option_and_then pairs_of (option_and_then (all_of (codes "PAIRS")) (found_in gather_form words)))
 
+-- the paths of both profiles, the node between them, and the instance if one is given, where no other word stands in its place
+abbrev pub relay_of : (up : Option (List ℕ)) (node : Option ℕ) (down : Option (List ℕ)) → Option (Option ℕ) → Option NodeTask
+relay_of None _ _ _ = None
+relay_of (Some up) None _ _ = None
+relay_of (Some up) (Some node) None _ = None
+relay_of (Some up) (Some node) (Some down) None = None
+relay_of (Some up) (Some node) (Some down) (Some instance) = Some (task.Relay up node down instance)
+
+abbrev pub relay_in : List (List ℕ) → Option NodeTask
+relay_in words =
+    option_and_then (λ rows. relay_of (first_of (codes "UP") rows) (node_in rows) (first_of (codes "DOWN") rows) (instance_in rows)) (found_in relay_form words)
+
 -- what words ask for whose first is this one
 abbrev pub node_named : List ℕ → List (List ℕ) → Option NodeTask
 node_named word words =
     if is_text word (codes "send") then send_in words else
     (if is_text word (codes "recv") then receive_in words else
     (if is_text word (codes "hub") then hub_in words else
-    (if is_text word (codes "gather") then gather_in words else None)))
+    (if is_text word (codes "gather") then gather_in words else
+    (if is_text word (codes "relay") then relay_in words else None))))
 
 -- What the words behind the program's name ask for under profiles. None where they are of no such form.
 unfoldable pub node_task_of : List (List ℕ) → Option NodeTask

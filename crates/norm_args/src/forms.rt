@@ -4,7 +4,7 @@ ghost use Rattle.std.specs.Prelude.{◌≡◌, true, map, string_bytes, IfOk};
 ghost use Rattle.std.specs.Bool.{Decides};
 ghost use Rattle.std.specs.Option.{option_map};
 ghost use Rattle.clap.specs.Words.{app_of, rows_of, found_of, is_simple_and_free, kind_of};
-ghost use Rattle.norm_args.specs.Forms.{session_form, show_form, generate_form, send_form, recv_form, hub_form, gather_form, found_in};
+ghost use Rattle.norm_args.specs.Forms.{session_form, show_form, generate_form, send_form, recv_form, hub_form, gather_form, relay_words, relay_form, found_in};
 
 use clap::error::ErrorKind;
 use clap::{Arg, ArgMatches, Command, Error};
@@ -79,6 +79,28 @@ pub(crate) fn gather_form<'a>(alloc: Global) -> Result<Command<'a>, AllocError>
         .required(true)
         .num_args(2..=16usize);
     let command = Command::new(alloc, "gather").arg(pairs)?;
+    Ok(command)
+}
+
+/// `relay UP NODE DOWN`.
+fn relay_words<'a>(alloc: Global) -> Result<Command<'a>, AllocError>
+    ensures { IfOk result (λ command. app_of command ≡ relay_words) }
+{
+    let up = Arg::new(alloc, "UP").required(true);
+    let node = Arg::new(alloc, "NODE").required(true);
+    let down = Arg::new(alloc, "DOWN").required(true);
+    let command = Command::new(alloc, "relay").arg(up)?.arg(node)?.arg(down)?;
+    Ok(command)
+}
+
+/// `relay UP NODE DOWN [--instance I]`.
+// Proof: with four rules in one function its answer is not found.
+pub(crate) fn relay_form<'a>(alloc: Global) -> Result<Command<'a>, AllocError>
+    ensures { IfOk result (λ command. app_of command ≡ relay_form) }
+{
+    let instance = Arg::new(alloc, "instance").long("instance");
+    let words = relay_words(alloc)?;
+    let command = words.arg(instance)?;
     Ok(command)
 }
 

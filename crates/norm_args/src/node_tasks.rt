@@ -1,14 +1,14 @@
-//! What the words ask for under profiles: `send`, `recv` or `hub`, which run one node of a session over a network, or `gather`. `norm_program` and
-//! `normd` call [`node_task_of`].
+//! What the words ask for under profiles: `send`, `recv` or `hub`, which run one node of a session over a network, `gather` or `relay`.
+//! `norm_program` and `normd` call [`node_task_of`].
 
 ghost use Rattle.std.specs.Prelude.{◌≡◌, codes, map, string_bytes, IfOk, IfSome};
 ghost use Rattle.std.specs.Option.{option_map};
-ghost use Rattle.clap.specs.Words.{rows_of, found_of, all_of};
+ghost use Rattle.clap.specs.Words.{rows_of, found_of, all_of, first_of};
 ghost use Rattle.norm_script.specs.Words.{number_within};
 ghost use Rattle.norm_args.specs.Fits.{FitsInstance, FitsNode};
-ghost use Rattle.norm_args.specs.NodeTasks.{profile_in, instance_in, node_in, send_of, receive_of, send_in, receive_in, hub_in, pairs_of, gather_in, node_task_of};
+ghost use Rattle.norm_args.specs.NodeTasks.{profile_in, instance_in, node_in, send_of, receive_of, send_in, receive_in, hub_in, pairs_of, gather_in, relay_of, relay_in, node_task_of};
 
-use crate::forms::{found_in, gather_form, hub_form, recv_form, send_form};
+use crate::forms::{found_in, gather_form, hub_form, recv_form, relay_form, send_form};
 use crate::tasks::{value_given, word_in};
 use clap::ArgMatches;
 use norm_base::{Key, Memory, NodeId, Text};
@@ -56,16 +56,30 @@ pub enum NodeTask {
     Hub(Text),
     /// Hears several senders, each as a node of its profile. Whether these have the nodes is seen later. No network is started.
     Gather(Pairs),
+    /// Relays between two sessions: as this node of the one above, and as the sender of the one below. If an instance is given, 0 to 65535, it
+    /// overrides that of the profile below. No network is started.
+    Relay {
+        up: Text,
+        node: NodeId,
+        down: Text,
+        instance: Option<u32>,
+    },
 }
 
-/// Copies the profile's path, as the shell gives it. `None` does not happen: each form that was found has it.
-fn profile_in(alloc: Global, matches: &ArgMatches<'_>) -> Result<Option<Text>, AllocError>
-    ensures { IfOk result (λ profile. profile ≡ profile_in (rows_of (found_of matches.now))) }
+/// Copies the path that a form names so, as the shell gives it. `None` does not happen: each form that was found has it.
+fn path_in(alloc: Global, matches: &ArgMatches<'_>, name: &str) -> Result<Option<Text>, AllocError>
+    ensures { IfOk result (λ path. path ≡ first_of name.now (rows_of (found_of matches.now))) }
 {
-    match word_in(matches, "PROFILE") {
+    match word_in(matches, name) {
         Some(word) => Ok(Some(Text::of(String::from_str(alloc, word)?))),
         None => Ok(None),
     }
+}
+
+fn profile_in(alloc: Global, matches: &ArgMatches<'_>) -> Result<Option<Text>, AllocError>
+    ensures { IfOk result (λ profile. profile ≡ profile_in (rows_of (found_of matches.now))) }
+{
+    path_in(alloc, matches, "PROFILE")
 }
 
 /// `Some(None)` if the option is not given. `None` if its word is not a number from 0 to 65535.
@@ -207,9 +221,55 @@ fn gather_in(alloc: Global, words: &[String]) -> Result<Option<NodeTask>, Memory
     }
 }
 
+fn relay_of(
+    up: Option<Text>,
+    node: Option<NodeId>,
+    down: Option<Text>,
+    given: Option<Option<u32>>,
+) -> Option<NodeTask>
+    requires { IfSome given FitsInstance }
+    ensures task { result ≡ relay_of up node down given }
+    ensures fits { IfSome result FitsNode }
+{
+    let Some(up) = up else {
+        return None;
+    };
+    let Some(node) = node else {
+        return None;
+    };
+    let Some(down) = down else {
+        return None;
+    };
+    match given {
+        Some(instance) => Some(NodeTask::Relay {
+            up,
+            node,
+            down,
+            instance,
+        }),
+        None => None,
+    }
+}
+
+/// `None` if the words do not fit the form, if the second is no number of a node, or if the instance that they give is none.
+fn relay_in(alloc: Global, words: &[String]) -> Result<Option<NodeTask>, Memory>
+    ensures task { IfOk result (λ task. task ≡ relay_in (map string_bytes words.now)) }
+    ensures fits { IfOk result (λ task. IfSome task FitsNode) }
+{
+    let form = relay_form(alloc)?;
+    match found_in(form, words)? {
+        Some(matches) => {
+            let up = path_in(alloc, &matches, "UP")?;
+            let down = path_in(alloc, &matches, "DOWN")?;
+            Ok(relay_of(up, node_in(&matches), down, instance_in(&matches)))
+        }
+        None => Ok(None),
+    }
+}
+
 /// Returns what the words after the program's name ask for under profiles: `send PROFILE [--instance I]` with an instance of 0 to 65535, `recv
-/// PROFILE NODE` with a node of 1 to 4294967294, `hub PROFILE`, or `gather PROFILE NODE ..` with one to eight such pairs. `None` if they have none
-/// of these forms. A request for help has none.
+/// PROFILE NODE` with a node of 1 to 4294967294, `hub PROFILE`, `gather PROFILE NODE ..` with one to eight such pairs, or `relay UP NODE DOWN
+/// [--instance I]`. `None` if they have none of these forms. A request for help has none.
 ///
 /// # Errors
 ///
@@ -234,6 +294,9 @@ pub fn node_task_of(alloc: Global, words: &[String]) -> Result<Option<NodeTask>,
     }
     if first == b"gather".as_slice() {
         return gather_in(alloc, words);
+    }
+    if first == b"relay".as_slice() {
+        return relay_in(alloc, words);
     }
     Ok(None)
 }

@@ -8,7 +8,7 @@ use Rattle.norm_turns.specs.declared.fault.SessionFault.{SessionFault}
 use Rattle.norm_args.specs.NodeTasks.{node_task_of}
 use Rattle.norm_args.specs.Tasks.{task_of}
 use Rattle.norm_args.specs.declared.node_tasks.NodeTask.{NodeTask}
-use Rattle.norm_args.specs.declared.node_tasks.NodeTask.TheVariants.{Send, Receive, Hub, Gather}
+use Rattle.norm_args.specs.declared.node_tasks.NodeTask.TheVariants.{Send, Receive, Hub, Gather, Relay}
 use Rattle.norm_args.specs.declared.tasks.Options.{Options}
 use Rattle.norm_args.specs.declared.tasks.Task.{Task}
 use Rattle.norm_args.specs.declared.tasks.Task.TheVariants.{Session, Show, Generate}
@@ -19,11 +19,12 @@ use Rattle.norm_program.specs.GatherEnds.{EndsAmong, EndsGather}
 use Rattle.norm_program.specs.GenerateEnds.{GenerateEnds}
 use Rattle.norm_program.specs.Laws.{NoneFailed, NamesAbsent, FourIsOfReads, FiveIsOfWrites, SixIsOfTheNetwork, SevenIsOfFiles}
 use Rattle.norm_program.specs.NodeEnds.{EndsUnloaded, EndsUnder, EndsBroken, BrokenReceiver, BrokenHub, EndsReceiver, EndsHub, EndsSender}
+use Rattle.norm_program.specs.RelayEnds.{EndsBetween, EndsRelay}
 use Rattle.norm_program.specs.ShowEnds.{ShowEnds}
 use Rattle.norm_program.specs.TailEnds.{EndsTails, EndsBeside}
 use Rattle.norm_program.specs.StatusOf.{status_of}
 use Rattle.norm_program.specs.declared.status.Ending.{Ending}
-use Rattle.norm_program.specs.declared.status.Ending.TheVariants.{Done, Datagram, Memory, Refused, Line, Profile, Read, Write, Fabric, Files, Absent, Spent, Tailed, TailRefused}
+use Rattle.norm_program.specs.declared.status.Ending.TheVariants.{Done, Datagram, Memory, Refused, Line, Profile, Read, Write, Fabric, Files, Absent, Spent, Tailed, TailRefused, Event, Command, Relayed}
 
 -- what an ending shows of the counts of failed calls, and of the line of a file that is not there
 abbrev Shows : Ending → Outside → Outside → Type 0
@@ -126,6 +127,24 @@ gather_shows : (pairs : List (List ℕ × ℕ)) (ending : Ending) (before after 
 gather_shows pairs ending before after (inl h) = unloaded_shows h.pair.0 ending before after h.unloaded
 gather_shows pairs ending before after (inr h) = among_shows h.0 ending before after h.2
 
+between_shows : (p : Settings) (node : ℕ) (q : Settings) (ending : Ending) (before after : Outside) → EndsBetween p node q ending before after
+    → Shows ending before after
+between_shows p node q Memory before after h = tt
+between_shows p node q (Profile why) before after h = tt
+between_shows p node q (Relayed lost patience) before after h = tt
+between_shows p node q (Event n why) before after h = tt
+between_shows p node q (Command fault) before after h = tt
+between_shows p node q Read before after h = h.1.cause
+between_shows p node q Write before after h = h.1.cause
+between_shows p node q _ before after h = absurd h.1
+
+relay_shows : (up : List ℕ) (node : ℕ) (down : List ℕ) (instance : Option ℕ) (ending : Ending) (before after : Outside)
+    → EndsRelay up node down instance ending before after → Shows ending before after
+relay_shows up node down instance ending before after h =
+    under_shows up (λ p. EndsUnder down (λ q. EndsBetween p node (with_instance instance q))) ending before after
+    (λ p below. under_shows down (λ q. EndsBetween p node (with_instance instance q)) ending before after
+    (λ q ends. between_shows p node (with_instance instance q) ending before after ends) below) h
+
 -- ---- what the ending of a call shows
 
 task_shows : (task : Task) (ending : Ending) (before after : Outside) → EndsTask task ending before after → Shows ending before after
@@ -144,6 +163,7 @@ node_shows (Some (Receive path node)) ending before after h =
 node_shows (Some (Hub path)) ending before after h =
     under_shows path EndsHub ending before after (λ p ends. hub_shows p ending before after ends) h
 node_shows (Some (Gather pairs)) ending before after h = gather_shows pairs ending before after h
+node_shows (Some (Relay up node down instance)) ending before after h = relay_shows up node down instance ending before after h
 
 asked_shows : (task : Option Task) (other : Option NodeTask) (ending : Ending) (before after : Outside)
     → EndsAsked task other ending before after → Shows ending before after

@@ -10,3 +10,5 @@ pub mod LawLemmas
 pub mod HearerLemmas
 pub mod GatherLemmas
 pub mod GatherEndLemmas
+pub mod ChainLemmas
+pub mod RelayEndLemmas

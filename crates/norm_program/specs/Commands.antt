@@ -4,13 +4,14 @@ use Rattle.norm_journal.specs.Jobs.{Told}
 use Rattle.norm_args.specs.NodeTasks.{node_task_of}
 use Rattle.norm_args.specs.Tasks.{task_of}
 use Rattle.norm_args.specs.declared.node_tasks.NodeTask.{NodeTask}
-use Rattle.norm_args.specs.declared.node_tasks.NodeTask.TheVariants.{Send, Receive, Hub, Gather}
+use Rattle.norm_args.specs.declared.node_tasks.NodeTask.TheVariants.{Send, Receive, Hub, Gather, Relay}
 use Rattle.norm_args.specs.declared.tasks.Task.{Task}
 use Rattle.norm_args.specs.declared.tasks.Task.TheVariants.{Session, Show, Generate}
 use Rattle.norm_program.specs.Ends.{Outside, RefusedWords}
 use Rattle.norm_program.specs.GatherEnds.{EndsGather}
 use Rattle.norm_program.specs.GenerateEnds.{GenerateEnds}
 use Rattle.norm_program.specs.NodeEnds.{EndsUnder, EndsSender, EndsReceiver, EndsHub}
+use Rattle.norm_program.specs.RelayEnds.{EndsRelay}
 use Rattle.norm_program.specs.ShowEnds.{ShowEnds}
 use Rattle.norm_program.specs.StatusOf.{status_of}
 use Rattle.norm_program.specs.TailEnds.{EndsSession}
@@ -26,6 +27,7 @@ EndsNode (Some (Send path instance)) ending before after = EndsUnder path (EndsS
 EndsNode (Some (Receive path node)) ending before after = EndsUnder path (EndsReceiver node) ending before after
 EndsNode (Some (Hub path)) ending before after = EndsUnder path EndsHub ending before after
 EndsNode (Some (Gather pairs)) ending before after = EndsGather pairs ending before after
+EndsNode (Some (Relay up node down instance)) ending before after = EndsRelay up node down instance ending before after
 
 -- what was asked for ended so
 abbrev pub EndsTask : Task → Ending → Outside → Outside → Type 0
@@ -69,6 +71,7 @@ KeepsFiles (Some (Send path instance)) before after = after ≡ before
 KeepsFiles (Some (Receive path node)) before after = ⊤
 KeepsFiles (Some (Hub path)) before after = after ≡ before
 KeepsFiles (Some (Gather pairs)) before after = after ≡ before
+KeepsFiles (Some (Relay up node down instance)) before after = after ≡ before
 
 -- the paths of the profiles that are asked for
 abbrev pub paths_asked : Option NodeTask → List (List ℕ)
@@ -77,3 +80,4 @@ paths_asked (Some (Send path instance)) = path ∷ []
 paths_asked (Some (Receive path node)) = path ∷ []
 paths_asked (Some (Hub path)) = path ∷ []
 paths_asked (Some (Gather pairs)) = map (λ (pair : List ℕ × ℕ). pair.0) pairs
+paths_asked (Some (Relay up node down instance)) = up ∷ down ∷ []

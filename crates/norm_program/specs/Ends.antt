@@ -16,7 +16,7 @@ use Rattle.norm_program.specs.declared.status.Ending.{Ending}
 use Rattle.norm_program.specs.declared.status.Ending.TheVariants.{Done, Memory, Refused, Read, Write, Fabric, Files, Absent, Spent}
 
 abbrev pub usage_line : List ℕ
-usage_line = codes "usage: normd session | show | generate N | send PROFILE | recv PROFILE NODE | hub PROFILE | gather PROFILE NODE ..\n"
+usage_line = codes "usage: normd session | show | generate N | send PROFILE | recv PROFILE NODE | hub PROFILE | gather PROFILE NODE .. | relay UP NODE DOWN\n"
 
 unfoldable pub refused_line : ℕ → List ℕ
 refused_line n = codes "refused line " ++ (decimal n ++ codes "\n")

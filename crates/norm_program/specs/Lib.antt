@@ -1,4 +1,5 @@
 pub mod StatusOf
+pub mod RelayReasons
 pub mod Reasons
 pub mod Asked
 pub mod Boarded
@@ -12,6 +13,10 @@ pub mod NodeEnds
 pub mod Gathered
 pub mod GatherEnds
 pub mod Hearing
+pub mod Events
+pub mod RelayEnds
+pub mod Chaining
+pub mod Relaying
 pub mod Commands
 pub mod InputCause
 pub mod Laws

@@ -6,12 +6,13 @@ use Rattle.norm_multi.specs.declared.multi.MultiFault.{MultiFault}
 use Rattle.norm_multi.specs.declared.multi.MultiFault.TheVariants as multi
 use Rattle.norm_script.specs.Sentences.{refusal_text}
 use Rattle.norm_show.specs.Sentences.{sentence_of_none}
+use Rattle.norm_program.specs.RelayReasons.{relay_reason, event_reason, command_reason, relayed_reason, is_told}
 use Rattle.norm_program.specs.declared.status.Ending.{Ending}
-use Rattle.norm_program.specs.declared.status.Ending.TheVariants.{Memory, Words, Refused, Line, Profile, TailRefused}
+use Rattle.norm_program.specs.declared.status.Ending.TheVariants.{Memory, Words, Refused, Line, Event, Profile, TailRefused, Relayed, Command}
 use Rattle.norm_program.specs.declared.status.NoTail.{NoTail}
 use Rattle.norm_program.specs.declared.status.NoTail.TheVariants.{Waiting, NoRequest, Mode, Streams, Step, Pace, Flushes}
 use Rattle.norm_program.specs.declared.status.ProfileFault.{ProfileFault}
-use Rattle.norm_program.specs.declared.status.ProfileFault.TheVariants.{Document, Node, Members}
+use Rattle.norm_program.specs.declared.status.ProfileFault.TheVariants.{Document, Node, Members, Relay}
 
 -- what the commands take that do not stand alone
 abbrev pub session_takes : List ℕ
@@ -33,6 +34,9 @@ hub_takes = codes "hub takes one word, the path of a profile"
 abbrev pub gather_takes : List ℕ
 gather_takes = codes "gather takes one to eight pairs of words, the path of a profile and a node, from 1 to 4294967294"
 
+abbrev pub relay_takes : List ℕ
+relay_takes = codes "relay takes three words, the path of the profile above, a node of it, from 1 to 4294967294, and the path of the profile below, and --instance I, from 0 to 65535, at most once"
+
 -- what is wrong with a command that stands alone, by the words behind it
 abbrev pub extra_reason : List ℕ → List (List ℕ) → List ℕ
 extra_reason word [] = []
@@ -48,7 +52,8 @@ words_reason (word ∷ others) =
     (if pointwise nat_eq word (codes "send") then send_takes else
     (if pointwise nat_eq word (codes "recv") then recv_takes else
     (if pointwise nat_eq word (codes "hub") then hub_takes else
-    (if pointwise nat_eq word (codes "gather") then gather_takes else codes "the word " ++ (word ++ codes " is unknown")))))))
+    (if pointwise nat_eq word (codes "gather") then gather_takes else
+    (if pointwise nat_eq word (codes "relay") then relay_takes else codes "the word " ++ (word ++ codes " is unknown"))))))))
 
 -- why a node is none of a profile's receivers, which are those from the first to the last
 abbrev pub node_reason : (node first last : ℕ) → List ℕ
@@ -66,6 +71,7 @@ abbrev pub profile_reason : ProfileFault → Option (List ℕ)
 profile_reason (Document why) = None
 profile_reason (Node node first last) = Some (node_reason node first last)
 profile_reason (Members why) = Some (members_reason why)
+profile_reason (Relay why) = Some (relay_reason why)
 
 -- why a tail is too slow
 abbrev pub pace_reason : (symbols gap step grtt : ℕ) → List ℕ
@@ -94,8 +100,11 @@ has_reason Memory = true
 has_reason Words = true
 has_reason (Refused refusal) = true
 has_reason (Line n why) = true
+has_reason (Event n why) = true
 has_reason (Profile why) = true
 has_reason (TailRefused why) = true
+has_reason (Relayed lost patience) = is_told lost patience
+has_reason (Command fault) = true
 has_reason _ = false
 
 -- what it is, where that is named
@@ -104,6 +113,9 @@ reason_of Memory words = Some (codes "out of memory")
 reason_of Words words = Some (words_reason words)
 reason_of (Refused refusal) words = Some (refusal_text refusal)
 reason_of (Line n why) words = Some (codes "line " ++ (decimal n ++ (codes ": " ++ sentence_of_none why)))
+reason_of (Event n why) words = Some (codes "line " ++ (decimal n ++ (codes ": " ++ event_reason why)))
 reason_of (Profile why) words = profile_reason why
 reason_of (TailRefused why) words = Some (no_tail_reason why)
+reason_of (Relayed lost patience) words = Some (relayed_reason lost patience)
+reason_of (Command fault) words = Some (command_reason fault)
 reason_of _ words = Some []

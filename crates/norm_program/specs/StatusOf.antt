@@ -1,6 +1,6 @@
 use Rattle.std.specs.Prelude.{ℕ}
 use Rattle.norm_program.specs.declared.status.Ending.{Ending}
-use Rattle.norm_program.specs.declared.status.Ending.TheVariants.{Done, Datagram, Memory, Words, Refused, Line, Profile, Read, Write, Fabric, Files, Absent, Spent, Tailed, TailRefused}
+use Rattle.norm_program.specs.declared.status.Ending.TheVariants.{Done, Datagram, Memory, Words, Refused, Line, Profile, Read, Write, Fabric, Files, Absent, Spent, Tailed, TailRefused, Event, Relayed, Command}
 
 -- the exit status of an ending; a line without meaning has the same whoever refuses it, and so has a profile that is refused
 abbrev pub status_of : Ending → ℕ
@@ -19,3 +19,6 @@ status_of Spent = 8
 status_of Datagram = 9
 status_of (Tailed turns bound) = 0
 status_of (TailRefused why) = 12
+status_of (Relayed lost patience) = 0
+status_of (Event n why) = 3
+status_of (Command fault) = 13

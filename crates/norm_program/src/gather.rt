@@ -1,7 +1,7 @@
 //! `gather`: hears several senders at once, each in a session with its own profile, and prints what each receiver hands up and sends. The datagrams
 //! are lines of hexadecimal. The program calls [`end_gather`].
 
-ghost use Rattle.std.specs.Prelude.{◌≡◌, ◌+◌, ◌≤◌, ◌<◌, ℕ, List, ◌∷◌, length, IfOk, IfErr, IfSome, OnOk, IsSome};
+ghost use Rattle.std.specs.Prelude.{◌≡◌, ◌+◌, ◌≤◌, ℕ, List, ◌∷◌, length, IfOk, IfErr, IfSome, OnOk, IsSome};
 ghost use Rattle.std.specs.List.{flat_map};
 ghost use Rattle.norm_journal.specs.Totals.{with_up};
 ghost use Rattle.norm_multi.specs.Beginning.{IsFault};
@@ -11,7 +11,7 @@ ghost use Rattle.norm_script.specs.Text.{text_lines};
 ghost use Rattle.norm_turns.specs.Causes.{WriteCause, NeedsMemory};
 ghost use Rattle.norm_program.specs.Ends.{Called, outside};
 ghost use Rattle.norm_program.specs.GatherEnds.{AreLoaded, EndsAmong, EndsGather};
-ghost use Rattle.norm_program.specs.Gathered.{Hearer, SoFar, Printed, draws_of, opening, moment_of_line, up_lines, told, gather_line, gather_lines, gathered, lines_of};
+ghost use Rattle.norm_program.specs.Gathered.{Hearer, SoFar, Printed, draws_of, opening, up_lines, told, gather_line, gather_lines, gathered, lines_of};
 ghost use Rattle.norm_program.specs.Hearing.{AllAnswered, Answered, AreHeard, AreReady, Delivers, HandedAll, HandsOn, Heard, IsAt, IsLinesEnding, IsLoadingPair, IsMembersEnding, IsReady, KeepsOthers, StandsFor, TakesLine, TickedAt, TookLines};
 ghost use Rattle.norm_program.specs.Lending.{GivesBack};
 ghost use Rattle.norm_program.specs.TailEnds.{LeavesLines};
@@ -20,6 +20,7 @@ use crate::gathered_lines::{write_last, write_of, write_send};
 use crate::input::read_input;
 use crate::last_line::stop_session;
 use crate::lent::Lent;
+use crate::lines::{first_line, moment_of, next_number};
 use crate::profiles::{copy_of, load, refuse_profile};
 use crate::show::refuse_line;
 use crate::status::{Ending, ProfileFault};
@@ -30,16 +31,11 @@ use norm_base::{
 use norm_journal::Totals;
 use norm_multi::{Multi, MultiFault};
 use norm_order::Up;
-use norm_script::split_at_first;
 use norm_show::{NoDatagram, datagram_in, why_none};
 use norm_text::Line;
 use norm_turns::{SessionFault, first_draws, next_draw};
 use rand_pcg::Lcg64Xsh32;
 use std::alloc::Global;
-
-/// Microseconds between two lines.
-// Our own choice: a thousandth of a second for each line, so that empty lines let time pass.
-const LINE_TIME: u64 = 1_000;
 
 /// The most senders that are heard at once.
 // It is the limit of `Multi`. The words name no more.
@@ -68,36 +64,6 @@ fn sender_of(profile: &Profile) -> NodeId
     ensures { result ≡ profile.now.sender }
 {
     NodeId::of(profile.sender).unwrap()
-}
-
-/// Returns the first line of a text without its line feed, and what follows it. The last line may lack the line feed.
-fn first_line(text: &[u8]) -> (&[u8], &[u8])
-    requires { 1 ≤ length text.now }
-    ensures lines { text_lines text.now ≡ result.0.now ∷ text_lines result.1.now }
-    ensures less { length result.1.now < length text.now }
-{
-    match split_at_first(text, b'\n') {
-        Some(parts) => parts,
-        None => text.split_at(text.len()),
-    }
-}
-
-/// Returns the moment of line `number`, or the last one if there is none so late.
-fn moment_of(number: u64) -> Moment
-    ensures { result ≡ moment_of_line number }
-{
-    Moment(number.saturating_mul(LINE_TIME))
-}
-
-/// Returns the number of the next line. `Memory` if it does not fit 64 bits: no text has so many lines.
-fn next_number(number: u64) -> Result<u64, SessionFault>
-    ensures next { IfOk result (λ next. next ≡ number + 1) }
-    ensures cause { NeedsMemory result }
-{
-    match number.checked_add(1) {
-        Some(next) => Ok(next),
-        None => Err(SessionFault::Memory),
-    }
 }
 
 /// Returns the draws as a gathering begins: those of the first profile. `None` does not happen, since the words name one at least.

@@ -1,4 +1,4 @@
-//! Reads the input whole. `session` and `send` call [`read_input`] before they run anything, and `gather` before it takes a line.
+//! Reads the input whole. `session` and `send` call [`read_input`] before they run anything, and `gather` and `relay` before they take a line.
 
 ghost use Rattle.std.specs.Prelude.{◌≡◌, IfOk, IfErr, OnOk};
 ghost use Rattle.norm_program.specs.declared.input.InputFault.TheVariants as fault;

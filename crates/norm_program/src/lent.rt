@@ -5,7 +5,7 @@ ghost use Rattle.std.specs.Prelude.{◌≡◌};
 /// The five objects of the outside, borrowed for one command. The caller keeps them and sees what the command did.
 #[derive(Drop)]
 pub(crate) struct Lent<'a, S, K, F, D, C> {
-    /// Only `session`, `send`, `show` and `gather` read it.
+    /// Only `session`, `send`, `show`, `gather` and `relay` read it.
     pub input: &'a mut S,
     pub output: &'a mut K,
     /// Only `session`, `send`, `recv` and `hub` call it.

@@ -1,4 +1,4 @@
-//! Loads a profile from its file. `send`, `recv` and `hub` call [`load`] before anything else, and `gather` for each of its profiles.
+//! Loads a profile from its file. `send`, `recv` and `hub` call [`load`] before anything else, and `gather` and `relay` for each of their profiles.
 
 ghost use Rattle.std.specs.Prelude.{◌≡◌, ℕ, List, Option, Ok, IfOk, IfErr, OnOk, string_bytes};
 ghost use Rattle.norm_base.specs.Network.{Network};

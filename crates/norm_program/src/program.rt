@@ -16,6 +16,7 @@ use crate::last_line::say;
 use crate::lent::Lent;
 use crate::reason::{explain, explain_no_text};
 use crate::recv::end_receive;
+use crate::relay::end_relay;
 use crate::send::end_send;
 use crate::session::run_input;
 use crate::show::show;
@@ -31,7 +32,7 @@ use std::thread::Threads;
 /// The last line if the words are no command.
 // One line for all wrong words, which a clause fixes (`usage_line`). What is wrong with them goes to standard error.
 const USAGE: &[u8] =
-    b"usage: normd session | show | generate N | send PROFILE | recv PROFILE NODE | hub PROFILE | gather PROFILE NODE ..\n";
+    b"usage: normd session | show | generate N | send PROFILE | recv PROFILE NODE | hub PROFILE | gather PROFILE NODE .. | relay UP NODE DOWN\n";
 
 /// Runs `session`, `show` or `generate`, and writes what it has to say to the output. Only `session` calls the network, the files and the clock.
 fn end_task<R: Threads + Wait + Sync, S: Source, K: Sink, F: Fabric, D: Files, C: Clock>(
@@ -51,7 +52,7 @@ fn end_task<R: Threads + Wait + Sync, S: Source, K: Sink, F: Fabric, D: Files, C
     }
 }
 
-/// Runs `send`, `recv`, `hub` or `gather` under the profiles at their paths and returns the ending; what each ending says is in `EndsNode`.
+/// Runs `send`, `recv`, `hub`, `gather` or `relay` under the profiles at their paths and returns the ending; what each ending says is in `EndsNode`.
 fn end_node<R: Threads + Wait + Sync, S: Source, K: Sink, F: Fabric, D: Files, C: Clock>(
     rt: &R,
     alloc: Global,
@@ -67,6 +68,12 @@ fn end_node<R: Threads + Wait + Sync, S: Source, K: Sink, F: Fabric, D: Files, C
         NodeTask::Receive(path, node) => end_receive(alloc, path, node, lent),
         NodeTask::Hub(path) => end_hub(alloc, path, lent),
         NodeTask::Gather(pairs) => end_gather(alloc, pairs, lent),
+        NodeTask::Relay {
+            up,
+            node,
+            down,
+            instance,
+        } => end_relay(alloc, up, node, down, instance, lent),
     }
 }
 

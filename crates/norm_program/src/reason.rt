@@ -8,6 +8,7 @@ ghost use Rattle.norm_program.specs.Reasons.{extra_reason, words_reason, node_re
 ghost use Rattle.norm_program.specs.StatusOf.{status_of};
 ghost use Rattle.norm_program.specs.declared.status.Ending.TheVariants as ending;
 
+use crate::relay_reason::{is_told, say_command, say_no_relay, say_relayed};
 use crate::status::{Ending, NoTail, ProfileFault};
 use norm_base::Memory;
 use norm_multi::MultiFault;
@@ -38,6 +39,10 @@ const HUB_TAKES: &str = "hub takes one word, the path of a profile";
 // Eight are the most that are heard at once. Whether a profile has its node is seen only after the profiles are loaded.
 const GATHER_TAKES: &str =
     "gather takes one to eight pairs of words, the path of a profile and a node, from 1 to 4294967294";
+
+// The bounds are those of a node's id and of the key `instance`.
+const RELAY_TAKES: &str =
+    "relay takes three words, the path of the profile above, a node of it, from 1 to 4294967294, and the path of the profile below, and --instance I, from 0 to 65535, at most once";
 
 /// Names the word that is one too many after a command that takes none. Writes nothing if no word follows.
 fn say_extra<W: fmt::Write>(word: &str, others: &[String], f: &mut fmt::Formatter<W>) -> fmt::Result
@@ -78,6 +83,9 @@ fn say_first<W: fmt::Write>(word: &str, others: &[String], f: &mut fmt::Formatte
     }
     if octets == b"gather".as_slice() {
         return f.write_str(GATHER_TAKES);
+    }
+    if octets == b"relay".as_slice() {
+        return f.write_str(RELAY_TAKES);
     }
     write!(f, "the word {word} is unknown")
 }
@@ -131,6 +139,7 @@ fn say_profile<W: fmt::Write>(why: &ProfileFault, f: &mut fmt::Formatter<W>) -> 
         ProfileFault::Document { why } => write!(f, "the profile is refused: {why}"),
         ProfileFault::Node { node, first, last } => say_node(node.number(), *first, *last, f),
         ProfileFault::Members { why } => say_members(*why, f),
+        ProfileFault::Relay { why } => say_no_relay(*why, f),
     }
 }
 
@@ -209,8 +218,11 @@ impl fmt::Display for Reason<'_> {
             Ending::Words => say_words(self.words, f),
             Ending::Refused { refusal } => write!(f, "{refusal}"),
             Ending::Line { number, why } => write!(f, "line {number}: {why}"),
+            Ending::Event { number, why } => write!(f, "line {number}: {why}"),
             Ending::Profile { why } => say_profile(why, f),
             Ending::TailRefused { why } => say_no_tail(why, f),
+            Ending::Relayed { lost, patience } => say_relayed(*lost, *patience, f),
+            Ending::Command { fault } => say_command(*fault, f),
             Ending::Done
             | Ending::Datagram
             | Ending::Read
@@ -229,15 +241,18 @@ impl Ending {
     pub(crate) fn has_reason(&self) -> bool
         ensures { result ≡ has_reason self.now }
     {
-        matches!(
-            self,
+        match self {
+            Ending::Relayed { lost, patience } => is_told(*lost, *patience),
             Ending::Memory
-                | Ending::Words
-                | Ending::Refused { .. }
-                | Ending::Line { .. }
-                | Ending::Profile { .. }
-                | Ending::TailRefused { .. }
-        )
+            | Ending::Words
+            | Ending::Refused { .. }
+            | Ending::Line { .. }
+            | Ending::Event { .. }
+            | Ending::Profile { .. }
+            | Ending::TailRefused { .. }
+            | Ending::Command { .. } => true,
+            _ => false,
+        }
     }
 }
 

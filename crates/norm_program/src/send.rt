@@ -19,7 +19,7 @@ use std::sync::Wait;
 use std::thread::Threads;
 
 /// Overrides the first instance of the profile, if one is given. The words give none above 65535, so none is cut.
-fn with_instance(profile: Profile, instance: Option<u32>) -> Profile
+pub(crate) fn with_instance(profile: Profile, instance: Option<u32>) -> Profile
     requires { FitsInstance instance }
     ensures { result ≡ with_instance instance profile }
 {

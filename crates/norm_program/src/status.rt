@@ -5,16 +5,17 @@ ghost use Rattle.std.specs.Process.{exit_status};
 ghost use Rattle.norm_program.specs.StatusOf.{status_of};
 ghost use Rattle.norm_program.specs.declared.status.Ending.TheVariants as ending;
 
-use norm_base::{NodeId, Text};
+use norm_base::{InstanceId, Key, NodeId, Text};
 use norm_multi::MultiFault;
 use norm_profile::ProfileRefusal;
-use norm_script::Refusal;
+use norm_script::{Refusal, Why};
+use norm_send_rules::SendFault;
 use norm_show::NoDatagram;
 use std::alloc::{AllocError, AllocFailed};
 use std::marker::Model;
 use std::process::ExitCode;
 
-/// An exit status of the program, 0 to 9 or 12. [`Ending::status`] makes it.
+/// An exit status of the program, 0 to 9, 12 or 13. [`Ending::status`] makes it.
 #[derive(Clone, Copy, Debug, PartialEq, Eq)]
 pub struct Status(u8);
 
@@ -25,13 +26,13 @@ impl Model for Status {
 
     ghost view = { λ s. s.0 };
 
-    ghost invariant = { λ s. s.0 ≤ 12 };
+    ghost invariant = { λ s. s.0 ≤ 13 };
 
     ghost inverse = { λ n. record { 0 = n } };
 }
 
 impl Status {
-    /// Returns the number with which the process exits, 0 to 9 or 12.
+    /// Returns the number with which the process exits, 0 to 9, 12 or 13.
     pub fn code(&self) -> u8
         ensures { result ≡ self.now }
     {
@@ -56,6 +57,63 @@ pub enum ProfileFault {
     Node { node: NodeId, first: u32, last: u32 },
     /// Of several senders: a node is no receiver of its profile, or an id stands twice. Never `Memory`.
     Members { why: MultiFault },
+    /// Of two sessions: they are not relayed at the node.
+    Relay { why: NoRelay },
+}
+
+/// Why two sessions are not relayed. If several apply, the first in this order.
+#[derive(Clone, Copy, Debug)]
+pub enum NoRelay {
+    /// The sessions differ in this key, which is `e`, `b`, `blocks` or `octets`: what fits above has to fit below.
+    Size { key: Key, up: u32, down: u32 },
+    /// The mode below is `drop`: what was not confirmed could be dropped.
+    Mode,
+    /// The node is not one of the receivers above, whose ids are `first` to `last`.
+    Node { node: NodeId, first: u32, last: u32 },
+    /// This id is a member of both sessions.
+    Shared { node: NodeId },
+}
+
+/// Why a line of `relay` is no event.
+#[derive(Clone, Copy, Debug)]
+pub enum NoEvent {
+    /// An editor spelt it so.
+    Spelt { why: Why },
+    /// It is neither `up HEX` nor `down HEX` nor `tick`.
+    Form,
+    /// What is behind `up` or `down` spells no datagram.
+    Digits { why: NoDatagram },
+}
+
+/// What the sender above a relay dropped.
+#[derive(Clone, Copy, Debug)]
+pub struct Losses {
+    /// How many objects and streams.
+    pub count: u64,
+    /// The instance of the first one. 0 if there is none.
+    pub instance: InstanceId,
+    /// The index of the first one in its instance. 0 if there is none.
+    pub index: u32,
+}
+
+/// How the lines of `relay` end.
+#[derive(Clone, Copy, Debug)]
+pub enum RelayEnd {
+    /// All were events, and were relayed. The sender above dropped this.
+    All { lost: Losses },
+    /// Line `number` is no event. Those before were relayed.
+    NoEvent { number: u64, why: NoEvent },
+    /// The session below refused a job for good.
+    Refused { fault: SendFault },
+}
+
+/// How long two sessions that a relay joins may take, in microseconds.
+#[derive(Clone, Copy, Debug)]
+pub struct Patience {
+    /// 40 round trips above. After so long without an acknowledgement the sender above gives a watermark up.
+    pub above: u64,
+    /// A gap below for each symbol of the most octets that the sender below keeps. An object is handed on only once it is whole.
+    pub below: u64,
 }
 
 /// Why a session made no tail, or no further one.
@@ -112,9 +170,11 @@ pub enum Ending {
     Refused { refusal: Refusal },
     /// Line `number` of what `show` or `gather` reads spells no datagram.
     Line { number: u64, why: NoDatagram },
-    /// A profile is refused, or the node is not one of its receivers, or of several profiles an id stands twice.
+    /// Line `number` of what `relay` reads is no event.
+    Event { number: u64, why: NoEvent },
+    /// A profile is refused, or the node is not one of its receivers, or of several profiles an id stands twice, or two sessions are not relayed.
     Profile { why: ProfileFault },
-    /// A read of the input failed. Nothing of a script or of `gather` was done, and `show` wrote the lines before.
+    /// A read of the input failed. Nothing of a script, of `gather` or of `relay` was done, and `show` wrote the lines before.
     Read,
     /// A write of the output failed. That of a last line is not meant, except of `turns spent` and of a tail's.
     Write,
@@ -131,6 +191,10 @@ pub enum Ending {
     Tailed { turns: u64, bound: u64 },
     /// The session was not whole after its turns, and made no tail, or no further one.
     TailRefused { why: NoTail },
+    /// All events of the input were relayed.
+    Relayed { lost: Losses, patience: Patience },
+    /// The session below a relay refused a job for good.
+    Command { fault: SendFault },
 }
 
 impl From<AllocError> for Ending {
@@ -156,10 +220,13 @@ impl Ending {
         ensures { result ≡ status_of self.now }
     {
         match self {
-            Ending::Done | Ending::Tailed { .. } => Status(0),
+            Ending::Done | Ending::Tailed { .. } | Ending::Relayed { .. } => Status(0),
             Ending::Memory => Status(1),
             Ending::Words => Status(2),
-            Ending::Refused { .. } | Ending::Line { .. } | Ending::Profile { .. } => Status(3),
+            Ending::Refused { .. }
+            | Ending::Line { .. }
+            | Ending::Event { .. }
+            | Ending::Profile { .. } => Status(3),
             Ending::Read => Status(4),
             Ending::Write => Status(5),
             Ending::Fabric => Status(6),
@@ -167,6 +234,7 @@ impl Ending {
             Ending::Spent => Status(8),
             Ending::Datagram => Status(9),
             Ending::TailRefused { .. } => Status(12),
+            Ending::Command { .. } => Status(13),
         }
     }
 }

@@ -75,6 +75,15 @@ fn one_path(alloc: Global, path: Text) -> Result<Vec<Text>, Memory>
     Ok(paths)
 }
 
+fn two_paths(alloc: Global, first: Text, second: Text) -> Result<Vec<Text>, Memory>
+    ensures { IfOk result (λ paths. paths.items ≡ first ∷ second ∷ []) }
+{
+    let mut paths = Vec::new(alloc);
+    paths.push(first)?;
+    paths.push(second)?;
+    Ok(paths)
+}
+
 /// The paths of these pairs in their order.
 fn paths_in(alloc: Global, pairs: &[(Text, NodeId)]) -> Result<Vec<Text>, Memory>
     ensures { IfOk result (λ paths. paths.items ≡ map (λ (pair : List ℕ × ℕ). pair.0) pairs.now) }
@@ -98,11 +107,12 @@ fn paths_of(alloc: Global, task: Option<NodeTask>) -> Result<Vec<Text>, Memory>
             let pairs = pairs.into_inner();
             paths_in(alloc, &pairs)
         }
+        Some(NodeTask::Relay { up, down, .. }) => two_paths(alloc, up, down),
         None => Ok(Vec::new(alloc)),
     }
 }
 
-/// Returns the paths of the profiles that the words name, in their order: one of a node's run, some of `gather`, and none otherwise. They are paths
+/// Returns the paths of the profiles that the words name, in their order: one of a node's run, some of `gather`, two of `relay`, and none otherwise. They are paths
 /// as the shell gives them, not names in the folder of the files, so tell the files of them before they open one.
 pub fn paths_asked(alloc: Global, words: &[String]) -> Result<Vec<Text>, Memory>
     ensures { IfOk result (λ paths. paths.items ≡ paths_asked (node_task_of (map string_bytes words.now))) }

@@ -1,7 +1,7 @@
 use Rattle.std.proofs.Common.{sym}
 use Rattle.std.proofs.Math.Seq.{take-length, drop-length}
 use Rattle.norm_script.proofs.LineLemmas.{text_lines-some, text_whole, split_shorter}
-use Rattle.norm_program.proofs.gather.first_line.Goals as goal
+use Rattle.norm_program.proofs.lines.first_line.Goals as goal
 
 pub returns-in-Some-clause-lines : goal.returns-in-Some-clause-lines
 returns-in-Some-clause-lines c = text_lines-some c.args.text.now (c.in-Some.parts.0.now, c.in-Some.parts.1.now) (sym c.in-Some.ensures)

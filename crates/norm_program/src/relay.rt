@@ -1,0 +1,269 @@
+//! `relay`: a relay between two sessions, whose datagrams and ticks are lines of the input. It prints what the relay sends. The program calls
+//! [`end_relay`].
+
+ghost use Rattle.std.specs.Prelude.{◌≡◌};
+ghost use Rattle.norm_base.specs.Members.{is_node};
+ghost use Rattle.norm_args.specs.Fits.{FitsInstance};
+ghost use Rattle.norm_relay.specs.RelayMoves.{IsRefusal};
+ghost use Rattle.norm_relay.specs.RelayState.{can_relay, is_hold};
+ghost use Rattle.norm_program.specs.Asked.{with_instance};
+ghost use Rattle.norm_program.specs.Chaining.{StandsFor};
+ghost use Rattle.norm_program.specs.Ends.{Called, outside};
+ghost use Rattle.norm_program.specs.Lending.{GivesBack};
+ghost use Rattle.norm_program.specs.NodeEnds.{EndsUnder};
+ghost use Rattle.norm_program.specs.RelayEnds.{EndsBetween, EndsRelay, misfit, no_relay, opening, patience_of, relayed, shared};
+ghost use Rattle.norm_program.specs.Relaying.{IsEventEnding, IsPrintedEnding, IsSaying, IsSessionsEnding};
+
+use crate::chain::Chain;
+use crate::input::read_input;
+use crate::last_line::{refused_line, say, stop_session};
+use crate::lent::Lent;
+use crate::profiles::{load, refuse_profile};
+use crate::send::with_instance;
+use crate::status::{Ending, NoEvent, NoRelay, Patience, ProfileFault, RelayEnd};
+use norm_base::{Clock, Fabric, Files, Key, Mode, NodeId, Profile, Sink, Source, Text};
+use norm_relay::RelayFault;
+use std::alloc::Global;
+
+/// After how many of its round trips without an acknowledgement a sender gives a watermark up.
+// Twenty flushes, two round trips apart (RFC 5740 section 5.5.3 leaves the number open).
+const FLUSHED_ROUNDS: u64 = 40;
+
+fn sender_of(profile: &Profile) -> NodeId
+    ensures { result ≡ profile.now.sender }
+{
+    NodeId::of(profile.sender).unwrap()
+}
+
+fn is_node(profile: &Profile, node: NodeId) -> bool
+    ensures { result ≡ is_node profile.now node }
+{
+    if node.number() == profile.sender {
+        return true;
+    }
+    profile.is_receiver(node)
+}
+
+/// Returns the first member of the session above that is one of the session below too. Call it if there is one.
+fn shared(up: &Profile, down: &Profile) -> NoRelay
+    ensures { result ≡ shared up.now down.now }
+{
+    let sender = sender_of(up);
+    if is_node(down, sender) {
+        return NoRelay::Shared { node: sender };
+    }
+    for i in 0..u32::from(up.receivers) {
+        let node = up.receiver(i);
+        if is_node(down, node) {
+            return NoRelay::Shared { node };
+        }
+    }
+    // Not taken if there is one.
+    NoRelay::Shared { node: sender }
+}
+
+fn is_hold(mode: Mode) -> bool
+    ensures { result ≡ is_hold mode }
+{
+    match mode {
+        Mode::Hold => true,
+        Mode::Drop => false,
+    }
+}
+
+fn misfit(up: &Profile, node: NodeId, down: &Profile) -> NoRelay
+    ensures { result ≡ misfit up.now node down.now }
+{
+    if !is_hold(down.mode) {
+        return NoRelay::Mode;
+    }
+    if !up.is_receiver(node) {
+        return NoRelay::Node {
+            node,
+            first: up.sender + 1,
+            last: up.sender + u32::from(up.receivers),
+        };
+    }
+    shared(up, down)
+}
+
+/// Returns why two sessions are not relayed at a node. Call it if they are not.
+fn no_relay(up: &Profile, node: NodeId, down: &Profile) -> NoRelay
+    ensures { result ≡ no_relay up.now node down.now }
+{
+    if up.e != down.e {
+        return NoRelay::Size {
+            key: Key::E,
+            up: u32::from(up.e),
+            down: u32::from(down.e),
+        };
+    }
+    if up.b != down.b {
+        return NoRelay::Size {
+            key: Key::B,
+            up: u32::from(up.b),
+            down: u32::from(down.b),
+        };
+    }
+    if up.blocks != down.blocks {
+        return NoRelay::Size {
+            key: Key::Blocks,
+            up: u32::from(up.blocks),
+            down: u32::from(down.blocks),
+        };
+    }
+    if up.octets != down.octets {
+        return NoRelay::Size {
+            key: Key::Octets,
+            up: up.octets,
+            down: down.octets,
+        };
+    }
+    misfit(up, node, down)
+}
+
+fn patience_of(up: &Profile, down: &Profile) -> Patience
+    ensures { result ≡ patience_of up.now down.now }
+{
+    Patience {
+        above: FLUSHED_ROUNDS * u64::from(up.grtt),
+        below: u64::from(down.octets / u32::from(down.e)) * u64::from(down.gap),
+    }
+}
+
+/// Writes the last line if the sessions are not relayed, and returns the ending. If memory ran out, writes none.
+fn refuse_sessions<K: Sink>(
+    why: RelayFault,
+    up: &Profile,
+    node: NodeId,
+    down: &Profile,
+    output: &mut K,
+) -> Ending
+    requires { IsRefusal why (can_relay up.now node down.now) }
+    ensures { IsSessionsEnding up.now node down.now why result (K.pieces output.old) (K.pieces output.new) (K.fault_count output.old) (K.fault_count output.new) }
+{
+    match why {
+        RelayFault::Profiles => {
+            let why = no_relay(up, node, down);
+            refuse_profile(ProfileFault::Relay { why }, output)
+        }
+        // `Refused` is no error of a relay that begins.
+        RelayFault::Refused(_) => Ending::Memory,
+        RelayFault::Memory => Ending::Memory,
+    }
+}
+
+/// Writes the last line for line `number`, which is no event, and returns the ending: `Memory` if memory runs out for that line.
+fn refuse_event<K: Sink>(alloc: Global, number: u64, why: NoEvent, output: &mut K) -> Ending
+    ensures { IsEventEnding result number why (K.pieces output.old) (K.pieces output.new) (K.fault_count output.old) (K.fault_count output.new) }
+{
+    match refused_line(alloc, number) {
+        Ok(line) => {
+            say(output, line.as_bytes());
+            Ending::Event { number, why }
+        }
+        Err(_) => Ending::Memory,
+    }
+}
+
+/// Writes the last line if the lines ended before all were relayed, and returns the ending.
+fn say_end<K: Sink>(alloc: Global, end: RelayEnd, patience: Patience, output: &mut K) -> Ending
+    ensures { IsSaying end patience result (K.pieces output.old) (K.pieces output.new) (K.fault_count output.old) (K.fault_count output.new) }
+{
+    match end {
+        RelayEnd::All { lost } => Ending::Relayed { lost, patience },
+        RelayEnd::NoEvent { number, why } => refuse_event(alloc, number, why, output),
+        RelayEnd::Refused { fault } => {
+            say(output, b"refused command\n");
+            Ending::Command { fault }
+        }
+    }
+}
+
+/// Takes the lines of a text, writes what is printed of them, and returns the ending.
+fn end_lines<K: Sink>(
+    alloc: Global,
+    chain: Chain,
+    up: &Profile,
+    node: NodeId,
+    down: &Profile,
+    text: &[u8],
+    output: &mut K,
+) -> Ending
+    requires { StandsFor chain (opening up.now node down.now) }
+    ensures { IsPrintedEnding result (patience_of up.now down.now) (relayed up.now node down.now text.now) (K.pieces output.old) (K.pieces output.new)
+        (K.fault_count output.old) (K.fault_count output.new) }
+{
+    let mut chain = chain;
+    match chain.take_lines(alloc, text, output) {
+        Ok(end) => say_end(alloc, end, patience_of(up, down), output),
+        Err(fault) => stop_session(alloc, fault, output),
+    }
+}
+
+/// Relays between these sessions: reads the input whole, writes what is printed of its lines, and returns the ending. If the sessions are not
+/// relayed, does not read the input.
+fn relay<S: Source, K: Sink>(
+    alloc: Global,
+    up: &Profile,
+    node: NodeId,
+    down: &Profile,
+    input: &mut S,
+    output: &mut K,
+) -> Ending
+    ensures { (called : Called) → EndsBetween up.now node down.now result
+        (outside (S.left input.old) (K.pieces output.old) (S.fault_count input.old) (K.fault_count output.old) called)
+        (outside (S.left input.new) (K.pieces output.new) (S.fault_count input.new) (K.fault_count output.new) called) }
+{
+    let chain = match Chain::begin(alloc, up, node, down) {
+        Ok(chain) => chain,
+        Err(why) => return refuse_sessions(why, up, node, down, output),
+    };
+    match read_input(alloc, input, output) {
+        Ok(text) => end_lines(alloc, chain, up, node, down, &text, output),
+        Err(ending) => ending,
+    }
+}
+
+/// Loads the profile of the session below, relays, and returns the ending.
+fn end_below<S: Source, K: Sink, F: Fabric, D: Files, C: Clock>(
+    alloc: Global,
+    up: &Profile,
+    node: NodeId,
+    down: Text,
+    instance: Option<u32>,
+    lent: &mut Lent<'_, S, K, F, D, C>,
+) -> Ending
+    requires { FitsInstance instance }
+    ensures ends { GivesBack S.Source K.Sink F.Fabric D.Files C.Clock
+        (EndsUnder down (λ q. EndsBetween up.now node (with_instance instance q)) result) lent.old lent.new }
+    ensures files { D.contents lent.new.files.now ≡ D.contents lent.old.files.now }
+{
+    match load(alloc, down, lent.output, lent.files) {
+        Ok(loaded) => {
+            let profile = with_instance(loaded, instance);
+            relay(alloc, up, node, &profile, lent.input, lent.output)
+        }
+        Err(ending) => ending,
+    }
+}
+
+/// Loads the profiles at both paths, that above first, relays between their sessions, and returns the ending; what each ending says is in
+/// `EndsRelay`. Starts no network.
+pub(crate) fn end_relay<S: Source, K: Sink, F: Fabric, D: Files, C: Clock>(
+    alloc: Global,
+    up: Text,
+    node: NodeId,
+    down: Text,
+    instance: Option<u32>,
+    lent: &mut Lent<'_, S, K, F, D, C>,
+) -> Ending
+    requires { FitsInstance instance }
+    ensures ends { GivesBack S.Source K.Sink F.Fabric D.Files C.Clock (EndsRelay up node down instance result) lent.old lent.new }
+    ensures files { D.contents lent.new.files.now ≡ D.contents lent.old.files.now }
+{
+    match load(alloc, up, lent.output, lent.files) {
+        Ok(profile) => end_below(alloc, &profile, node, down, instance, lent),
+        Err(ending) => ending,
+    }
+}
