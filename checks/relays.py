@@ -1,12 +1,15 @@
 #!/usr/bin/env python3
-"""Relays beside the program `replay`: the sender that is in one, beside a sender alone.
+"""Relays beside the program `replay`: their calls in any order, and the sender that is in one.
 
     checks/relays.py [--seed N] [--count N] [--program FILE] [--replay FILE]
 
-What a relay hears (checks/alike --relay) is given to `normd relay`. The plain relay says which jobs its sender got at which line. A sender
+Rows: the answers to the rows of relays in crates/replay are those of the plain relay (checks/plain), and not ours.
+Calls: random lists of calls of a relay, in any order, strikes too, are given to `replay` and to the plain relay, and each answer is compared.
+Senders: what a relay hears (checks/alike --relay) is given to `normd relay`. The plain relay says which jobs its sender got at which line. A sender
 that `replay` begins gets these jobs, and the datagrams from below, at the same moments: it sends what the run printed as sent below.
 
-Run N is a function of N; N counts on from the seed. Exit status: 0 if nothing differs, 1 if something does, 2 if a program is not there."""
+COUNT is of the lists and of the runs. List or run N is a function of N; N counts on from the seed. Exit status: 0 if nothing differs, 1 if
+something does, 2 if a program is not there."""
 from __future__ import annotations
 
 import argparse
@@ -19,12 +22,14 @@ sys.dont_write_bytecode = True
 HERE = os.path.dirname(os.path.abspath(__file__))
 sys.path.insert(0, HERE)
 from plain import relay as plain  # noqa: E402
+from plain.calls import answers, random_calls  # noqa: E402
 from plain.gather import Stop, load  # noqa: E402
 from plain.relays import random_relay  # noqa: E402
 from plain.script import lines_of  # noqa: E402
 from plain.sender import Sender  # noqa: E402
 
 CRATES = os.path.join(HERE, '..', 'crates')
+MOST_LINES = 20000                              # that one call of `replay` gets
 SHOWN = 200                                     # characters of a line that differs
 PATIENCE = 300                                  # seconds that a program has
 
@@ -41,6 +46,36 @@ def compare(name: str, lines: list[str], wanted: list[str], came: list[str]) -> 
         return 0
     print(f'relays: {name}, line {at + 1}, {lines[at][:SHOWN]}\n  wanted {wanted[at][:SHOWN]}\n  came   {" ".join(came[at:at + 1])[:SHOWN]}', flush=True)
     return 1
+
+
+# ---- rows, and calls
+
+def rows() -> int:
+    """Compares the rows of relays with the plain one."""
+    texts = []
+    for name in ('stdin', 'stdout'):
+        with open(os.path.join(CRATES, 'replay', name), encoding='ascii') as file:
+            texts.append(file.read().splitlines())
+    first = next(i for i, line in enumerate(texts[0]) if line.startswith('row relay:'))
+    asked, wanted = texts[0][first:], texts[1][first:]
+    print(f'relays: {sum(line.startswith("row ") for line in asked)} rows')
+    return compare('rows', asked, answers(asked), wanted)
+
+
+def calls(program: str, numbers: range) -> int:
+    """Compares random lists of calls, some with one call of the program."""
+    differ, lines, names = 0, [], []
+    for n in numbers:
+        made = random_calls(n)
+        lines += made
+        names += [f'calls {n}'] * len(made)
+        if len(lines) > MOST_LINES or n == numbers[-1]:
+            wanted, came = answers(lines), replayed(program, lines)
+            first = next((i for i in range(len(lines)) if wanted[i:i + 1] != came[i:i + 1]), 0)
+            differ += compare(names[first], lines, wanted, came)
+            lines, names = [], []
+    print(f'relays: {len(numbers)} lists of calls, {differ} differ')
+    return differ
 
 
 # ---- the sender of a run
@@ -138,7 +173,7 @@ def main() -> int:
             print(f'relays: {path} is not there')
             return 2
     numbers = range(a.seed, a.seed + a.count)
-    return 1 if senders(program, replay, numbers) else 0
+    return 1 if rows() + calls(replay, numbers) + senders(program, replay, numbers) else 0
 
 
 if __name__ == '__main__':

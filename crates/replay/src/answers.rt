@@ -193,7 +193,7 @@ fn strike_refused(alloc: Global, fault: StrikeFault) -> Result<Line, Fault> {
 }
 
 /// Returns the line of a command that failed: `refused` with a reason of its own for each fault, or `memory`.
-fn command_refused(alloc: Global, fault: SendFault) -> Result<Line, Fault> {
+pub(crate) fn command_refused(alloc: Global, fault: SendFault) -> Result<Line, Fault> {
     match fault {
         SendFault::Enqueue(fault) => enqueue_refused(alloc, fault),
         SendFault::Mark(fault) => mark_refused(alloc, fault),

@@ -7,7 +7,8 @@ use norm_base::{InstanceId, Key, NodeId};
 use row_words::{Fault, Words};
 use std::str::Lines;
 
-/// A call of a node. `Take` is of a receiver only, and `Command` and `News` of a sender only.
+/// A call of a node. `Take` is of a receiver only, `Command` of a sender only, and `News` of a sender or a relay. Those after `Tell` are of a relay
+/// only; of a relay `Deliver` and `Tick` are of its side above.
 #[derive(Drop)]
 pub(crate) enum Verb {
     Deliver,
@@ -16,6 +17,10 @@ pub(crate) enum Verb {
     Command,
     News,
     Tell,
+    Below,
+    TickBelow,
+    Pump,
+    Strike,
 }
 
 /// A line of the input that has a word, read up to the arguments of a call.
@@ -27,6 +32,10 @@ pub(crate) enum Event {
     Receiver { node: NodeId },
     /// Begins a sender with this instance, under the keys that were set.
     Sender { instance: InstanceId },
+    /// Keeps the keys that were set as those of the session above the relays that begin next.
+    Above,
+    /// Begins a relay that has this node id above, over the keys that were set since.
+    Relay { node: NodeId },
     /// Names the lines that follow. The name is still unread.
     Row,
     /// Calls the node that runs. The arguments are still unread.
@@ -50,6 +59,12 @@ fn receiver(words: &mut Words<'_>) -> Option<Event> {
     })
 }
 
+fn relay(words: &mut Words<'_>) -> Option<Event> {
+    Some(Event::Relay {
+        node: words.node()?,
+    })
+}
+
 /// Reads the instance of a sender, a number below 65,536.
 fn sender(words: &mut Words<'_>) -> Option<Event> {
     let instance = InstanceId(words.number16()?);
@@ -69,6 +84,8 @@ fn event_of(word: &str, words: &mut Words<'_>) -> Option<Event> {
         "set" => alone(set(words)?, words),
         "receiver" => alone(receiver(words)?, words),
         "sender" => alone(sender(words)?, words),
+        "above" => alone(Event::Above, words),
+        "relay" => alone(relay(words)?, words),
         "row" => Some(Event::Row),
         "deliver" => Some(Event::Call(Verb::Deliver)),
         "tick" => Some(Event::Call(Verb::Tick)),
@@ -76,6 +93,10 @@ fn event_of(word: &str, words: &mut Words<'_>) -> Option<Event> {
         "command" => Some(Event::Call(Verb::Command)),
         "news" => Some(Event::Call(Verb::News)),
         "tell" => Some(Event::Call(Verb::Tell)),
+        "below" => Some(Event::Call(Verb::Below)),
+        "tick-below" => Some(Event::Call(Verb::TickBelow)),
+        "pump" => Some(Event::Call(Verb::Pump)),
+        "strike" => Some(Event::Call(Verb::Strike)),
         _ => None,
     }
 }

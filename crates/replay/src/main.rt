@@ -8,6 +8,7 @@ mod commanding;
 mod events;
 mod node;
 mod receiving;
+mod relaying;
 mod run;
 mod sending;
 

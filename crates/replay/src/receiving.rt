@@ -95,7 +95,7 @@ impl Node for Receiver {
             Verb::Tick => tick(alloc, self, words, out),
             Verb::Take => take(alloc, self),
             Verb::Tell => tell(alloc, self),
-            Verb::Command | Verb::News => Ok(None),
+            _ => Ok(None),
         }
     }
 }

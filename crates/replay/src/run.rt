@@ -7,6 +7,7 @@ use crate::answers::said;
 use crate::events::{Event, Events};
 use crate::node::name_row;
 use crate::receiving::run_receiver;
+use crate::relaying::run_relay;
 use crate::sending::run_sender;
 use norm_base::{Given, Key, Profile, Sink, Source};
 use row_words::{Fault, print, read_all};
@@ -16,8 +17,10 @@ use std::alloc::Global;
 #[derive(Drop)]
 struct Keys {
     given: Given,
-    /// Whether a node began with these keys.
+    /// Whether a node began with these keys, or they were kept as those above.
     are_used: bool,
+    /// The profile above the relays that begin next.
+    above: Option<Profile>,
 }
 
 impl Keys {
@@ -36,9 +39,21 @@ impl Keys {
         self.are_used = true;
         Profile::of(&self.given)
     }
+
+    /// Keeps the profile as the one above, and returns whether there is one.
+    fn rise(&mut self) -> bool {
+        self.above = self.profile();
+        self.above.is_some()
+    }
+
+    /// Returns the profiles above and below a relay that begins, or `None` if one of them is missing.
+    fn profiles(&mut self) -> Option<(Profile, Profile)> {
+        let below = self.profile()?;
+        Some((self.above?, below))
+    }
 }
 
-/// Follows an event while no node runs, and returns the next event to follow. A `receiver` or `sender` runs that node
+/// Follows an event while no node runs, and returns the next event to follow. A `receiver`, `sender` or `relay` runs that node
 /// until an event that is neither a call nor a `row`.
 fn follow<K: Sink>(
     alloc: Global,
@@ -63,6 +78,17 @@ fn follow<K: Sink>(
             Some(profile) => run_sender(alloc, &profile, instance, events, output),
             None => Err(events.fault()),
         },
+        Event::Above => {
+            if !keys.rise() {
+                return Err(events.fault());
+            }
+            print(said(alloc, "above")?, output)?;
+            events.next()
+        }
+        Event::Relay { node } => match keys.profiles() {
+            Some((up, down)) => run_relay(alloc, &up, node, &down, events, output),
+            None => Err(events.fault()),
+        },
         Event::Row => {
             name_row(alloc, events, output)?;
             events.next()
@@ -77,6 +103,7 @@ fn replay_text<K: Sink>(alloc: Global, text: &str, output: &mut K) -> Result<(),
     let mut keys = Keys {
         given: Given::new(),
         are_used: false,
+        above: None,
     };
     let mut next = events.next()?;
     'events: while let Some(event) = next {

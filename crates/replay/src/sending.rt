@@ -100,7 +100,7 @@ impl Node for Driven {
             Verb::Tick => tick(alloc, self, words, out),
             Verb::News => news(alloc, self),
             Verb::Tell => tell(alloc, self.sender()),
-            Verb::Take => Ok(None),
+            _ => Ok(None),
         }
     }
 }
