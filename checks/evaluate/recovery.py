@@ -26,6 +26,13 @@ use Rattle.norm_safety.specs.Lawful.{is_near}
 use Rattle.norm_safety.specs.World.{is_of}
 use Rattle.norm_send_rules.specs.Wants.{want_before}
 use Rattle.norm_recovery.specs.Left.{has, will_have, in_window, left}
+use Rattle.norm_recovery.specs.LeftHeard.{brings}
+use Rattle.norm_safety.specs.Said.{first_index}
+use Rattle.norm_ext.specs.Message.{Message, Info, Data}
+use Rattle.norm_ext.specs.Written.{Written}
+use Rattle.norm_send_rules.specs.InWindow.{stands_behind}
+use Rattle.norm_send_rules.specs.Repairable.{streams}
+use Rattle.norm_send_rules.specs.declared.want.Want.{Want}
 use Rattle.norm_recovery.specs.RunsOut.{all_new, to_send, last_closing}
 '''
 RECOVERY = open(os.path.join(HERE, 'Recovery.txt'), encoding='utf-8').read()
@@ -33,8 +40,8 @@ RECOVERY = open(os.path.join(HERE, 'Recovery.txt'), encoding='utf-8').read()
 # round trip after the tail began, whatever was asked for since
 WRONG = {'a hold-off of K': 'timely_for (λ q. q.k)', 'a flush after 2G - 1': 'goes_after (λ q. 2 * q.grtt - 1)', 'out whatever closes': 'runs_out_of %d'}
 # wrong statements of members, each refused by this tail: that struck nodes stand as members do, that members stand where a datagram came
-# that nobody offered, and that whoever hears the sender was in its instance before
-ASTRAY = {'tail-13': 'all_stand', 'tail-16': 'members_stand', 'tail-19': 'was_there'}
+# that nobody offered, that whoever hears the sender was in its instance before, and that a member had what it hears of the window before
+ASTRAY = {'tail-13': 'all_stand', 'tail-16': 'members_stand', 'tail-19': 'was_there', 'tail-05': 'had_before'}
 # wrong counts of what is left, each of which differs from the record of this tail: of struck nodes too, of what is wanted too, of what a member
 # lacks now, and of what a member holds in another instance
 COUNTS = {'left_of_all': 'tail-13', 'left_with_wanted': 'tail-05', 'left_now': 'tail-05', 'left_elsewhere': 'tail-19'}

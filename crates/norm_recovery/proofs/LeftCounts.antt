@@ -1,4 +1,4 @@
--- What is left counts at most what may need repair, and if it is nothing every member has everything.
+-- What is left counts at most what may need repair, if it is nothing every member has everything, and no closing raises it.
 use Rattle.std.proofs.Common.{◌≡◌, ℕ, zero, suc, ◌<◌, ◌≤◌, cond, List, [], ◌∷◌, length, filter, Bool, true, false, not, refl, sym, ap, ◌∙◌, subst, arith}
 use Rattle.std.specs.Prelude.{Contains, ◌&&◌, ◌||◌}
 use Rattle.std.specs.List.{list_all}
@@ -11,6 +11,7 @@ use Rattle.norm_send_rules.specs.declared.want.Want.{Want}
 use Rattle.norm_safety.specs.World.{World}
 use Rattle.norm_safety.proofs.EntryLemmas.{clash}
 use Rattle.norm_recovery.specs.Left.{held_for, is_had, has, will_have, all_will_have, in_window, left, LeftTells}
+use Rattle.norm_recovery.proofs.LeftFalls.{closing_lowers}
 use Rattle.norm_recovery.proofs.LeftStays.{had_stays}
 
 filter_few : {X : Type 0} (test : X → Bool) (xs : List X) → length (filter test xs) ≤ length xs
@@ -76,4 +77,5 @@ left_tells = record {
   most = λ p w. filter_few (λ (y : Want). not (is_member want_before y w.sender.wants) && not (all_will_have p w y)) (in_window p w.sender);
   none = has_all;
   stays = had_stays;
+  closes = closing_lowers;
 }

@@ -25,13 +25,13 @@ use Rattle.norm_laws.proofs.HeldStays.{step_lasts}
 use Rattle.norm_laws.proofs.HeldWords.{HoldsMore, over_more}
 use Rattle.norm_recovery.specs.Left.{held_for, is_there, is_complete, is_had}
 
-either : (a b c d : Bool) → (a ≡ true → c ≡ true) → (b ≡ true → d ≡ true) → (a || b) ≡ true → (c || d) ≡ true
+pub either : (a b c d : Bool) → (a ≡ true → c ≡ true) → (b ≡ true → d ≡ true) → (a || b) ≡ true → (c || d) ≡ true
 either true b c d f g e = ap (λ (x : Bool). x || d) (f refl)
 either false b true d f g e = refl
 either false b false d f g e = g e
 
 -- whatever passes one test passes another, so no fewer do
-more_pass : {X : Type 0} (test other : X → Bool) (xs : List X) → ((x : X) → test x ≡ true → other x ≡ true) → length (filter test xs) ≤ length (filter other xs)
+pub more_pass : {X : Type 0} (test other : X → Bool) (xs : List X) → ((x : X) → test x ≡ true → other x ≡ true) → length (filter test xs) ≤ length (filter other xs)
 more_pass test other [] implies = omega arith
 more_pass {X} test other (x ∷ xs) implies = go (test x) (other x) (implies x) (more_pass test other xs implies)
   where
@@ -42,7 +42,7 @@ more_pass {X} test other (x ∷ xs) implies = go (test x) (other x) (implies x) 
     go false true f le = omega (arith, le)
     go false false f le = le
 
-at_most : (k m n : ℕ) → m ≤ n → nat_le k m ≡ true → nat_le k n ≡ true
+pub at_most : (k m n : ℕ) → m ≤ n → nat_le k m ≡ true → nat_le k n ≡ true
 at_most k m n le e = go (leb_tells k m) (leb_tells k n)
   where
     go : ((nat_le k m ≡ true) × (k ≤ m)) ⊎ ((nat_le k m ≡ false) × (m < k)) → ((nat_le k n ≡ true) × (k ≤ n)) ⊎ ((nat_le k n ≡ false) × (n < k))

@@ -33,3 +33,4 @@ pub mod FlushLacks
 pub mod FlushReaches
 pub mod LeftHeard
 pub mod LeftComes
+pub mod LeftFalls

@@ -11,9 +11,10 @@ use Rattle.norm_receive_rules.specs.Leaving.{is_in}
 use Rattle.norm_receive_rules.specs.Plans.{is_over, holds, info_of}
 use Rattle.norm_receive_rules.specs.ReceiverState.{ReceiverState}
 use Rattle.norm_receive_rules.specs.ReceiverStep.{ReceiverEvent, receiver_step}
+use Rattle.norm_send_rules.specs.Closing.{round_closed}
 use Rattle.norm_send_rules.specs.InWindow.{stands_behind, current_shapes}
 use Rattle.norm_send_rules.specs.Repairable.{encoded_from, repairable}
-use Rattle.norm_send_rules.specs.SenderState.{SenderState}
+use Rattle.norm_send_rules.specs.SenderState.{SenderState, Round}
 use Rattle.norm_send_rules.specs.Wants.{want_before}
 use Rattle.norm_send_rules.specs.Watermarks.{has_member}
 use Rattle.norm_send_rules.specs.declared.want.Want.{Want}
@@ -72,3 +73,5 @@ pub record LeftTells : Type 0 where
   pub stays : (wants : List Want) (p : Settings) (s : SenderState) (r : ReceiverState) (event : ReceiverEvent) (y : Want)
       → (is_in r s.current.id ≡ true → is_in (receiver_step p r event).0 s.current.id ≡ true) → is_had wants p s (held_for s r) y ≡ true
       → is_had wants p s (held_for s (receiver_step p r event).0) y ≡ true
+  -- no more is left once a round was closed
+  pub closes : (p : Settings) (round : Round) (w : World) → left p (record w { sender = round_closed p round w.sender }) ≤ left p w

@@ -80,7 +80,7 @@ pub fn flush_needs()
 {}
 
 /// No more is left than may need repair. If nothing is wanted and nothing is left, every member has everything of the window. What a receiver
-/// has of it, or will have, stays so whatever happens to it, unless it leaves the sender's instance.
+/// has of it, or will have, stays so whatever happens to it, unless it leaves the sender's instance. The closing of a round leaves no more.
 #[tactic(auto, using(crate::proofs::LeftCounts::left_tells))]
 pub fn left_tells()
     ensures { LeftTells }
