@@ -34,3 +34,4 @@ pub mod FlushReaches
 pub mod LeftHeard
 pub mod LeftComes
 pub mod LeftFalls
+pub mod LeftTick
