@@ -15,3 +15,4 @@ pub mod BackLemmas
 pub mod PlainLemmas
 pub mod TextLemmas
 pub mod ValueLemmas
+mod FolderHeadLemmas

@@ -3,11 +3,11 @@ use Rattle.std.proofs.Common.{◌≡◌, ◌+◌, ◌≤◌, ℕ, List, ◌∷�
 use Rattle.std.specs.Prelude.{is_some, unwrap_or}
 use Rattle.norm_script.specs.Head.{Head, head_line, head_from}
 
-none_told : {X : Type 0} → (o : Option X) → is_some o ≡ false → o ≡ None
+pub none_told : {X : Type 0} → (o : Option X) → is_some o ≡ false → o ≡ None
 none_told None h = refl
 none_told (Some x) h = absurd (cc)
 
-some_told : {X : Type 0} → (o : Option X) (d : X) → is_some o ≡ true → o ≡ Some (unwrap_or o d)
+pub some_told : {X : Type 0} → (o : Option X) (d : X) → is_some o ≡ true → o ≡ Some (unwrap_or o d)
 some_told None d h = absurd (cc)
 some_told (Some x) d h = refl
 

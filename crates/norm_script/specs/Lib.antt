@@ -13,3 +13,4 @@ pub mod Written
 pub mod Plain
 pub mod OneScript
 pub mod Generated
+pub mod Folder

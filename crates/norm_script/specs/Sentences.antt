@@ -21,6 +21,7 @@ sentence_by_numbers (why.LongLine octets) = Some (codes "the line has " ++ (deci
 sentence_by_numbers (why.MaxBelowB max_n b) = Some (codes "max_n is " ++ (decimal max_n ++ (codes ", and has to be at least b, which is " ++ decimal b)))
 sentence_by_numbers (why.Buffer blocks b e) = Some (codes "blocks * b * e is " ++ (decimal blocks ++ (codes " * " ++ (decimal b ++ (codes " * " ++ (decimal e ++ codes ", which is above 16777216"))))))
 sentence_by_numbers (why.Producer producer producers) = Some (codes "the producer is " ++ (decimal producer ++ (codes ", and there are " ++ decimal producers)))
+sentence_by_numbers (why.NameTwice line) = Some (codes "the name stands on line " ++ (decimal line ++ codes " too"))
 sentence_by_numbers _ = None
 
 -- of any other
@@ -41,6 +42,12 @@ plain_sentence why.NoInstance = codes "an instance is a number from 0 to 65535"
 plain_sentence why.NoQuorum = codes "a quorum is a number from 1 to 16"
 plain_sentence why.NoNode = codes "a node is a number from 1 to 4294967294"
 plain_sentence why.ManyCommands = codes "a script has at most 4096 commands"
+plain_sentence why.OneProducer = codes "a folder has one producer, and producers is not set"
+plain_sentence why.NoDrop = codes "nothing of a folder is dropped: its mode is hold"
+plain_sentence why.NoFileName = codes "a file's name is 1 to 64 letters, digits, `.`, `_` or `-`, and begins neither with `.` nor with `n` and a digit"
+plain_sentence why.AfterName = codes "no key is set here: keys are set before every name"
+plain_sentence why.ManyNames = codes "a folder has at most 1024 files"
+plain_sentence why.NoNames = codes "no file is named"
 plain_sentence _ = []
 
 abbrev pub sentence_of : Why → List ℕ

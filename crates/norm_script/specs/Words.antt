@@ -42,3 +42,11 @@ is_name_octet c = is_ascii_alphanumeric c || c == 46 || c == 95 || c == 45
 abbrev pub is_name : List ℕ → Bool
 is_name word =
     nat_le 1 (length word) && nat_le (length word) 64 && list_all is_name_octet word && not (slice_index word 0 == 46)
+
+-- a name begins with `n` and a digit, as the names of copies do
+abbrev pub is_numbered : List ℕ → Bool
+is_numbered name = nat_le 2 (length name) && slice_index name 0 == 110 && is_digit (slice_index name 1)
+
+-- the name of a file of a folder
+abbrev pub is_file_name : List ℕ → Bool
+is_file_name name = is_name name && not (is_numbered name)

@@ -47,7 +47,7 @@ fn setting_of_key(settings: &[Setting], key: Key) -> Option<Setting>
 
 impl Head {
     /// It takes no memory.
-    fn new(alloc: Global) -> Head
+    pub(crate) fn new(alloc: Global) -> Head
         ensures { result ≡ nothing_set }
     {
         Head {
@@ -85,8 +85,8 @@ impl Head {
         }
     }
 
-    /// Takes in what line `n` means. Returns `false` if it is a command, which ends the head and changes nothing.
-    fn take(&mut self, n: u32, meaning: Result<Meaning, Why>) -> Result<bool, Memory>
+    /// Takes in what line `n` means. Returns `false` if it is a command or a name, which ends the head and changes nothing.
+    pub(crate) fn take(&mut self, n: u32, meaning: Result<Meaning, Why>) -> Result<bool, Memory>
         ensures { IfOk result (λ taken. let next = head_after self.old n meaning in
             (taken ≡ is_some next) × (self.new ≡ unwrap_or next self.old)) }
     {

@@ -15,7 +15,7 @@ use std::alloc::Global;
 /// The most octets of a line without its line feed, also of a comment.
 // Our own choice: contents of 16,384 digits and the words before them. An info has to fit the same line. A longer line is refused with `LongLine`,
 // unread.
-const MOST_OCTETS: usize = 16_500;
+pub(crate) const MOST_OCTETS: usize = 16_500;
 
 /// The greatest quorum: a session has at most this many receivers.
 // The greatest value of the key `receivers`.
@@ -64,7 +64,7 @@ fn value_for(key: Key, word: &[u8]) -> Result<u32, Why>
 }
 
 /// The key is looked at before its value. `NoForm` if there is only one word after `set`.
-fn setting_of(words: &[u8]) -> Result<Meaning, Why>
+pub(crate) fn setting_of(words: &[u8]) -> Result<Meaning, Why>
     ensures { result ≡ setting_of words.now }
 {
     let Some((name, word)) = split_at_first(words, b' ') else {
@@ -255,7 +255,7 @@ fn meaning_of_words(alloc: Global, line: &[u8]) -> Result<Result<Meaning, Why>, 
 }
 
 /// A comment begins with `#`.
-fn is_passed_over(line: &[u8]) -> bool
+pub(crate) fn is_passed_over(line: &[u8]) -> bool
     ensures { result ≡ is_passed_over line.now }
 {
     line.is_empty() || line[0] == b'#'

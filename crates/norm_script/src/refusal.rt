@@ -54,6 +54,20 @@ pub enum Why {
     ManyCommands,
     /// The profile has `producers` producers, and this one is not among them.
     Producer { producer: u32, producers: u32 },
+    /// It sets `producers` for a folder.
+    OneProducer,
+    /// It sets the mode `drop` for a folder.
+    NoDrop,
+    /// The line is not 1 to 64 ASCII letters, digits, `.`, `_` or `-`, or it begins with `.`, or with `n` and a digit.
+    NoFileName,
+    /// It sets a key after a name.
+    AfterName,
+    /// The name stands on line `line` too.
+    NameTwice { line: u32 },
+    /// The folder has more than 1,024 files. This is the first beyond them.
+    ManyNames,
+    /// There is no such line: it would be the first name.
+    NoNames,
 }
 
 /// A line without meaning, by its number from 1, and why it has none.

@@ -66,6 +66,7 @@ fn say_numbers<W: fmt::Write>(why: Why, f: &mut fmt::Formatter<W>) -> fmt::Resul
             producer,
             producers,
         } => write!(f, "the producer is {producer}, and there are {producers}"),
+        Why::NameTwice { line } => write!(f, "the name stands on line {line} too"),
         _ => Ok(()),
     }
 }
@@ -83,7 +84,8 @@ impl fmt::Display for Why {
             Why::LongLine { .. }
             | Why::MaxBelowB { .. }
             | Why::Buffer { .. }
-            | Why::Producer { .. } => say_numbers(*self, f),
+            | Why::Producer { .. }
+            | Why::NameTwice { .. } => say_numbers(*self, f),
             Why::ByteOrderMark => {
                 f.write_str("it begins with a byte order mark: write UTF-8 without one")
             }
@@ -118,6 +120,14 @@ impl fmt::Display for Why {
             Why::NoQuorum => f.write_str("a quorum is a number from 1 to 16"),
             Why::NoNode => f.write_str("a node is a number from 1 to 4294967294"),
             Why::ManyCommands => f.write_str("a script has at most 4096 commands"),
+            Why::OneProducer => f.write_str("a folder has one producer, and producers is not set"),
+            Why::NoDrop => f.write_str("nothing of a folder is dropped: its mode is hold"),
+            Why::NoFileName => f.write_str(
+                "a file's name is 1 to 64 letters, digits, `.`, `_` or `-`, and begins neither with `.` nor with `n` and a digit",
+            ),
+            Why::AfterName => f.write_str("no key is set here: keys are set before every name"),
+            Why::ManyNames => f.write_str("a folder has at most 1024 files"),
+            Why::NoNames => f.write_str("no file is named"),
         }
     }
 }

@@ -4,7 +4,7 @@ ghost use Rattle.std.specs.Prelude.{◌≡◌, ◌≤◌, ◌==◌, ◌||◌, if
 ghost use Rattle.std.specs.List.{list_all};
 ghost use Rattle.std.specs.Option.{option_map};
 ghost use Rattle.norm_script.specs.Text.{split_at_first};
-ghost use Rattle.norm_script.specs.Words.{is_digit, is_number, value_of, number_within, contents_of, is_name_octet, is_name};
+ghost use Rattle.norm_script.specs.Words.{is_digit, is_number, value_of, number_within, contents_of, is_name_octet, is_name, is_numbered, is_file_name};
 
 use hex::FromHexError;
 use norm_base::{Memory, Octets, Text};
@@ -142,4 +142,26 @@ pub fn name_of(alloc: Global, word: &[u8]) -> Result<Option<Text>, Memory>
         Ok(name) => Ok(Some(Text::of(name))),
         Err(_) => Err(Memory),
     }
+}
+
+/// Whether a name begins with `n` and a digit.
+// The copies of receiver 2 have the names `n2-NAME`, so such a name could be that of a copy.
+fn is_numbered(name: &[u8]) -> bool
+    ensures { result ≡ is_numbered name.now }
+{
+    name.len() >= 2 && name[0] == b'n' && (48 <= name[1] && name[1] <= 57)
+}
+
+/// The name of a folder's file that a word is: a name that does not begin with `n` and a digit. `None` if it is not one.
+///
+/// # Errors
+///
+/// `Memory` if memory runs out.
+pub fn file_name_of(alloc: Global, word: &[u8]) -> Result<Option<Text>, Memory>
+    ensures { IfOk result (λ name. name ≡ (if is_file_name word.now then Some word.now else None)) }
+{
+    if is_numbered(word) {
+        return Ok(None);
+    }
+    name_of(alloc, word)
 }
