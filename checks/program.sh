@@ -136,9 +136,10 @@ row 'a session' 0 'enq 1 1 7 0 data 5\nup 2 7 0 data 5 - 68656c6c6f\nend objects
 words 'no word says what to do'
 words 'the word sessions is unknown' sessions
 words 'the word normd is unknown' normd session
-send_takes='send takes one word, the path of a profile, and --instance I, from 0 to 65535, at most once'
+group_takes='--group ADDRESS or ADDRESS:PORT, four numbers with points and a port from 1024 to 65534'
+send_takes="send takes one word, the path of a profile, --instance I, from 0 to 65535, and $group_takes, each at most once"
 hub_takes='hub takes one word, the path of a profile'
-recv_takes='recv takes two words, the path of a profile and a node, from 1 to 4294967294'
+recv_takes="recv takes two words, the path of a profile and a node, from 1 to 4294967294, and $group_takes, at most once"
 words "$send_takes" send
 words "$send_takes" send one two
 words "$send_takes" send one --help
@@ -152,13 +153,30 @@ words "$send_takes" send one --instance 65536
 words "$send_takes" send one --instance 1 --instance=1
 words "$send_takes" send one --port 1
 words "$send_takes" send one --tail 1
+words "$send_takes" send one --group
+words "$send_takes" send one --group=
+words "$send_takes" send one --group localhost
+words "$send_takes" send one --group 127.255.255
+words "$send_takes" send one --group 127.255.255.255.255
+words "$send_takes" send one --group 127.255.255.256
+words "$send_takes" send one --group 127.255.255.0255
+words "$send_takes" send one --group 127.255.255.255:
+words "$send_takes" send one --group 127.255.255.255:1023
+words "$send_takes" send one --group 127.255.255.255:65535
+words "$send_takes" send one --group 127.255.255.255:09999
+words "$send_takes" send one --group 255.255.255.255
+words "$send_takes" send one --group ::1
+words "$send_takes" send one --group 127.255.255.255 --group 127.255.255.255
 words "$hub_takes" hub --help
+words "$hub_takes" hub one --group 127.255.255.255
 words "$hub_takes" hub one --instance 1
 words "$recv_takes" recv profile
 words "$recv_takes" recv profile 0
 words "$recv_takes" recv profile 02
 words "$recv_takes" recv profile 4294967295
 words "$recv_takes" recv profile 2 --instance 1
+words "$recv_takes" recv profile 2 --group 255.255.255.255:5000
+words "$recv_takes" recv profile 2 --group 127.255.255.255:80
 gather_takes='gather takes one to eight pairs of words, the path of a profile and a node, from 1 to 4294967294'
 words "$gather_takes" gather
 words "$gather_takes" gather a.toml
@@ -197,6 +215,7 @@ words "$session_takes" session --chance 07
 words "$session_takes" session --chance 1 --chance 2
 words "$session_takes" session --tail 5 --tail 5
 words "$session_takes" session --loss 1
+words "$session_takes" session --group 127.255.255.255
 generate_takes='generate takes one word, a number from 0 to 4294967295'
 words "$generate_takes" generate
 words "$generate_takes" generate x
@@ -392,12 +411,13 @@ row 'a script of 8,193 empty lines' 3 'refused line 8193\n' session
 reason='line 2: the line has 16501 octets, and a line has at most 16500\n'
 row 'a script with a line of 16,501 octets' 3 'refused line 2\n' session
 
-# Nodes, each in a process of its own, which are ended by a signal. send_letter QUORUM: a sender that sends a file to two receivers and waits for
-# so many; for all where none is said.
+# Nodes, each in a process of its own, which are ended by a signal. send_letter QUORUM WORD..: a sender with these words that sends a file to two
+# receivers and waits for so many; for all where none is said.
 send_letter() {
     forget
     printf '1 file letter.txt\n1 mark%s\n' "$1" >"$scratch/in"
-    (cd "$files" && exec "$program" send "$scratch/profile") <"$scratch/in" >"$scratch/out" 2>"$scratch/err" &
+    shift
+    (cd "$files" && exec "$program" send "$scratch/profile" "$@") <"$scratch/in" >"$scratch/out" 2>"$scratch/err" &
     sender=$!
 }
 
@@ -437,6 +457,26 @@ awaits still.3.err '141 octets, 1 objects'
 end_nodes
 progress still.3.err
 silent still.hub.out still.hub.err still.2.err
+
+# A group, without a hub: at the profile's port, and at another. grouped NAME ADDRESS
+grouped() {
+    node "$1.2" recv ../profile 2 --group "$2"
+    node "$1.3" recv ../profile 3 --group "$2"
+    send_letter '' --group "$2"
+    letter_sent "a sender in a $1" '' "$1"
+    end_nodes
+    silent "$1.2.err" "$1.3.err"
+}
+printf 'fabric = "udp"\nport = %s\nreceivers = 2\nstep = 0\ninstance = 1\ngrtt = 100000\n' "$port" >"$scratch/profile"
+grouped group 127.255.255.255
+grouped group.port "127.255.255.255:$((port + 8))"
+
+# Addresses that are no broadcast addresses: this machine's own, one for several machines, and none.
+for at in 127.0.0.1 239.1.1.1 0.0.0.0; do
+    : >"$scratch/in"
+    reason="cannot join a group at $at:$((port + 1)): it is no broadcast address of this machine\n"
+    row "a group at $at" 6 'fault fabric\n' recv "$scratch/profile" 2 --group "$at"
+done
 
 # noise PORT..: two thousand random datagrams to each node, each time the same, as soon as it is there. They come from the place of a receiver that
 # is not there, so that the hub hands them on.
@@ -668,6 +708,7 @@ taken "$port" hub "$scratch/profile"
 forget
 taken $((port + 1)) send "$scratch/profile"
 taken $((port + 2)) recv "$scratch/profile" 2
+taken $((port + 2)) recv "$scratch/profile" 2 --group 127.255.255.255
 printf 'set fabric udp\nset port %s\n' "$port" >"$scratch/in"
 taken $((port + 1)) session
 end_nodes

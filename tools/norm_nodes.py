@@ -108,6 +108,11 @@ def end_by_signal() -> None:
     signal.signal(signal.SIGTERM, lambda *_: sys.exit(128 + signal.SIGTERM))
 
 
+def in_group(group: str | None) -> list[str]:
+    """The words that have a node join a group, if one is given."""
+    return [] if group is None else ['--group', group]
+
+
 def quiet() -> dict[str, str]:
     """The environment of a node whose progress a tool shows."""
     return {**os.environ, 'NORMD_PROGRESS': '0'}

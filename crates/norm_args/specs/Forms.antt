@@ -23,13 +23,15 @@ show_form = new_app (codes "show")
 abbrev pub generate_form : App
 generate_form = with_rule (new_app (codes "generate")) (word_named (codes "N"))
 
--- send PROFILE [--instance I]
+-- send PROFILE [--instance I] [--group ADDRESS[:PORT]]
 abbrev pub send_form : App
-send_form = with_rule (with_rule (new_app (codes "send")) (word_named (codes "PROFILE"))) (option_named (codes "instance"))
+send_form =
+    with_rule (with_rule (with_rule (new_app (codes "send")) (word_named (codes "PROFILE"))) (option_named (codes "instance"))) (option_named (codes "group"))
 
--- recv PROFILE NODE
+-- recv PROFILE NODE [--group ADDRESS[:PORT]]
 abbrev pub recv_form : App
-recv_form = with_rule (with_rule (new_app (codes "recv")) (word_named (codes "PROFILE"))) (word_named (codes "NODE"))
+recv_form =
+    with_rule (with_rule (with_rule (new_app (codes "recv")) (word_named (codes "PROFILE"))) (word_named (codes "NODE"))) (option_named (codes "group"))
 
 -- hub PROFILE
 abbrev pub hub_form : App

@@ -1,4 +1,5 @@
 pub mod Forms
+pub mod Groups
 pub mod Tasks
 pub mod Fits
 pub mod NodeTasks

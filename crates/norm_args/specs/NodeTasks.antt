@@ -4,6 +4,7 @@ use Rattle.std.specs.Option.{option_map}
 use Rattle.clap.specs.Words.{Row, first_of, all_of}
 use Rattle.norm_base.specs.declared.key.Key.TheVariants as key
 use Rattle.norm_script.specs.Words.{is_text, number_within}
+use Rattle.norm_args.specs.Groups.{Named, group_in}
 use Rattle.norm_args.specs.Forms.{send_form, recv_form, hub_form, gather_form, relay_form, found_in}
 use Rattle.norm_args.specs.Tasks.{value_given}
 use Rattle.norm_args.specs.declared.node_tasks.NodeTask.{NodeTask}
@@ -33,11 +34,16 @@ receive_of None number = None
 receive_of (Some profile) None = None
 receive_of (Some profile) (Some number) = Some (task.Receive profile number)
 
+-- A task of a node of its own, where the option of its group has no other word. The group is of the network, and no part of the task.
+abbrev pub with_group : Option (Option Named) → Option NodeTask → Option NodeTask
+with_group None asked = None
+with_group (Some group) asked = asked
+
 abbrev pub send_in : List (List ℕ) → Option NodeTask
-send_in words = option_and_then (λ rows. send_of (profile_in rows) (instance_in rows)) (found_in send_form words)
+send_in words = option_and_then (λ rows. with_group (group_in rows) (send_of (profile_in rows) (instance_in rows))) (found_in send_form words)
 
 abbrev pub receive_in : List (List ℕ) → Option NodeTask
-receive_in words = option_and_then (λ rows. receive_of (profile_in rows) (node_in rows)) (found_in recv_form words)
+receive_in words = option_and_then (λ rows. with_group (group_in rows) (receive_of (profile_in rows) (node_in rows))) (found_in recv_form words)
 
 abbrev pub hub_in : List (List ℕ) → Option NodeTask
 hub_in words = option_and_then (λ rows. option_map task.Hub (profile_in rows)) (found_in hub_form words)

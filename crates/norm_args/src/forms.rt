@@ -42,23 +42,31 @@ pub(crate) fn generate_form<'a>(alloc: Global) -> Result<Command<'a>, AllocError
     Ok(command)
 }
 
-/// `send PROFILE [--instance I]`.
+/// `send PROFILE [--instance I] [--group ADDRESS[:PORT]]`.
 pub(crate) fn send_form<'a>(alloc: Global) -> Result<Command<'a>, AllocError>
     ensures { IfOk result (λ command. app_of command ≡ send_form) }
 {
     let profile = Arg::new(alloc, "PROFILE").required(true);
     let instance = Arg::new(alloc, "instance").long("instance");
-    let command = Command::new(alloc, "send").arg(profile)?.arg(instance)?;
+    let group = Arg::new(alloc, "group").long("group");
+    let command = Command::new(alloc, "send")
+        .arg(profile)?
+        .arg(instance)?
+        .arg(group)?;
     Ok(command)
 }
 
-/// `recv PROFILE NODE`.
+/// `recv PROFILE NODE [--group ADDRESS[:PORT]]`.
 pub(crate) fn recv_form<'a>(alloc: Global) -> Result<Command<'a>, AllocError>
     ensures { IfOk result (λ command. app_of command ≡ recv_form) }
 {
     let profile = Arg::new(alloc, "PROFILE").required(true);
     let node = Arg::new(alloc, "NODE").required(true);
-    let command = Command::new(alloc, "recv").arg(profile)?.arg(node)?;
+    let group = Arg::new(alloc, "group").long("group");
+    let command = Command::new(alloc, "recv")
+        .arg(profile)?
+        .arg(node)?
+        .arg(group)?;
     Ok(command)
 }
 

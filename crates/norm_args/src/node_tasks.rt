@@ -9,6 +9,7 @@ ghost use Rattle.norm_args.specs.Fits.{FitsInstance, FitsNode};
 ghost use Rattle.norm_args.specs.NodeTasks.{profile_in, instance_in, node_in, send_of, receive_of, send_in, receive_in, hub_in, pairs_of, gather_in, relay_of, relay_in, node_task_of};
 
 use crate::forms::{found_in, gather_form, hub_form, recv_form, relay_form, send_form};
+use crate::groups::group_in;
 use crate::tasks::{value_given, word_in};
 use clap::ArgMatches;
 use norm_base::{Key, Memory, NodeId, Text};
@@ -132,7 +133,7 @@ fn receive_of(profile: Option<Text>, node: Option<NodeId>) -> Option<NodeTask>
     }
 }
 
-/// `None` if the words do not fit the form, or if the instance that they give is none.
+/// `None` if the words do not fit the form, or if the instance or the group that they give is none.
 fn send_in(alloc: Global, words: &[String]) -> Result<Option<NodeTask>, Memory>
     ensures task { IfOk result (λ task. task ≡ send_in (map string_bytes words.now)) }
     ensures fits { IfOk result (λ task. IfSome task FitsNode) }
@@ -140,6 +141,9 @@ fn send_in(alloc: Global, words: &[String]) -> Result<Option<NodeTask>, Memory>
     let form = send_form(alloc)?;
     match found_in(form, words)? {
         Some(matches) => {
+            if group_in(&matches).is_none() {
+                return Ok(None);
+            }
             let profile = profile_in(alloc, &matches)?;
             Ok(send_of(profile, instance_in(&matches)))
         }
@@ -147,7 +151,7 @@ fn send_in(alloc: Global, words: &[String]) -> Result<Option<NodeTask>, Memory>
     }
 }
 
-/// `None` if the words do not fit the form, or if the one after the profile is no number of a node.
+/// `None` if the words do not fit the form, if the one after the profile is no number of a node, or if the group that they give is none.
 fn receive_in(alloc: Global, words: &[String]) -> Result<Option<NodeTask>, Memory>
     ensures task { IfOk result (λ task. task ≡ receive_in (map string_bytes words.now)) }
     ensures fits { IfOk result (λ task. IfSome task FitsNode) }
@@ -155,6 +159,9 @@ fn receive_in(alloc: Global, words: &[String]) -> Result<Option<NodeTask>, Memor
     let form = recv_form(alloc)?;
     match found_in(form, words)? {
         Some(matches) => {
+            if group_in(&matches).is_none() {
+                return Ok(None);
+            }
             let profile = profile_in(alloc, &matches)?;
             Ok(receive_of(profile, node_in(&matches)))
         }
@@ -268,8 +275,9 @@ fn relay_in(alloc: Global, words: &[String]) -> Result<Option<NodeTask>, Memory>
 }
 
 /// Returns what the words after the program's name ask for under profiles: `send PROFILE [--instance I]` with an instance of 0 to 65535, `recv
-/// PROFILE NODE` with a node of 1 to 4294967294, `hub PROFILE`, `gather PROFILE NODE ..` with one to eight such pairs, or `relay UP NODE DOWN
-/// [--instance I]`. `None` if they have none of these forms. A request for help has none.
+/// PROFILE NODE` with a node of 1 to 4294967294, both with `--group ADDRESS[:PORT]` if there is no hub ([`group_asked`](crate::group_asked)), `hub
+/// PROFILE`, `gather PROFILE NODE ..` with one to eight such pairs, or `relay UP NODE DOWN [--instance I]`. `None` if they have none of these forms.
+/// A request for help has none.
 ///
 /// # Errors
 ///

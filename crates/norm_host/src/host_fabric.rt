@@ -11,10 +11,10 @@ ghost use Rattle.norm_udp.specs.Passing.{passed_by, misfit_by};
 
 use norm_base::{Datagram, Fabric, FabricFault, FabricKind, Local, Memory, NodeId, Profile};
 use norm_memory::{ChanceFabric, DirectFabric};
-use norm_udp::{Misfit, PassesOver, Senders, SocketCause, UdpFabric};
+use norm_udp::{GroupNews, Misfit, PassesOver, Senders, SocketCause, TellsGroup, UdpFabric};
 use std::alloc::Global;
 use std::marker::Model;
-use std::net::Net;
+use std::net::{Ipv4Addr, Net};
 use std::sync::Wait;
 use std::thread::Threads;
 use std::time::Clock;
@@ -110,6 +110,13 @@ impl<R: Net + Wait + Clock + Drop> HostFabric<R> {
             refused: None,
             faults: 0,
         })
+    }
+
+    /// Has a node alone over sockets join the group at this broadcast address, as [`UdpFabric::join`] does. Call it before `start`.
+    pub fn join(&mut self, address: Ipv4Addr, port: Option<u16>)
+        ensures { self.new ≡ self.old }
+    {
+        self.udp.join(address, port);
     }
 
     /// Waits until threads have sent all that was offered, and returns why one could not, as [`UdpFabric::drain`] does. Call it before the
@@ -259,5 +266,11 @@ impl<R: Net + Wait + Clock + Drop> PassesOver for HostFabric<R> {
         ensures { is_udp self.now.kind ≡ false → result ≡ None }
     {
         self.udp.misfit()
+    }
+}
+
+impl<R: Net + Wait + Clock + Drop> TellsGroup for HostFabric<R> {
+    fn group_news(&self) -> Option<GroupNews> {
+        self.udp.group_news()
     }
 }

@@ -10,13 +10,13 @@ use Rattle.hex.specs.declared.error.FromHexError.{FromHexError}
 use Rattle.hex.proofs.HexLemmas.{decode_of-ok, decode_sized-encode_lower, decode_sized-ok, decode_sized-twice}
 use Rattle.norm_base.specs.Octets.{AreOctets}
 use Rattle.norm_script.specs.Text.{split_at_first}
-use Rattle.norm_script.specs.Words.{is_name, number_within}
+use Rattle.norm_script.specs.Words.{is_file_name, is_name, is_numbered, number_within}
 use Rattle.norm_script.specs.Written.{ended}
 use Rattle.norm_script.proofs.BackLemmas.{split_is, within_is}
 use Rattle.norm_script.proofs.SoundLemmas.{number-some}
 use Rattle.norm_script.proofs.WordLemmas.{both, and_true, all_weaker, is_inner, is_word, split-word, decimal-word, within-written, hex-word, name-word}
 use Rattle.norm_mirror.specs.Laws.{ManifestLaws}
-use Rattle.norm_mirror.specs.Manifest.{is_numbered, is_file_name, IsEntry, IsFront, RiseFrom, IsFirstOther, entry_line, last_name, manifest_text, most_files, most_octets, name_before}
+use Rattle.norm_mirror.specs.Manifest.{IsEntry, IsFront, RiseFrom, IsFirstOther, entry_line, last_name, manifest_text, most_files, most_octets, name_before}
 use Rattle.norm_mirror.specs.Reading.{cut, digest_if, digest_by, digest_of, entry_with, entry_behind, entry_in, entry_of, goes_on, kept_if, next_entry, is_end, read_end, read_on, read_behind, manifest_of}
 use Rattle.norm_mirror.specs.declared.entry.Entry.{Entry}
 use Rattle.norm_mirror.proofs.CutLemmas.{is_inside, has_no_feed, HaveNoFeed, cut_whole, cut_no_feed, cut_some, cut_none, split_feed, split_no_feed}

@@ -1,11 +1,11 @@
 -- Manifests: what they say, and how they are spelt.
-use Rattle.std.specs.Prelude.{ℕ, ◌+◌, ◌≤◌, ◌≡◌, ◌&&◌, ◌==◌, not, Bool, true, List, [], ◌∷◌, ◌++◌, length, nat_le, fold, map, decimal, slice_index}
+use Rattle.std.specs.Prelude.{ℕ, ◌+◌, ◌≤◌, ◌≡◌, Bool, true, List, [], ◌∷◌, ◌++◌, length, nat_le, fold, map, decimal}
 use Rattle.std.specs.Cmp.Lexicographic.{slice_cmp}
 use Rattle.std.specs.List.{AllByRecursion}
 use Rattle.std.specs.Ordering.{is_lt, nat_cmp}
 use Rattle.hex.specs.Hex.{encode_lower}
 use Rattle.norm_base.specs.Octets.{AreOctets}
-use Rattle.norm_script.specs.Words.{is_digit, is_name}
+use Rattle.norm_script.specs.Words.{is_file_name}
 use Rattle.norm_script.specs.Written.{ended}
 use Rattle.norm_mirror.specs.declared.entry.Entry.{Entry}
 
@@ -15,14 +15,6 @@ most_octets = 16777216
 
 abbrev pub most_files : ℕ
 most_files = 1024
-
--- a name begins with `n` and a digit, as the names of copies do
-abbrev pub is_numbered : List ℕ → Bool
-is_numbered name = nat_le 2 (length name) && slice_index name 0 == 110 && is_digit (slice_index name 1)
-
--- the name of a file of a folder
-abbrev pub is_file_name : List ℕ → Bool
-is_file_name name = is_name name && not (is_numbered name)
 
 -- a file of a folder: its name, its length, and the digest of its octets
 pub record IsEntry (e : Entry) : Type 0 where

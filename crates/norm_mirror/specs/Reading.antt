@@ -4,8 +4,8 @@ use Rattle.std.specs.Cmp.Lexicographic.{pointwise}
 use Rattle.hex.specs.Hex.{decode_sized, encode_lower}
 use Rattle.hex.specs.declared.error.FromHexError.{FromHexError}
 use Rattle.norm_script.specs.Text.{split_at_first}
-use Rattle.norm_script.specs.Words.{number_within}
-use Rattle.norm_mirror.specs.Manifest.{is_file_name, name_before, last_name, most_files, most_octets, IsFirstOther}
+use Rattle.norm_script.specs.Words.{is_file_name, number_within}
+use Rattle.norm_mirror.specs.Manifest.{name_before, last_name, most_files, most_octets, IsFirstOther}
 use Rattle.norm_mirror.specs.declared.entry.Entry.{Entry}
 use Rattle.norm_mirror.specs.declared.reading.ManifestFault.{ManifestFault}
 use Rattle.norm_mirror.specs.declared.reading.ManifestFault.TheVariants.{Line, Memory}

@@ -249,7 +249,7 @@ impl Check {
         self.take_by(up, Some(*digest))
     }
 
-    /// Whether a manifest and all its files were taken.
+    /// Whether a manifest and all its files were taken. It stays true if a hand-up after them is refused.
     pub fn done(&self) -> bool
         ensures { result ≡ is_done self.now }
     {

@@ -1,22 +1,18 @@
 //! Reads manifests.
 
 ghost use Rattle.std.specs.Prelude.{◌≡◌, Ok, Err, None, Some, if◌then◌else◌, IfOk, IfErr, MatchResult};
-ghost use Rattle.norm_mirror.specs.Manifest.{is_numbered, is_file_name, name_before, last_name, Spells};
+ghost use Rattle.norm_mirror.specs.Manifest.{name_before, last_name, Spells};
 ghost use Rattle.norm_mirror.specs.Reading.{digest_of, entry_of, goes_on, next_entry, is_end, manifest_of, IsRefused, IsLineFault};
 
 use crate::entry::Entry;
 use hex::FromHex;
-use norm_base::{Memory, Text};
-use norm_script::{name_of, number_within, split_at_first};
+use norm_base::Memory;
+use norm_script::{MOST_FILES, file_name_of, number_within, split_at_first};
 use std::alloc::Global;
 
 /// The most octets of a file.
 // Our own choice: as many as a window may hold, so that a session can send the file.
 const MOST_OCTETS: u32 = 16_777_216;
-
-/// The most files of a folder.
-// Our own choice. With a manifest and a mark after each object, these are 2,050 of the 4,096 commands of a script.
-const MOST_FILES: usize = 1024;
 
 /// Why octets are no manifest.
 #[derive(Clone, Copy, Debug)]
@@ -25,24 +21,6 @@ pub enum ManifestFault {
     Line { n: u32 },
     /// Memory ran out.
     Memory,
-}
-
-/// Whether a name begins with `n` and a digit.
-// The copies of receiver 2 have the names `n2-NAME`, so such a name could be that of a copy.
-fn is_numbered(name: &[u8]) -> bool
-    ensures { result ≡ is_numbered name.now }
-{
-    name.len() >= 2 && name[0] == b'n' && (48 <= name[1] && name[1] <= 57)
-}
-
-/// The name of a folder's file that a word is. `None` if it is none.
-fn file_name_of(alloc: Global, word: &[u8]) -> Result<Option<Text>, Memory>
-    ensures { IfOk result (λ name. name ≡ (if is_file_name word.now then Some word.now else None)) }
-{
-    if is_numbered(word) {
-        return Ok(None);
-    }
-    name_of(alloc, word)
 }
 
 /// The digest that a word of 64 lower-case digits spells. `None` if it is anything else.

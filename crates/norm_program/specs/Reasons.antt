@@ -23,10 +23,12 @@ abbrev pub generate_takes : List ℕ
 generate_takes = codes "generate takes one word, a number from 0 to 4294967295"
 
 abbrev pub send_takes : List ℕ
-send_takes = codes "send takes one word, the path of a profile, and --instance I, from 0 to 65535, at most once"
+send_takes =
+    codes "send takes one word, the path of a profile, --instance I, from 0 to 65535, and --group ADDRESS or ADDRESS:PORT, four numbers with points and a port from 1024 to 65534, each at most once"
 
 abbrev pub recv_takes : List ℕ
-recv_takes = codes "recv takes two words, the path of a profile and a node, from 1 to 4294967294"
+recv_takes =
+    codes "recv takes two words, the path of a profile and a node, from 1 to 4294967294, and --group ADDRESS or ADDRESS:PORT, four numbers with points and a port from 1024 to 65534, at most once"
 
 abbrev pub hub_takes : List ℕ
 hub_takes = codes "hub takes one word, the path of a profile"

@@ -25,13 +25,13 @@ const SESSION_TAKES: &str =
 // The bounds are those of 32 bits, of which `generate` takes every number.
 const GENERATE_TAKES: &str = "generate takes one word, a number from 0 to 4294967295";
 
-// The bounds are those of the key `instance`.
+// The bounds are those of the key `instance`, and those of a group's port.
 const SEND_TAKES: &str =
-    "send takes one word, the path of a profile, and --instance I, from 0 to 65535, at most once";
+    "send takes one word, the path of a profile, --instance I, from 0 to 65535, and --group ADDRESS or ADDRESS:PORT, four numbers with points and a port from 1024 to 65534, each at most once";
 
 // The bounds are those of a node's id (RFC 5740 section 4.1). Whether the profile has the node is seen only after the profile is loaded.
 const RECV_TAKES: &str =
-    "recv takes two words, the path of a profile and a node, from 1 to 4294967294";
+    "recv takes two words, the path of a profile and a node, from 1 to 4294967294, and --group ADDRESS or ADDRESS:PORT, four numbers with points and a port from 1024 to 65534, at most once";
 
 // Not as for `show`, which names the word that is too many: `hub` is refused without a path too, and then no word could be named.
 const HUB_TAKES: &str = "hub takes one word, the path of a profile";

@@ -7,6 +7,7 @@ use Rattle.norm_udp.specs.declared.cause.SocketCause.TheVariants as cause
 abbrev pub is_sending : SocketCause → Bool
 is_sending (cause.Bind address error) = false
 is_sending (cause.Connect address error) = false
+is_sending (cause.NoBroadcast address) = false
 is_sending (cause.Send address error) = true
 is_sending (cause.Receive address error) = false
 is_sending (cause.Within fabric) = false

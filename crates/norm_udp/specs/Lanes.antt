@@ -23,3 +23,4 @@ IsHub p lanes (open_as.Hub profile address socket receivers threads) =
 IsHub p lanes open_as.Nothing = ⊥
 IsHub p lanes (open_as.All profile members place) = ⊥
 IsHub p lanes (open_as.One member hub threads) = ⊥
+IsHub p lanes (open_as.Group joined) = ⊥

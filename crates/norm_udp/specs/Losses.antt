@@ -5,3 +5,13 @@ abbrev pub is_loss : Option ℤ → Bool
 is_loss None = false
 is_loss (Some (pos code)) = code == 11 || code == 105 || code == 111
 is_loss (Some (negsuc code)) = false
+
+-- In a group, what shows that the network cannot be reached now is a lost datagram too: it is down (100), unreachable (101), or a host of it is (113).
+abbrev pub is_unreachable : Option ℤ → Bool
+is_unreachable None = false
+is_unreachable (Some (pos code)) = code == 100 || code == 101 || code == 113
+is_unreachable (Some (negsuc code)) = false
+
+-- an error of a socket in a group is a lost datagram: one that it is outside of a group, or one of these
+abbrev pub is_group_loss : Option ℤ → Bool
+is_group_loss code = is_loss code || is_unreachable code

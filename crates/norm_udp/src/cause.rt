@@ -18,6 +18,10 @@ pub enum SocketCause {
         address: SocketAddr,
         error: io::Error,
     },
+    /// A group cannot be joined at this address, because it is no broadcast address of this machine.
+    NoBroadcast {
+        address: SocketAddr,
+    },
     /// A datagram could not be sent to this address, for another reason than that it was lost.
     Send {
         address: SocketAddr,
@@ -50,6 +54,10 @@ impl fmt::Display for SocketCause {
             SocketCause::Connect { address, error } => {
                 write!(f, "cannot connect to {address}: {error}")
             }
+            SocketCause::NoBroadcast { address } => write!(
+                f,
+                "cannot join a group at {address}: it is no broadcast address of this machine"
+            ),
             SocketCause::Send { address, error } => write!(f, "cannot send to {address}: {error}"),
             SocketCause::Receive { address, error } => {
                 write!(f, "cannot receive at {address}: {error}")

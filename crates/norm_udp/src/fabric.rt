@@ -13,15 +13,17 @@ ghost use Rattle.norm_udp.specs.Untold.{untold};
 
 use crate::address::Located;
 use crate::cause::SocketCause;
+use crate::group::Asked;
 use crate::misfit::Misfit;
-use crate::pace::{Pace, Pause, sleep_since};
+use crate::news::{GroupNews, TellsGroup};
+use crate::pace::{Pace, Pause, moment, sleep_since};
 use crate::senders::Senders;
 use crate::sieve::{PassesOver, Sieve};
 use crate::socket::{BUFFER, MOST_PASSED};
 use crate::sockets::{Open, OpenFault, open_for};
 use norm_base::{Datagram, Fabric, FabricFault, Local, Memory, NodeId, Profile};
 use std::alloc::Global;
-use std::net::Net;
+use std::net::{Ipv4Addr, Net};
 use std::sync::Wait;
 use std::thread;
 use std::time::{Clock, Duration};
@@ -46,7 +48,8 @@ fn gap_of(profile: &Profile, local: &Local) -> u64 {
 
 /// Receives the next datagram that the sieve lets through. `None` if [`Open::look`] returns it, or after [`MOST_PASSED`] that the sieve
 /// passed over.
-fn look_through(
+fn look_through<R: Clock>(
+    rt: &R,
     open: &mut Open,
     sieve: &mut Sieve,
     buffer: &mut [u8],
@@ -59,7 +62,7 @@ fn look_through(
 {
     // Bounded, because a sender of another profile that sends without end would otherwise keep the node from its turn.
     for _ in 0..MOST_PASSED {
-        let Some(found) = open.look(buffer, into)? else {
+        let Some(found) = open.look(rt, buffer, into)? else {
             return Ok(None);
         };
         if !sieve.passes_over(into.bytes()) {
@@ -74,17 +77,19 @@ fn look_through(
 /// this order: [`send_by`](UdpFabric::send_by) if threads are to send, `start`, `offer` and `take` at will, and [`drain`](UdpFabric::drain)
 /// before the process ends. To whom datagrams go depends on the members in this process. If all are here, what one offers goes to each
 /// other. A member alone offers to the hub. The hub offers a member's datagram to each other member, and its `take` returns the member that
-/// sent one.
+/// sent one. A member alone that was told to [`join`](UdpFabric::join) a group offers to all of it, and there is no hub.
 ///
-/// A datagram is lost if nobody is there to receive it, or if a buffer or the lane of a thread is full. Any other error of a send or a
+/// A datagram is lost if nobody is there to receive it, or if a buffer or the lane of a thread is full; in a group also if the network cannot
+/// be reached. Any other error of a send or a
 /// receive fails the call, or may fail a later one if a thread sends. Nobody receives a datagram of more than 1,500 octets, and the hub
-/// none of an address of no member. A receiver alone passes over an instance of its sender that does not fit its profile ([`PassesOver`]).
+/// none of an address of no member. In a group a node takes what another member sent, from the machine that it heard first. A receiver alone passes over an instance of its sender that does not fit its profile ([`PassesOver`]).
 /// Contracts cannot rely on what was sent or received.
 #[derive(Drop)]
 pub struct UdpFabric<R> {
     rt: R,
     alloc: Global,
     senders: Senders,
+    asked: Option<Asked>,
     open: Open,
     sieve: Sieve,
     pace: Pace,
@@ -108,6 +113,7 @@ impl<R: Net + Wait + Clock + Drop> UdpFabric<R> {
             rt,
             alloc,
             senders: Senders::none(alloc),
+            asked: None,
             open: Open::Nothing,
             sieve: Sieve::open(),
             pace: Pace::new(0),
@@ -125,6 +131,16 @@ impl<R: Net + Wait + Clock + Drop> UdpFabric<R> {
         ensures misfit { misfit_by self.new ≡ misfit_by self.old }
     {
         self.senders = senders;
+    }
+
+    /// Has a node alone join the group at this broadcast address, in place of a hub, at the starts from now on. `port` is that to which the
+    /// sender sends, and the profile's if it is `None`. Receivers send to the next one, so one above 65534 counts as 65534. Call it before `start`.
+    pub fn join(&mut self, address: Ipv4Addr, port: Option<u16>)
+        ensures faults { self.new.faults ≡ self.old.faults }
+        ensures passed { passed_by self.new ≡ passed_by self.old }
+        ensures misfit { misfit_by self.new ≡ misfit_by self.old }
+    {
+        self.asked = Some(Asked { address, port });
     }
 
     /// Closes the node's sockets. Each thread still sends what was offered before, and then closes its own; only after that is a sender's
@@ -162,13 +178,8 @@ impl<R: Net + Wait + Clock + Drop> UdpFabric<R> {
         self.cause = Some(cause);
     }
 
-    /// Returns the clock's microseconds, or 0 if it fails.
     fn now(&self) -> u64 {
-        match self.rt.monotonic() {
-            Ok(time) => u64::try_from(time.as_micros()).unwrap_or(0),
-            // A clock that fails costs pauses of another length.
-            Err(_) => 0,
-        }
+        moment(&self.rt)
     }
 
     /// Notes that a datagram is offered, and when if the node has a gap.
@@ -191,7 +202,13 @@ impl<R: Net + Wait + Clock + Drop> UdpFabric<R> {
         ensures pace { self.new.pace ≡ self.old.pace }
         ensures faults { self.new.faults ≡ self.old.faults }
     {
-        look_through(&mut self.open, &mut self.sieve, &mut self.buffer, into)
+        look_through(
+            &self.rt,
+            &mut self.open,
+            &mut self.sieve,
+            &mut self.buffer,
+            into,
+        )
     }
 
     /// Looks until a datagram is there, and at most until this moment in microseconds of the clock or [`MOST_LOOKS`] times. If none came,
@@ -259,9 +276,10 @@ impl<R: Net + Wait + Clock + Drop> UdpFabric<R> {
     }
 
     /// Sends a member's datagram, or has a thread send it. Fails, and sends nothing, if it finds a thread's failure that no call reported.
-    fn send(&self, from: NodeId, bytes: &[u8]) -> Result<(), SocketCause>
+    fn send(&mut self, from: NodeId, bytes: &[u8]) -> Result<(), SocketCause>
         requires { length bytes.now ≤ datagram_room }
-        ensures { IfErr result (λ cause. is_sending cause ≡ true) }
+        ensures err { IfErr result (λ cause. is_sending cause ≡ true) }
+        ensures faults { self.new.faults ≡ self.old.faults }
     {
         // So that a later call reports what a thread failed at. If none did, a fault would pass for data that the network lost.
         self.senders.check(&self.rt)?;
@@ -302,7 +320,14 @@ impl<R: Net + Wait + Clock + Drop> Fabric for UdpFabric<R> {
         self.close();
         self.pace = Pace::new(gap_of(profile, &local));
         self.sieve = Sieve::of(profile, &local);
-        match open_for(&self.rt, self.alloc, &self.senders, profile, local) {
+        match open_for(
+            &self.rt,
+            self.alloc,
+            &self.senders,
+            &self.asked,
+            profile,
+            local,
+        ) {
             Ok(open) => {
                 self.open = open;
                 Ok(())
@@ -352,5 +377,11 @@ impl<R> PassesOver for UdpFabric<R> {
         ensures { result ≡ misfit_by self.now }
     {
         self.sieve.misfit
+    }
+}
+
+impl<R> TellsGroup for UdpFabric<R> {
+    fn group_news(&self) -> Option<GroupNews> {
+        self.open.group_news()
     }
 }

@@ -2,7 +2,7 @@
 
 ghost use Rattle.std.specs.Prelude.{◌≡◌};
 ghost use Rattle.std.specs.IoError.{raw_os_error};
-ghost use Rattle.norm_udp.specs.Losses.{is_loss};
+ghost use Rattle.norm_udp.specs.Losses.{is_loss, is_unreachable};
 
 use libc::{EAGAIN, ECONNREFUSED};
 use std::io;
@@ -18,6 +18,26 @@ pub(crate) fn is_loss(error: &io::Error) -> bool
     match error.raw_os_error() {
         // NORM makes good what is lost, so a full buffer or a peer that has not started yet is no reason to end.
         Some(code) => code == EAGAIN || code == NO_BUFFERS || code == ECONNREFUSED,
+        None => false,
+    }
+}
+
+/// The network is down (Linux's ENETDOWN), cannot be reached (ENETUNREACH), or a host of it cannot (EHOSTUNREACH).
+// Linux's numbers, as above.
+const NETWORK_DOWN: i32 = 100;
+
+const NETWORK_UNREACHABLE: i32 = 101;
+
+const HOST_UNREACHABLE: i32 = 113;
+
+/// Whether an error says that the network cannot be reached now. In a group that is a loss too: an interface that is down comes back.
+pub(crate) fn is_unreachable(error: &io::Error) -> bool
+    ensures { result ≡ is_unreachable (raw_os_error error.now) }
+{
+    match error.raw_os_error() {
+        Some(code) => {
+            code == NETWORK_DOWN || code == NETWORK_UNREACHABLE || code == HOST_UNREACHABLE
+        }
         None => false,
     }
 }

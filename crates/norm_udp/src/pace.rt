@@ -3,6 +3,8 @@
 ghost use Rattle.std.specs.Prelude.{◌≡◌};
 ghost use Rattle.norm_udp.specs.Pausing.{look_until, sleep_since, pause_of, new_pace, with_offer_at, made_busy, found_empty};
 
+use std::time::Clock;
+
 /// The most microseconds for which a sender looks after an offer.
 // Our own choice: a longer gap leaves time to sleep, and a sender that looks takes a whole processor.
 const LONGEST_LOOK: u64 = 1_000;
@@ -18,6 +20,15 @@ const SHORT_SLEEP: u64 = 250;
 /// Microseconds of any other sleep.
 // Our own choice: a node at rest then wakes a thousand times a second at most.
 const LONG_SLEEP: u64 = 1_000;
+
+/// Returns the clock's microseconds, or 0 if it fails.
+pub(crate) fn moment<R: Clock>(rt: &R) -> u64 {
+    match rt.monotonic() {
+        Ok(time) => u64::try_from(time.as_micros()).unwrap_or(0),
+        // A clock that fails costs pauses of another length, and a receiver then keeps its sender's machine.
+        Err(_) => 0,
+    }
+}
 
 /// What to do if nothing is there to take.
 #[derive(Clone, Copy, Debug, PartialEq, Eq)]

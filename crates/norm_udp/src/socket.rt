@@ -5,10 +5,14 @@ ghost use Rattle.norm_udp.specs.Failures.{is_sending};
 
 use crate::cause::SocketCause;
 use crate::loss::is_loss;
-use libc::net::{SO_RCVBUF, SOL_SOCKET, setsockopt};
+use libc::EACCES;
+use libc::net::{
+    AF_INET, SO_RCVBUF, SO_REUSEPORT, SOCK_CLOEXEC, SOCK_DGRAM, SOCK_NONBLOCK, SOL_SOCKET,
+};
 use norm_base::{DATAGRAM_ROOM, Datagram};
+use os::FromRawFd;
 use std::io;
-use std::net::{Net, SocketAddr, UdpSocket};
+use std::net::{Ipv4Addr, Net, SocketAddr, SocketAddrV4, UdpSocket};
 use std::os::fd::AsRawFd;
 
 /// Octets of the buffer that a datagram is received into: one more than a datagram may have, so that a longer one shows.
@@ -24,12 +28,20 @@ const RECEIVE_BUFFER: i32 = 4 << 20;
 // Our own choice. Strangers may send without end, and a node that is asked for a datagram has to come back to its turn.
 pub(crate) const MOST_PASSED: u32 = 1_024;
 
+/// The hops that a datagram to a group may take.
+// Our own choice: none beyond the subnet. If the machine has lost its address there and has a default route, the system takes the datagram
+// for one to a single host, and sends it to the router.
+const HOPS: u32 = 1;
+
+/// The octets of C's `sockaddr_in`.
+const ADDRESS_OCTETS: u32 = 16;
+
 /// Asks for a large receive buffer.
 fn ask_for_room(socket: &UdpSocket) {
     let mut value = [0u8; 16];
     value[..4].copy_from_slice(&RECEIVE_BUFFER.to_ne_bytes());
     // Whatever it answers is of no use: with a smaller buffer more is lost, and NORM makes that good.
-    let _ = unsafe { setsockopt(socket.as_raw_fd(), SOL_SOCKET, SO_RCVBUF, &value, 4) };
+    let _ = unsafe { libc::net::setsockopt(socket.as_raw_fd(), SOL_SOCKET, SO_RCVBUF, &value, 4) };
 }
 
 /// Opens a socket that is bound to this address and never waits.
@@ -63,6 +75,80 @@ pub(crate) fn connect<R: Net>(
     let socket = at(rt, own)?;
     match socket.connect(address) {
         Ok(()) => Ok(socket),
+        Err(error) => Err(SocketCause::Connect { address, error }),
+    }
+}
+
+/// Returns the last error of the system.
+fn last_error() -> io::Error {
+    io::Error::from_raw_os_error(os::errno())
+}
+
+/// Returns the octets of C's `sockaddr_in` with this address and port.
+fn address_octets(address: Ipv4Addr, port: u16) -> [u8; 128] {
+    let mut octets = [0u8; 128];
+    octets[..2].copy_from_slice(&(AF_INET as u16).to_ne_bytes());
+    octets[2..4].copy_from_slice(&port.to_be_bytes());
+    octets[4..8].copy_from_slice(&address.octets());
+    octets
+}
+
+/// Lets other sockets of this user have the same address. Each of them then gets what is sent there.
+// Not SO_REUSEADDR, by which another user's socket could get it too.
+fn share(socket: &UdpSocket) -> bool {
+    let mut value = [0u8; 16];
+    value[..4].copy_from_slice(&1i32.to_ne_bytes());
+    unsafe { libc::net::setsockopt(socket.as_raw_fd(), SOL_SOCKET, SO_REUSEPORT, &value, 4) >= 0 }
+}
+
+/// Opens a socket at a broadcast address, beside others there, that sends to all of them and never waits.
+// By the C library's calls, because `bind_udp` binds before an option can be set. `_rt` is the permission to use the network.
+fn shared_at<R: Net>(_rt: &R, address: Ipv4Addr, port: u16) -> io::Result<UdpSocket> {
+    let fd = unsafe { libc::net::socket(AF_INET, SOCK_DGRAM | SOCK_NONBLOCK | SOCK_CLOEXEC, 0) };
+    if fd < 0 {
+        return Err(last_error());
+    }
+    let socket = unsafe { UdpSocket::from_raw_fd(fd) };
+    if !share(&socket) {
+        return Err(last_error());
+    }
+    socket.set_broadcast(true)?;
+    socket.set_ttl(HOPS)?;
+    let octets = address_octets(address, port);
+    if unsafe { libc::net::bind(socket.as_raw_fd(), &octets, ADDRESS_OCTETS) } < 0 {
+        return Err(last_error());
+    }
+    Ok(socket)
+}
+
+/// Opens a socket at a broadcast address and this port, which other sockets of this user may have too, and asks for a receive buffer of
+/// [`RECEIVE_BUFFER`] octets.
+pub(crate) fn bind_shared<R: Net>(
+    rt: &R,
+    ip: Ipv4Addr,
+    port: u16,
+) -> Result<UdpSocket, SocketCause> {
+    match shared_at(rt, ip, port) {
+        Ok(socket) => {
+            ask_for_room(&socket);
+            Ok(socket)
+        }
+        Err(error) => Err(SocketCause::Bind {
+            address: SocketAddr::V4(SocketAddrV4::new(ip, port)),
+            error,
+        }),
+    }
+}
+
+/// Fails unless this is a broadcast address of this machine.
+// A socket binds to the machine's own address, to 0.0.0.0 and to a multicast address too. Only if an address is a broadcast address, the
+// system refuses to connect a socket that does not ask for broadcast, with EACCES.
+pub(crate) fn check_broadcast<R: Net>(rt: &R, address: SocketAddr) -> Result<(), SocketCause> {
+    let any = SocketAddr::V4(SocketAddrV4::new(Ipv4Addr::new(0, 0, 0, 0), 0));
+    let socket = at(rt, any)?;
+    match socket.connect(address) {
+        Ok(()) => Err(SocketCause::NoBroadcast { address }),
+        Err(error) if error.raw_os_error() == Some(EACCES) => Ok(()),
         Err(error) => Err(SocketCause::Connect { address, error }),
     }
 }

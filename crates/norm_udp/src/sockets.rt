@@ -10,7 +10,10 @@ ghost use Rattle.norm_udp.specs.Ways.{nodes_of, copies, is_on_way, way_from};
 
 use crate::address::{Located, address_at, address_of, gets_copy, heard_from, is_node, member_at};
 use crate::cause::SocketCause;
+use crate::group::{Asked, Group};
+use crate::joined::{Joined, join};
 use crate::member::{Member, open_own, open_way};
+use crate::news::GroupNews;
 use crate::senders::Senders;
 use crate::socket::{MOST_PASSED, bind, receive, receive_from, send_to};
 use crate::way::{Way, send_copies};
@@ -64,6 +67,8 @@ pub(crate) enum Open {
         hub: SocketAddr,
         threads: usize,
     },
+    /// One member's, in a group without a hub.
+    Group(Joined),
     /// The hub's own, and one that sends to each receiver. If `threads` is not 0, this many threads have these, and `receivers` is empty.
     Hub {
         profile: Profile,
@@ -114,10 +119,12 @@ fn share_sending<R: Wait + Clock>(
     }
 }
 
-/// Opens one member's socket. Fails if the node is no member of the profile.
+/// Opens one member's sockets: those of a group if one is asked for, else one that sends to the hub. Fails if the node is no member of the
+/// profile.
 fn open_one<R: Net + Wait + Clock>(
     rt: &R,
     senders: &Senders,
+    asked: &Option<Asked>,
     profile: &Profile,
     node: NodeId,
 ) -> Result<Open, OpenFault> {
@@ -127,6 +134,10 @@ fn open_one<R: Net + Wait + Clock>(
             address: hub,
             error: io::Error::from(ErrorKind::AddrNotAvailable),
         }));
+    }
+    if let Some(asked) = asked {
+        let joined = join(rt, &Group::of(asked, profile), profile, node)?;
+        return Ok(Open::Group(joined));
     }
     let member = open_own(rt, profile, node)?;
     let threads = if node.number() == profile.sender {
@@ -281,17 +292,18 @@ fn open_hub<R: Net + Wait + Clock>(
 }
 
 /// Opens the sockets, and tells the threads of a hub or a sender alone to whom they send. If this fails, a thread may have been told
-/// already.
+/// already. `asked` is the group that a member alone joins, if one is asked for.
 pub(crate) fn open_for<R: Net + Wait + Clock>(
     rt: &R,
     alloc: Global,
     senders: &Senders,
+    asked: &Option<Asked>,
     profile: &Profile,
     local: Local,
 ) -> Result<Open, OpenFault> {
     match local {
         Local::All => open_all(rt, alloc, profile),
-        Local::One(node) => open_one(rt, senders, profile, node),
+        Local::One(node) => open_one(rt, senders, asked, profile, node),
         Local::Hub => open_hub(rt, alloc, senders, profile),
     }
 }
@@ -419,10 +431,10 @@ fn receive_from_member(
 }
 
 impl Open {
-    /// Sends a member's datagram to the other members; from a member alone, to the hub. It goes nowhere if nothing is open. If a thread
-    /// sends it, a failure does not show here, and a lane that stays full loses it.
+    /// Sends a member's datagram to the other members; from a member alone, to its group or the hub. It goes nowhere if nothing is open. If
+    /// a thread sends it, a failure does not show here, and a lane that stays full loses it.
     pub(crate) fn send<R: Wait + Clock>(
-        &self,
+        &mut self,
         rt: &R,
         senders: &Senders,
         from: NodeId,
@@ -449,6 +461,7 @@ impl Open {
                 senders.post(rt, *threads, from, bytes);
                 Ok(())
             }
+            Open::Group(joined) => joined.send(bytes),
             Open::Hub {
                 profile,
                 socket,
@@ -465,9 +478,11 @@ impl Open {
     }
 
     /// Takes the next datagram, and returns the member that it is for; at the hub, the one that sent it. `None` if it found none. One may
-    /// still be there after a loss that the system reports, or [`MOST_PASSED`] that are too long or, at the hub, of no member.
-    pub(crate) fn look(
+    /// still be there after a loss that the system reports, or [`MOST_PASSED`] that are too long or, at the hub and in a group, of no
+    /// member.
+    pub(crate) fn look<R: Clock>(
         &mut self,
+        rt: &R,
         buffer: &mut [u8],
         into: &mut Datagram,
     ) -> Result<Option<Located>, SocketCause>
@@ -484,12 +499,21 @@ impl Open {
                 }
                 Ok(None)
             }
+            Open::Group(joined) => joined.look(rt, buffer, into),
             Open::Hub {
                 profile,
                 address,
                 socket,
                 ..
             } => receive_from_member(profile, socket, *address, buffer, into),
+        }
+    }
+
+    /// Returns what a member in a group reports.
+    pub(crate) fn group_news(&self) -> Option<GroupNews> {
+        match self {
+            Open::Group(joined) => Some(joined.news),
+            Open::Nothing | Open::All { .. } | Open::One { .. } | Open::Hub { .. } => None,
         }
     }
 }

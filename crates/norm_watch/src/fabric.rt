@@ -13,7 +13,7 @@ use norm_ext::MessageType;
 use norm_ext::flags::REPAIR;
 use norm_ext::items::has_flag;
 use norm_ext::places::FLAGS_AT;
-use norm_udp::PassesOver;
+use norm_udp::{PassesOver, TellsGroup, Unsent};
 use std::fmt;
 use std::time::{Clock, Duration};
 
@@ -178,11 +178,15 @@ pub struct WatchedFabric<'a, R, F> {
     /// How many more takes go by before the clock is read.
     takes_left: u32,
     silence: Silence,
+    /// Whether a group's second machine was said.
+    has_said_second: bool,
+    /// What was said last of a group to which nothing can be sent. `None` if it was said since that sending works again.
+    unsent: Option<Unsent>,
     /// The clock's moment when a line of progress was drawn last. 0 before the first.
     drawn: Duration,
 }
 
-impl<'a, R: Eprint + Clock, F: Fabric + PassesOver> WatchedFabric<'a, R, F> {
+impl<'a, R: Eprint + Clock, F: Fabric + PassesOver + TellsGroup> WatchedFabric<'a, R, F> {
     /// Returns a network around this one. `says` tells whether to print the line of progress and each datagram. Warnings do not depend on
     /// it.
     pub fn of(rt: R, fabric: F, says: Says, tally: &'a Tally) -> WatchedFabric<'a, R, F>
@@ -199,6 +203,8 @@ impl<'a, R: Eprint + Clock, F: Fabric + PassesOver> WatchedFabric<'a, R, F> {
             counts_takes: false,
             takes_left: 0,
             silence: Silence::from(Duration::ZERO),
+            has_said_second: false,
+            unsent: None,
             drawn: Duration::ZERO,
         }
     }
@@ -214,10 +220,15 @@ impl<'a, R: Eprint + Clock, F: Fabric + PassesOver> WatchedFabric<'a, R, F> {
         let _ = eprintln!(self.rt; "{what}");
     }
 
-    /// Says that nothing came to a node, and if it is a member, at which address the hub is to be.
+    /// Says that nothing came to a node, and if it is a member, at which address the hub is to be. In a group there is none.
     fn say_unheard(&self, node: &Node, how_long: &str) {
-        let port = node.port;
         wipe(&self.rt, self.tally);
+        if let Some(news) = self.fabric.group_news() {
+            let address = news.hears_at;
+            let _ = eprintln!(self.rt; "nothing came to {address}{how_long}");
+            return;
+        }
+        let port = node.port;
         let _ = eprintln!(self.rt; "nothing came to 127.0.0.1:{port}{how_long}");
         if !matches!(node.role, Role::Hub) {
             let hub = node.hub;
@@ -241,6 +252,8 @@ impl<'a, R: Eprint + Clock, F: Fabric + PassesOver> WatchedFabric<'a, R, F> {
         self.node = node_of(profile, local);
         self.strays = Strays::of(profile, local);
         self.passed = 0;
+        self.has_said_second = false;
+        self.unsent = None;
         self.counts_takes = counts_takes(local);
         self.takes_left = 0;
         self.silence = Silence::from(moment(&self.rt));
@@ -313,6 +326,38 @@ impl<'a, R: Eprint + Clock, F: Fabric + PassesOver> WatchedFabric<'a, R, F> {
         self.silence.note();
     }
 
+    /// Says of a group that datagrams cannot be sent now, and that they can again.
+    fn look_unsent(&mut self, unsent: Option<Unsent>)
+        ensures { watched_by self.new ≡ watched_by self.old }
+    {
+        match (unsent, self.unsent) {
+            (Some(now), None) => self.say(&now),
+            (None, Some(before)) => {
+                let address = before.address;
+                wipe(&self.rt, self.tally);
+                let _ = eprintln!(self.rt; "sending to {address} works again");
+            }
+            _ => return,
+        }
+        self.unsent = unsent;
+    }
+
+    /// Says what a group reports: a machine that is passed over once, and each time that sending begins or ends to fail.
+    fn look_group(&mut self)
+        ensures { watched_by self.new ≡ watched_by self.old }
+    {
+        let Some(news) = self.fabric.group_news() else {
+            return;
+        };
+        if let Some(second) = news.second {
+            if !self.has_said_second {
+                self.say(&second);
+            }
+            self.has_said_second = true;
+        }
+        self.look_unsent(news.unsent);
+    }
+
     /// If a watermark expired and nothing ever came, says so, unless it was said already that nothing comes.
     fn look_expired(&mut self, node: &Node)
         ensures { watched_by self.new ≡ watched_by self.old }
@@ -345,6 +390,7 @@ impl<'a, R: Eprint + Clock, F: Fabric + PassesOver> WatchedFabric<'a, R, F> {
             self.silence.note();
         }
         self.look_passed();
+        self.look_group();
         self.look_expired(&node);
         if self.takes_left > 0 {
             self.takes_left -= 1;
@@ -355,7 +401,7 @@ impl<'a, R: Eprint + Clock, F: Fabric + PassesOver> WatchedFabric<'a, R, F> {
     }
 }
 
-impl<R: Eprint + Clock, F: Fabric + PassesOver> Fabric for WatchedFabric<'_, R, F> {
+impl<R: Eprint + Clock, F: Fabric + PassesOver + TellsGroup> Fabric for WatchedFabric<'_, R, F> {
     ghost told = { λ w. F.told (watched_by w) };
 
     ghost fault_count = { λ w. F.fault_count (watched_by w) };

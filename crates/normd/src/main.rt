@@ -6,6 +6,7 @@
 mod numbering;
 
 use crate::numbering::{Numbers, number};
+use norm_args::group_asked;
 use norm_base::Memory;
 use norm_host::{FolderFiles, HostClock, HostFabric, StdSink, StdSource};
 use norm_program::{WordsFault, arguments, needed, paths_asked, run, say_cause};
@@ -68,7 +69,21 @@ fn sends_much(words: &Result<Vec<String>, WordsFault>) -> bool {
     }
 }
 
-/// Returns the network of the process. If the words ask for a node that sends much, threads send for it over sockets, if they can be made
+/// Has the network join the group that the words name. Does nothing if they name none, or were not read.
+fn join<R: Net + Wait + Clock + Drop>(
+    alloc: Global,
+    words: &Result<Vec<String>, WordsFault>,
+    fabric: &mut HostFabric<R>,
+) -> Result<(), Memory> {
+    if let Ok(words) = words {
+        if let Some(group) = group_asked(alloc, words)? {
+            fabric.join(group.address, group.port);
+        }
+    }
+    Ok(())
+}
+
+/// Returns the network of the process, which joins the group that the words name. If the words ask for a node that sends much, threads send for it over sockets, if they can be made
 /// and the machine has four processors or more.
 fn network<R: Net + Threads + Wait + Clock + Copy + Send + Drop + 'static>(
     rt: R,
@@ -80,6 +95,7 @@ fn network<R: Net + Threads + Wait + Clock + Copy + Send + Drop + 'static>(
         // Without threads the node sends by itself, only slower.
         let _ = fabric.start_threads(alloc, rt);
     }
+    join(alloc, words, &mut fabric)?;
     Ok(fabric)
 }
 

@@ -8,7 +8,7 @@ use norm_base::Fabric;
 use norm_host::HostFabric;
 use norm_udp::{SocketCause, UdpFabric};
 use std::alloc::{AllocError, Global};
-use std::net::Net;
+use std::net::{Ipv4Addr, Net};
 use std::process;
 use std::sync::Wait;
 use std::test::Fail;
@@ -81,6 +81,18 @@ const UNSENT: [Row; 2] = [
     (Step::Offer(2, b"lost"), "cannot send to", 0, UNKNOWN),
     (Step::Take(0), "cannot receive at", 2, INVALID),
 ];
+
+/// The words for an address that the system does not take for a broadcast address.
+const NO_BROADCAST: &str = "it is no broadcast address of this machine";
+
+/// Starts in a group at this machine's own address. The sender would send to the group's port, and receivers to the next one.
+const UNJOINED: [Row; 2] = [
+    (Step::StartOne(1), "cannot join a group at", 0, NO_BROADCAST),
+    (Step::StartOne(3), "cannot join a group at", 1, NO_BROADCAST),
+];
+
+/// A start in a group, while another process of this machine has the number.
+const DOUBLE: [Row; 1] = [(Step::StartOne(2), "cannot bind", 2, IN_USE)];
 
 /// Returns the sentence of a failed call: the text before the address, the address with this port, and the reason.
 pub(crate) fn sentence(
@@ -197,4 +209,24 @@ fn what_cannot_be_sent_or_received_by_a_profile(rt: HostRuntime) -> Result<(), F
     };
     let start = [(At::Receiver, Step::StartOne(2))];
     compare_hosted(rt.alloc(), broken, port, &start, &UNSENT)
+}
+
+#[test]
+fn a_group_that_cannot_be_joined(rt: HostRuntime) -> Result<(), Fail> {
+    let port = port_of(process::id(rt.process()), 33);
+    let mut networks = sockets::networks(rt.alloc(), rt, port)?;
+    networks.receiver.join(Ipv4Addr::new(127, 0, 0, 1), None);
+    compare(rt.alloc(), networks, &[], &UNJOINED)
+}
+
+#[test]
+fn a_number_that_runs_in_a_group_already(rt: HostRuntime) -> Result<(), Fail> {
+    let port = port_of(process::id(rt.process()), 33);
+    let mut networks = sockets::networks(rt.alloc(), rt, port)?;
+    networks.hub.join(Ipv4Addr::new(127, 255, 255, 255), None);
+    networks
+        .receiver
+        .join(Ipv4Addr::new(127, 255, 255, 255), None);
+    let holder = [(At::Hub, Step::StartOne(2))];
+    compare(rt.alloc(), networks, &holder, &DOUBLE)
 }

@@ -14,6 +14,8 @@ mod failures;
 #[cfg(test)]
 mod folder;
 #[cfg(test)]
+mod groups;
+#[cfg(test)]
 mod host;
 #[cfg(test)]
 mod hosted;

@@ -8,12 +8,15 @@ use norm_base::{
     NodeId, Notice, Profile, Sink,
 };
 use norm_memory::MemSink;
-use norm_udp::{Difference, Misfit, PassesOver, Sizes};
+use norm_udp::{
+    Difference, GroupNews, Misfit, PassesOver, SecondMachine, Sizes, TellsGroup, Unsent,
+};
 use norm_watch::{Restarts, Says, Tally, WatchedFabric, WatchedSink, end_progress};
 use std::alloc::Global;
 use std::cell::{Cell, RefCell};
 use std::fmt::{Display, Write};
 use std::io::{self, ErrorKind};
+use std::net::{Ipv4Addr, SocketAddr, SocketAddrV4};
 use std::test::Fail;
 use std::time::{Clock, Duration};
 
@@ -57,11 +60,59 @@ impl Clock for Seen {
     }
 }
 
-/// A network that gives the datagram in `next` once, and drops what is offered. It reports that it ignored `passed` datagrams.
+/// A network that gives the datagram in `next` once, and drops what is offered. It reports that it ignored `passed` datagrams, and `news` of a
+/// group.
 #[derive(Drop)]
 struct Laid<'a> {
     next: &'a Cell<&'static [u8]>,
     passed: &'a Cell<u64>,
+    news: &'a Cell<Option<GroupNews>>,
+}
+
+impl TellsGroup for Laid<'_> {
+    fn group_news(&self) -> Option<GroupNews> {
+        self.news.get()
+    }
+}
+
+/// What a group reports, in numbers.
+#[derive(Clone, Copy)]
+enum News {
+    /// Nothing yet.
+    Joined,
+    /// A second machine sends as node 3.
+    Second,
+    /// The network cannot be reached (ENETUNREACH).
+    Unsent,
+}
+
+/// Returns an address of the documents' subnet (RFC 5737) whose last number is this, with this port.
+fn address_at(last: u8, port: u16) -> SocketAddr {
+    SocketAddr::V4(SocketAddrV4::new(Ipv4Addr::new(192, 0, 2, last), port))
+}
+
+/// Returns what a group at port 7000 of the documents' subnet reports. The second machine stays reported.
+fn news_of(news: News, before: Option<GroupNews>) -> GroupNews {
+    let second = match news {
+        News::Second => NodeId::of(3).map(|node| SecondMachine {
+            node,
+            address: Ipv4Addr::new(192, 0, 2, 15),
+            kept: Ipv4Addr::new(192, 0, 2, 14),
+        }),
+        News::Joined | News::Unsent => before.and_then(|before| before.second),
+    };
+    let unsent = match news {
+        News::Unsent => Some(Unsent {
+            address: address_at(255, 7_000),
+            code: 101,
+        }),
+        News::Joined | News::Second => None,
+    };
+    GroupNews {
+        hears_at: address_at(255, 7_001),
+        second,
+        unsent,
+    }
 }
 
 impl PassesOver for Laid<'_> {
@@ -164,6 +215,8 @@ enum Step {
     Takes(&'static [u8]),
     /// The network ignores a datagram, and the node takes nothing.
     PassesOver,
+    /// The network reports this of a group, and the node takes nothing.
+    Tells(News),
     /// Member 2 offers a datagram.
     Offers(&'static [u8]),
     /// The node writes this line to its output.
@@ -507,6 +560,39 @@ const ONCE: [Row; 6] = [
     },
 ];
 
+/// What a node in a group says: a second machine once, and each time that sending begins or ends to fail.
+const GROUPS: [Row; 2] = [
+    Row {
+        fabric: FabricKind::Udp,
+        step: 0,
+        node: 1,
+        says: NOTHING,
+        steps: &[
+            Step::Tells(News::Joined),
+            Step::Tells(News::Second),
+            Step::Tells(News::Unsent),
+            Step::Tells(News::Unsent),
+            Step::Tells(News::Joined),
+            Step::Tells(News::Unsent),
+        ],
+        said: "node 3 also sends from 192.0.2.15; only 192.0.2.14, which came first, is accepted\ncannot send to 192.0.2.255:7000 now: Network is unreachable (os error 101)\nsending to 192.0.2.255:7000 works again\ncannot send to 192.0.2.255:7000 now: Network is unreachable (os error 101)\n",
+    },
+    // There is no hub that could be named.
+    Row {
+        fabric: FabricKind::Udp,
+        step: 0,
+        node: 1,
+        says: NOTHING,
+        steps: &[
+            Step::Tells(News::Joined),
+            Step::Looks,
+            Step::Waits(10),
+            Step::Looks,
+        ],
+        said: "nothing came to 192.0.2.255:7001 for ten seconds\n",
+    },
+];
+
 /// Returns the profile of a row.
 // Each key comes through the loop: a call of `set` that names its key costs much to prove.
 fn profile_of(row: &Row) -> Result<Profile, Fail> {
@@ -559,6 +645,7 @@ struct Watched<'a> {
     seen: &'a Seen,
     next: &'a Cell<&'static [u8]>,
     passed: &'a Cell<u64>,
+    news: &'a Cell<Option<GroupNews>>,
     tally: &'a Tally,
     fabric: WatchedFabric<'a, &'a Seen, Laid<'a>>,
     sink: WatchedSink<'a, &'a Seen, MemSink, Noted<'a>>,
@@ -607,6 +694,10 @@ impl Watched<'_> {
                 self.passed.set(self.passed.get().saturating_add(1));
                 self.takes()?;
             }
+            Step::Tells(news) => {
+                self.news.set(Some(news_of(*news, self.news.get())));
+                self.takes()?;
+            }
             Step::Offers(octets) => self.offers(*octets)?,
             Step::Writes(line) => {
                 let _ = self.sink.write(*line);
@@ -627,16 +718,19 @@ fn said_by(alloc: Global, row: &Row) -> Result<String, Fail> {
     };
     let next: Cell<&'static [u8]> = Cell::new(b"");
     let passed = Cell::new(0);
+    let news: Cell<Option<GroupNews>> = Cell::new(None);
     let tally = Tally::new();
     let sink = MemSink::of(Vec::new(alloc), Vec::new(alloc));
     let laid = Laid {
         next: &next,
         passed: &passed,
+        news: &news,
     };
     let mut watched = Watched {
         seen: &seen,
         next: &next,
         passed: &passed,
+        news: &news,
         tally: &tally,
         fabric: WatchedFabric::of(&seen, laid, row.says, &tally),
         sink: WatchedSink::of(&seen, sink, row.says, &tally, Noted { seen: &seen }),
@@ -663,6 +757,15 @@ fn a_node_says_how_it_is(rt: HostRuntime) -> Result<(), Fail> {
 #[test]
 fn a_node_says_once_what_is_passed_over(rt: HostRuntime) -> Result<(), Fail> {
     for (at, row) in ONCE.iter().enumerate() {
+        let said = said_by(rt.alloc(), row)?;
+        assert!(rt; said.as_str() == row.said, "row {at}: {said:?}");
+    }
+    Ok(())
+}
+
+#[test]
+fn a_node_says_what_becomes_of_its_group(rt: HostRuntime) -> Result<(), Fail> {
+    for (at, row) in GROUPS.iter().enumerate() {
         let said = said_by(rt.alloc(), row)?;
         assert!(rt; said.as_str() == row.said, "row {at}: {said:?}");
     }

@@ -3,4 +3,4 @@ use Rattle.norm_udp.proofs.fabric.look_through.Given as goal
 
 -- what was found so far was passed over
 abbrev pub invariant-loop : goal.invariant-loop
-invariant-loop l = l.into ≡ []
+invariant-loop g l = l.into ≡ []
