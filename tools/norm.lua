@@ -87,7 +87,7 @@ local refused_expert = ProtoExpert.new("norm.expert.refused", "normd refuses thi
 local unknown_expert = ProtoExpert.new("norm.expert.extension", "An extension that is passed over", expert.group.UNDECODED, expert.severity.NOTE)
 normd.experts = { refused_expert, unknown_expert }
 
-normd.prefs.ports = Pref.range("UDP ports", "40000-40017", "The hub's port, then the sender's and the receivers'", 65535)
+normd.prefs.ports = Pref.range("UDP ports", "40000-40017", "The hub's port, then the sender's and the receivers'; a group has the first two", 65535)
 
 -- What stands between the common header and the extensions: each part has its octets and the fields in it.
 local SENT = { { 2, "instance" }, { 1, "grtt" }, { 1, "backoff", "gsize" } }

@@ -161,6 +161,14 @@ class Spaces:
     def name(self, at: object) -> str:
         return f'{self.mark}n{at}'
 
+    def address(self, at: int) -> str:
+        return f'10.9.0.{at + 1}'
+
+    def sent(self, at: int) -> int:
+        """The octets that a member's interface sent so far, as Ethernet frames."""
+        words = ['ip', 'netns', 'exec', self.name(at), 'cat', '/sys/class/net/v0/statistics/tx_bytes']
+        return int(subprocess.run(words, stdout=subprocess.PIPE, text=True, check=True).stdout)
+
     def __enter__(self) -> Spaces:
         for at in ('b', *range(self.members)):
             sh(f'ip netns add {self.name(at)}; ip -n {self.name(at)} link set lo up')
@@ -169,7 +177,7 @@ class Spaces:
         for at in range(self.members):
             own = self.name(at)
             sh(f'ip -n {bridge} link add v{at} type veth peer name v0 netns {own}; ip -n {bridge} link set v{at} master br0 up')
-            sh(f'ip -n {own} addr add 10.9.0.{at + 1}/24 broadcast 10.9.0.255 dev v0; ip -n {own} link set v0 up; ip -n {own} route add 224.0.0.0/4 dev v0')
+            sh(f'ip -n {own} addr add {self.address(at)}/24 broadcast 10.9.0.255 dev v0; ip -n {own} link set v0 up; ip -n {own} route add 224.0.0.0/4 dev v0')
         time.sleep(0.6)
         return self
 
@@ -178,8 +186,8 @@ class Spaces:
             sh(f'ip netns del {self.name(at)}', False)
 
 
-def uftp(bench: Bench, receivers: int, loss: float, rate: str) -> float | None:
-    """One transfer by uftp at this rate in kilobits a second, -1 for as fast as it goes."""
+def uftp(bench: Bench, receivers: int, loss: float, rate: str, wires: list[int] | None = None) -> float | None:
+    """One transfer by uftp at this rate in kilobits a second, -1 for as fast as it goes. `wires` gains the octets that the sender's interface sent."""
     room, running = Path(tempfile.mkdtemp(prefix='uftp-', dir=bench.room)), {}
     numbers = {at: f'0x{0x100 + at:08x}' for at in range(1, receivers + 1)}
     with Spaces(receivers + 1) as spaces:
@@ -194,6 +202,8 @@ def uftp(bench: Bench, receivers: int, loss: float, rate: str) -> float | None:
             said = subprocess.run(words, stdin=subprocess.DEVNULL, stdout=subprocess.PIPE, stderr=subprocess.STDOUT, text=True, timeout=bench.limit).stdout
         except subprocess.TimeoutExpired:
             said = ''
+        if wires is not None:
+            wires.append(spaces.sent(0))
         time.sleep(0.3)
         for process in running.values():
             process.kill()

@@ -1,10 +1,13 @@
 #!/usr/bin/env python3
-"""tools/send, tools/receive and tools/bridge with the built program: a folder goes to two receivers over sockets of this machine, and where
-network namespaces can be made, to receivers on other machines, behind bridges; and what is refused. examples/cast with a file that goes in pieces.
+"""tools/send, tools/receive and tools/bridge with the built program: a folder goes to two receivers over sockets of this machine, as a group too,
+and where network namespaces can be made, to receivers on other machines, in a group and behind bridges; and what is refused. examples/cast with
+a file that goes in pieces, through a hub and to a group.
 
-transfer.py [--program NORMD] [--port PORT] [--machines N] [--gap MICROSECONDS]
+transfer.py [--program NORMD] [--port PORT] [--machines N] [--gap MICROSECONDS] [--group]
 
-The bridges are programs in Python, so with many machines on one --gap wants to be larger (400 for sixteen). What a receiver's folder has to hold is what was put into the sender's. Says which part did not run, and why."""
+With --group only the group on other machines is tried. --machines are those beside the sender's, at most 14 in a group. The bridges are programs in
+Python, so with many machines on one --gap wants to be larger (400 for sixteen). What a receiver's folder has to hold is what was put into the sender's.
+Says which part did not run, and why."""
 from __future__ import annotations
 
 import argparse
@@ -24,6 +27,9 @@ TOOLS = ROOT / 'tools'
 SECONDS, REFUSED, TAKEN, NOT_ALL = 60, 2, 3, 4
 # Below the ports that the system gives out itself, and apart from those of other checks. A bridge's lie a hundred above its member's.
 LOWEST, PORTS, PROCESSES = 16400, 128, 28
+LOOPBACK_GROUP = '127.255.255.255'
+# How long a machine is away at a time, and the round trip with which no watermark expires meanwhile: that takes forty of them without an answer.
+AWAY, GRTT_OF_AWAY = 3, 200_000
 
 
 class Unmet(Exception):
@@ -38,11 +44,11 @@ def holds(is_so: bool, what: str) -> None:
 class Nodes:
     """A profile, and the processes under it, which are ended with the block."""
 
-    def __init__(self, program: str, port: int, receivers: int, room: Path, gap: int = 60):
+    def __init__(self, program: str, port: int, receivers: int, room: Path, gap: int = 60, grtt: int = 0):
         self.program, self.room, self.running, self.env = program, room, [], {**os.environ, 'XDG_STATE_HOME': str(room / 'state')}
         self.profile = room / 'profile.toml'
         self.profile.write_text(f'fabric = "udp"\nport = {port}\nreceivers = {receivers}\nstep = 0\nturns = 4000000\ne = 1400\nb = 100\nmax_n = 255\n'
-                                f'gap = {gap}\ngrtt = {20000 if receivers < 4 else 100000}\nk = 1\noctets = 1000000\n')
+                                f'gap = {gap}\ngrtt = {grtt or (20000 if receivers < 4 else 100000)}\nk = 1\noctets = 1000000\n')
 
     def __enter__(self) -> Nodes:
         return self
@@ -98,6 +104,18 @@ def to_two(program: str, port: int, room: Path) -> str:
     return 'a folder of four files to two receivers'
 
 
+def to_two_in_a_group(program: str, port: int, room: Path) -> str:
+    files, group = made(room / 'photos'), ('--group', f'{LOOPBACK_GROUP}:{port}')
+    with Nodes(program, port, 2, room) as nodes:
+        receivers = [nodes.tool('receive', nodes.profile, node, room / f'in{node}', '--linger', 5, *group) for node in (2, 3)]
+        time.sleep(1)  # with no hub that tells of them, a watermark may expire before they stand
+        ended(nodes.tool('send', room / 'photos', nodes.profile, *group), 0, 'send to a group')
+        for node, receiver in zip((2, 3), receivers):
+            ended(receiver, 0, f'receive {node} in a group')
+            holds(there(room / f'in{node}') == files, f'the folder of {node} in a group has what was sent')
+    return 'a folder of four files to a group of two receivers'
+
+
 def instance(program: str, port: int, room: Path) -> str:
     """The instance that `send` is given is the sender's, by a program that writes down its words and ends; and what is no number is refused."""
     made(room / 'photos')
@@ -134,12 +152,12 @@ def two_sends(program: str, port: int, room: Path) -> str:
     return 'two sends to a receiver that runs throughout'
 
 
-def in_pieces(program: str, port: int, room: Path) -> str:
+def in_pieces(program: str, port: int, room: Path, *more: str) -> str:
     """A file past 16 MiB, the most that one object has, and which is named as a piece of it is at a receiver."""
     file, kept = room / 'n2-i1-x0', room / 'kept'
     octets = random.Random(11).randbytes((16 << 20) + 12_345)
     file.write_bytes(octets)
-    words = [sys.executable, ROOT / 'examples/cast', file, 2, '--keep', kept, '--port', port, '--gap', 60, '--grtt', 50_000, '--program', program]
+    words = [sys.executable, ROOT / 'examples/cast', file, 2, '--keep', kept, '--port', port, '--gap', 60, '--grtt', 50_000, '--program', program, *more]
     done = subprocess.Popen([str(it) for it in words], stdout=subprocess.PIPE, stderr=subprocess.STDOUT, text=True)
     try:
         said = ended(done, 0, 'cast')
@@ -149,7 +167,7 @@ def in_pieces(program: str, port: int, room: Path) -> str:
     holds(said.count('the same') == 2, f'each copy is said to be the same: {said}')
     for node in (2, 3):
         holds(there(kept / str(node)) == {file.name: octets}, f'the folder of {node} has the copy and nothing else')
-    return 'a file of 17 pieces to two receivers by examples/cast'
+    return 'a file of 17 pieces to two receivers by examples/cast' + (', as a group' if more else '')
 
 
 def refusals(program: str, port: int, room: Path) -> str:
@@ -240,19 +258,97 @@ def over_bridges(program: str, port: int, room: Path, number: int, gap: int) -> 
     return f'the folder to {number} receivers on other machines, behind bridges, in {took:.1f} seconds'
 
 
+class Subnet:
+    """Network namespaces that stand for machines of one wired subnet: a switch in one more joins them."""
+    group = '10.203.0.255'
+
+    def __init__(self, machines: int):
+        self.switch = f'normd-{os.getpid()}-switch'
+        self.spaces = [f'normd-{os.getpid()}-{at}' for at in range(machines)]
+
+    def joined(self, at: int, space: str) -> bool:
+        return (ip('netns', 'add', space) and ip('-n', space, 'link', 'add', 'cable', 'type', 'veth', 'peer', 'name', f'port{at}', 'netns', self.switch)
+                and ip('-n', space, 'addr', 'add', f'10.203.0.{at + 1}/24', 'brd', self.group, 'dev', 'cable') and ip('-n', space, 'link', 'set', 'lo', 'up')
+                and ip('-n', space, 'link', 'set', 'cable', 'up') and ip('-n', self.switch, 'link', 'set', f'port{at}', 'master', 'switch', 'up'))
+
+    def make(self) -> bool:
+        """Whether all could be made."""
+        return (ip('netns', 'add', self.switch) and ip('-n', self.switch, 'link', 'add', 'switch', 'type', 'bridge')
+                and ip('-n', self.switch, 'link', 'set', 'switch', 'up') and all(self.joined(at, space) for at, space in enumerate(self.spaces)))
+
+    def inside(self, at: int) -> tuple:
+        return 'ip', 'netns', 'exec', self.spaces[at]
+
+    def away(self, at: int, seconds: float) -> None:
+        """A machine's interface is down for so long."""
+        holds(ip('-n', self.spaces[at], 'link', 'set', 'cable', 'down'), f'the interface of machine {at} goes down')
+        time.sleep(seconds)
+        holds(ip('-n', self.spaces[at], 'link', 'set', 'cable', 'up'), f'the interface of machine {at} comes back')
+
+    def unplugged(self, at: int, seconds: float) -> None:
+        """A machine's cable is out for so long."""
+        holds(ip('-n', self.switch, 'link', 'set', f'port{at}', 'down'), f'the cable of machine {at} is pulled')
+        time.sleep(seconds)
+        holds(ip('-n', self.switch, 'link', 'set', f'port{at}', 'up'), f'the cable of machine {at} is put back')
+
+    def __enter__(self) -> Subnet:
+        return self
+
+    def __exit__(self, *_) -> None:
+        for space in (*self.spaces, self.switch):
+            ip('netns', 'del', space)
+
+
+def in_a_group(program: str, port: int, room: Path, number: int) -> str | None:
+    """A receiver beside the sender, two on the first other machine, and one on each further one. The first other machine's interface is down and its
+    cable out while the folder is sent, and then the sender's interface is down."""
+    if not shutil.which('ip') or os.geteuid() != 0:
+        return None
+    files, machines = made(room / 'photos'), [0, 1, 1, *range(2, number + 1)]
+    members, group = range(2, 2 + len(machines)), ('--group', Subnet.group)
+    with Subnet(1 + number) as subnet:
+        if not subnet.make():
+            return None
+        # With this gap the folder's 1,600 symbols take longer than the machines are away.
+        with Nodes(program, port, len(machines), room, 8_000, GRTT_OF_AWAY) as nodes:
+            receivers = [nodes.tool('receive', nodes.profile, node, room / f'in{node}', '--linger', 8, *group, before=subnet.inside(at))
+                         for node, at in zip(members, machines)]
+            time.sleep(1 + number / 4)
+            began = time.monotonic()
+            sender = nodes.tool('send', room / 'photos', nodes.profile, *group, before=subnet.inside(0))
+            time.sleep(1)
+            subnet.away(1, AWAY)
+            time.sleep(1)
+            subnet.unplugged(1, AWAY)
+            time.sleep(1)
+            holds(sender.poll() is None, 'the folder takes longer to send than its machines are away')
+            subnet.away(0, 1)
+            said = ended(sender, 0, 'send to a group')
+            took = time.monotonic() - began
+            for what in (f'cannot send to {Subnet.group}:{port}', f'sending to {Subnet.group}:{port} works again'):
+                holds(said.count(what) == 1, f'the sender says once {what!r}: {said}')
+            for node, receiver in zip(members, receivers):
+                ended(receiver, 0, f'receive {node} in a group')
+                holds(there(room / f'in{node}') == files, f'the folder of {node} in a group has what was sent')
+    return f'the folder to a group of {len(machines)} receivers on {1 + number} machines, of which two were away, in {took:.1f} seconds'
+
+
 def main() -> int:
     parser = argparse.ArgumentParser(description=__doc__, formatter_class=argparse.RawDescriptionHelpFormatter)
     parser.add_argument('--program', default=str(ROOT / 'crates/normd/out/normd'))
     parser.add_argument('--port', type=int, default=LOWEST + PORTS * (os.getpid() % PROCESSES))
     parser.add_argument('--machines', type=int, default=2)
     parser.add_argument('--gap', type=int, default=60)
+    parser.add_argument('--group', action='store_true')
     given = parser.parse_args()
     failed = 0
-    for part, more in ((to_two, ()), (two_sends, ()), (instance, ()), (in_pieces, ()), (refusals, ()), (over_bridges, (given.machines, given.gap))):
+    everywhere = ((to_two, ()), (to_two_in_a_group, ()), (two_sends, ()), (instance, ()), (in_pieces, ()), (in_pieces, ('--group', LOOPBACK_GROUP)),
+                  (refusals, ()), (over_bridges, (given.machines, given.gap)))
+    for part, more in (*(() if given.group else everywhere), (in_a_group, (given.machines,))):
         with tempfile.TemporaryDirectory(prefix='transfer-') as room:
             try:
                 said = part(given.program, given.port, Path(room), *more)
-                print(f'tools: transfer: {said}' if said else 'tools: bridges did not run: no network namespace can be made here')
+                print(f'tools: transfer: {said}' if said else f'tools: transfer: {part.__name__} did not run: no network namespace can be made here')
             except Unmet as unmet:
                 failed += 1
                 print(f'tools: transfer: {part.__name__} DOES NOT HOLD: {unmet}')
