@@ -102,7 +102,7 @@ pub(crate) fn group_in(matches: &ArgMatches<'_>) -> Option<Option<GroupAddress>>
 }
 
 /// Returns the group that words of a form name. `None` if they do not fit it.
-fn group_found(form: Command<'_>, words: &[String]) -> Result<Option<GroupAddress>, Memory>
+fn group_found<'a>(form: Command<'a>, words: &'a [String]) -> Result<Option<GroupAddress>, Memory>
     requires { is_simple_and_free (app_of form) ≡ true }
     ensures { IfOk result (λ group. option_map group_seen group ≡ group_found (app_of form.entry) (map string_bytes words.now)) }
 {
