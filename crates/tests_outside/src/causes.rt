@@ -221,7 +221,7 @@ fn a_group_that_cannot_be_joined(rt: HostRuntime) -> Result<(), Fail> {
 
 #[test]
 fn a_number_that_runs_in_a_group_already(rt: HostRuntime) -> Result<(), Fail> {
-    let port = port_of(process::id(rt.process()), 33);
+    let port = port_of(process::id(rt.process()), 34);
     let mut networks = sockets::networks(rt.alloc(), rt, port)?;
     networks.hub.join(Ipv4Addr::new(127, 255, 255, 255), None);
     networks

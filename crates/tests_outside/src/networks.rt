@@ -12,12 +12,12 @@ const LOWEST: u32 = 20_000;
 
 /// How many test numbers a process has. Each has `PORTS` ports: the hub's and three members'. A test with more members also takes the
 /// numbers after its own.
-const TESTS: u32 = 34;
+const TESTS: u32 = 40;
 
 const PORTS: u32 = 4;
 
 /// How many processes with consecutive ids have ports of their own.
-const PROCESSES: u32 = 93;
+const PROCESSES: u32 = 79;
 
 /// The receivers of a session that a table of steps drives.
 const RECEIVERS: u32 = 2;

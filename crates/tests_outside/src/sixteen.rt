@@ -1,5 +1,5 @@
 //! Tests `UdpFabric` with sixteen receivers, the most that a session has. Each datagram of a member arrives whole at each other member, and
-//! never at the member itself: through a hub, through a hub whose threads send, and with all members in one network.
+//! never at the member itself: through a hub, through a hub whose threads send, with all members in one network, and in a group.
 
 use crate::networks::{port_of, profile_of};
 use norm_base::{
@@ -7,7 +7,7 @@ use norm_base::{
 };
 use norm_udp::{Senders, UdpFabric};
 use std::alloc::Global;
-use std::net::Net;
+use std::net::{Ipv4Addr, Net};
 use std::process;
 use std::sync::Wait;
 use std::test::Fail;
@@ -21,6 +21,14 @@ const MEMBERS: u32 = RECEIVERS + 1;
 
 /// The octets of the datagrams that each member sends: the fewest, as many as a long NACK has, and more than the longest symbol.
 const LENGTHS: [usize; 3] = [1, 1_000, 1_440];
+
+/// The octets of a message in a group. Octets 4 to 7 are its source (RFC 5740 section 4.1), and only the last one of them is not 0 here.
+const MESSAGE: usize = 12;
+
+const SOURCE_END: usize = 8;
+
+/// The broadcast address of the loopback network, which each machine has.
+const EVERYONE: Ipv4Addr = Ipv4Addr::new(127, 255, 255, 255);
 
 /// The most takes for a datagram that should arrive. `GLANCES` are those for one that should not. A take that finds nothing lasts a
 /// millisecond at most.
@@ -108,6 +116,23 @@ fn offer_at<F: Fabric>(members: &mut [F], place: u32, octets: &[u8]) -> Result<(
     }
 }
 
+/// Returns the set of members that got octets of the member with this index, each in its own network.
+fn heard_at<F: Fabric>(
+    members: &mut [F],
+    into: &mut Datagram,
+    place: u32,
+    octets: &[u8],
+) -> Result<u32, FabricFault> {
+    let mut got = 0;
+    let mut at = 0u32;
+    for member in members.iter_mut() {
+        let looks = if at == place { GLANCES } else { PATIENCE };
+        got = look(member, into, octets, got, looks)?;
+        at = at.wrapping_add(1);
+    }
+    Ok(got)
+}
+
 /// Sends octets of the member with this index through a hub. Returns the set of members that got them.
 fn heard_by_hub<F: Fabric>(
     alloc: Global,
@@ -119,14 +144,19 @@ fn heard_by_hub<F: Fabric>(
     let mut into = Datagram::new(alloc)?;
     offer_at(members, place, octets)?;
     pass_on(hub, &mut into)?;
-    let mut got = 0;
-    let mut at = 0u32;
-    for member in members.iter_mut() {
-        let looks = if at == place { GLANCES } else { PATIENCE };
-        got = look(member, &mut into, octets, got, looks)?;
-        at = at.wrapping_add(1);
-    }
-    Ok(got)
+    heard_at(members, &mut into, place, octets)
+}
+
+/// Sends octets of the member with this index to a group. Returns the set of members that got them.
+fn heard_in_group<F: Fabric>(
+    alloc: Global,
+    members: &mut [F],
+    place: u32,
+    octets: &[u8],
+) -> Result<u32, FabricFault> {
+    let mut into = Datagram::new(alloc)?;
+    offer_at(members, place, octets)?;
+    heard_at(members, &mut into, place, octets)
 }
 
 /// Sends octets of the member with this index in a network of all members. Returns the set of members that got them.
@@ -154,6 +184,17 @@ fn octets_of(alloc: Global, place: u32, length: usize) -> Result<Vec<u8>, Memory
     Ok(octets)
 }
 
+/// Returns a message of the member with this index.
+fn message_of(alloc: Global, place: u32) -> Result<Vec<u8>, Memory> {
+    let number = (place % MEMBERS) as u8 + 1;
+    let mut octets = Vec::new(alloc);
+    for at in 0..MESSAGE {
+        let octet = if at + 1 == SOURCE_END { number } else { 0 };
+        octets.push(octet)?;
+    }
+    Ok(octets)
+}
+
 /// Fails unless all other members, and no more, got what the member with this index sent.
 fn check(place: u32, length: usize, got: u32) -> Result<(), Fail> {
     if got == others(place) {
@@ -162,13 +203,8 @@ fn check(place: u32, length: usize, got: u32) -> Result<(), Fail> {
     Err(Fail::new(format_args!("{length} octets of member {place}: {got:x}")))
 }
 
-/// Starts the hub, and a network for each member.
-fn start_each<F: Fabric>(
-    hub: &mut F,
-    members: &mut [F],
-    profile: &Profile,
-) -> Result<(), FabricFault> {
-    hub.start(profile, Local::Hub)?;
+/// Starts a network for each member.
+fn start_each<F: Fabric>(members: &mut [F], profile: &Profile) -> Result<(), FabricFault> {
     let mut number = 1u32;
     for member in members.iter_mut() {
         let Some(node) = NodeId::of(number) else {
@@ -190,13 +226,28 @@ fn compare_by_hub<F: Fabric>(
     let Some(profile) = profile_of(port, FabricKind::Udp, RECEIVERS) else {
         return Err(Fail::new("no profile"));
     };
-    start_each(hub, members, &profile)?;
+    hub.start(&profile, Local::Hub)?;
+    start_each(members, &profile)?;
     for place in 0..MEMBERS {
         for length in LENGTHS {
             let octets = octets_of(alloc, place, length)?;
             let got = heard_by_hub(alloc, hub, members, place, &octets)?;
             check(place, length, got)?;
         }
+    }
+    Ok(())
+}
+
+/// Sends a message of each member to its group. Fails unless all other members get each of them.
+fn compare_in_group<F: Fabric>(alloc: Global, members: &mut [F], port: u16) -> Result<(), Fail> {
+    let Some(profile) = profile_of(port, FabricKind::Udp, RECEIVERS) else {
+        return Err(Fail::new("no profile"));
+    };
+    start_each(members, &profile)?;
+    for place in 0..MEMBERS {
+        let octets = message_of(alloc, place)?;
+        let got = heard_in_group(alloc, members, place, &octets)?;
+        check(place, MESSAGE, got)?;
     }
     Ok(())
 }
@@ -241,6 +292,19 @@ fn compare_hub<R: Net + Wait + Clock + Copy + Drop>(
     compare_by_hub(alloc, &mut hub, &mut members, port)
 }
 
+/// Runs the test with new networks that join a group on this machine.
+fn compare_group<R: Net + Wait + Clock + Copy + Drop>(
+    alloc: Global,
+    rt: R,
+    port: u16,
+) -> Result<(), Fail> {
+    let mut members = networks(alloc, rt)?;
+    for member in members.iter_mut() {
+        member.join(EVERYONE, None);
+    }
+    compare_in_group(alloc, &mut members, port)
+}
+
 /// Returns a hub whose threads send.
 fn hub_with_threads<R: Net + Threads + Wait + Clock + Copy + Send + Drop + 'static>(
     alloc: Global,
@@ -279,4 +343,10 @@ fn sixteen_receivers_by_a_hub_with_threads_that_send(rt: HostRuntime) -> Result<
 fn sixteen_receivers_in_one_network(rt: HostRuntime) -> Result<(), Fail> {
     let port = port_of(process::id(rt.process()), 26);
     compare_one(rt.alloc(), rt, port)
+}
+
+#[test]
+fn sixteen_receivers_in_a_group(rt: HostRuntime) -> Result<(), Fail> {
+    let port = port_of(process::id(rt.process()), 35);
+    compare_group(rt.alloc(), rt, port)
 }
