@@ -83,8 +83,8 @@ fn join<R: Net + Wait + Clock + Drop>(
     Ok(())
 }
 
-/// Returns the network of the process, which joins the group that the words name. If the words ask for a node that sends much, threads send for it over sockets, if they can be made
-/// and the machine has four processors or more.
+/// Returns the network of the process, which joins the group that the words name. If the words ask for a node that sends much, threads send for
+/// it over sockets, if they can be made and the machine has four processors or more.
 fn network<R: Net + Threads + Wait + Clock + Copy + Send + Drop + 'static>(
     rt: R,
     alloc: Global,
