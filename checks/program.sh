@@ -471,8 +471,9 @@ printf 'fabric = "udp"\nport = %s\nreceivers = 2\nstep = 0\ninstance = 1\ngrtt =
 grouped group 127.255.255.255
 grouped group.port "127.255.255.255:$((port + 8))"
 
-# Addresses that are no broadcast addresses: this machine's own, one for several machines, and none.
-for at in 127.0.0.1 239.1.1.1 0.0.0.0; do
+# Addresses that are no broadcast addresses: this machine's own, none, and one of a multicast group. Of the last a machine without a way there says that it
+# cannot be reached.
+for at in 127.0.0.1 0.0.0.0 $(ip route get 239.1.1.1 >/dev/null 2>&1 && echo 239.1.1.1); do
     : >"$scratch/in"
     reason="cannot join a group at $at:$((port + 1)): it is no broadcast address of this machine\n"
     row "a group at $at" 6 'fault fabric\n' recv "$scratch/profile" 2 --group "$at"
