@@ -11,13 +11,14 @@ ghost use Rattle.norm_udp.specs.Passing.{passed_by, misfit_by};
 
 use norm_base::{Datagram, Fabric, FabricFault, FabricKind, Local, Memory, NodeId, Profile};
 use norm_memory::{ChanceFabric, DirectFabric};
-use norm_udp::{GroupNews, Misfit, PassesOver, Senders, SocketCause, TellsGroup, UdpFabric};
+use norm_udp::{Senders, SocketCause, UdpFabric};
 use std::alloc::Global;
 use std::marker::Model;
 use std::net::{Ipv4Addr, Net};
 use std::sync::Wait;
 use std::thread::Threads;
 use std::time::Clock;
+use udp_rules::{GroupNews, Misfit, PassesOver, TellsGroup};
 
 /// Closes the sockets of an earlier start, as [`UdpFabric::close`] does, and starts the network that the profile names. They stay closed
 /// also if the start fails.

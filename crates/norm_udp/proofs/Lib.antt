@@ -1,3 +1,2 @@
-pub mod AddressLemmas
-pub mod GroupLemmas
+pub mod JoiningLemmas
 pub mod WayLemmas

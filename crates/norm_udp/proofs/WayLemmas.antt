@@ -9,7 +9,7 @@ use Rattle.std.proofs.lemmas.List.Sums.{sum_by-cons, sum_by_push}
 use Rattle.std.proofs.lemmas.List.Sorted.{IsPermutation-refl, IsPermutation-sym, IsPermutation-cons, IsPermutation-middle, IsPermutation-trans, IsPermutation-append_left}
 use Rattle.norm_base.specs.Members.{receivers_of, members_of, is_node}
 use Rattle.norm_base.specs.Settings.{Settings}
-use Rattle.norm_udp.specs.Addresses.{gets_copy}
+use Rattle.udp_rules.specs.Addresses.{gets_copy}
 use Rattle.norm_udp.specs.Ways.{nodes_of, copies, is_on_way, way_within, way_from, ways_joined, WayLaws}
 use Rattle.norm_udp.specs.declared.member.Member.{Member}
 

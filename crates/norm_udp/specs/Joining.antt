@@ -4,9 +4,9 @@ use Rattle.std.specs.declared.net.socket_addr.SocketAddr.{SocketAddr}
 use Rattle.std.specs.declared.io.Error.{Error}
 use Rattle.std.specs.IoError.{raw_os_error}
 use Rattle.norm_base.specs.Settings.{Settings}
-use Rattle.norm_udp.specs.Groups.{IsIn, hears_at, speaks_to}
-use Rattle.norm_udp.specs.Losses.{is_group_loss}
-use Rattle.norm_udp.specs.declared.group.Group.{Group}
+use Rattle.udp_rules.specs.Groups.{IsIn, hears_at, speaks_to}
+use Rattle.udp_rules.specs.Losses.{is_group_loss}
+use Rattle.udp_rules.specs.declared.group.Group.{Group}
 use Rattle.norm_udp.specs.declared.joined.Joined.{Joined}
 use Rattle.norm_udp.specs.declared.joined.Listener.{Listener}
 

@@ -1,12 +1,6 @@
-pub mod Addresses
 pub mod Failures
-pub mod Groups
-pub mod Hearing
 pub mod Joining
 pub mod Lanes
-pub mod Losses
-pub mod Machines
-pub mod Misfits
 pub mod Passing
 pub mod Pausing
 pub mod Untold

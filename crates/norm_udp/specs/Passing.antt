@@ -1,7 +1,7 @@
 -- What a network of sockets tells of the datagrams that it passed over since its last start.
 use Rattle.std.specs.Prelude.{ℕ, Option}
 use Rattle.norm_udp.specs.declared.fabric.UdpFabric.{UdpFabric}
-use Rattle.norm_udp.specs.declared.misfit.Misfit.{Misfit}
+use Rattle.udp_rules.specs.declared.misfit.Misfit.{Misfit}
 
 -- how many there were
 abbrev pub passed_by : {R : Type 0} → UdpFabric R → ℕ

@@ -2,7 +2,7 @@
 use Rattle.std.specs.Prelude.{◌≡◌, ℕ, zero, suc, ◌+◌, ◌-◌, ◌%◌, ◌<◌, ◌==◌, Bool, true, List, [], ◌++◌, map, filter, count_by, IsPermutation}
 use Rattle.norm_base.specs.Members.{receivers_of, members_of, is_node}
 use Rattle.norm_base.specs.Settings.{Settings}
-use Rattle.norm_udp.specs.Addresses.{gets_copy}
+use Rattle.udp_rules.specs.Addresses.{gets_copy}
 use Rattle.norm_udp.specs.declared.member.Member.{Member}
 
 -- the members that these sockets are of, or lead to

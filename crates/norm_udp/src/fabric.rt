@@ -5,20 +5,15 @@ ghost use Rattle.norm_base.specs.Faults.{Counts, network_failed};
 ghost use Rattle.norm_base.specs.Network.{Starts};
 ghost use Rattle.norm_base.specs.Sizes.{datagram_room};
 ghost use Rattle.norm_udp.specs.Failures.{is_sending, tells_sending};
-ghost use Rattle.norm_udp.specs.Hearing.{heard_in};
-ghost use Rattle.norm_udp.specs.Misfits.{is_cut_off};
+ghost use Rattle.udp_rules.specs.Hearing.{heard_in};
+ghost use Rattle.udp_rules.specs.Misfits.{is_cut_off};
 ghost use Rattle.norm_udp.specs.Passing.{passed_by, misfit_by};
 ghost use Rattle.norm_udp.specs.Pausing.{is_answered};
 ghost use Rattle.norm_udp.specs.Untold.{untold};
 
-use crate::address::Located;
 use crate::cause::SocketCause;
-use crate::group::Asked;
-use crate::misfit::Misfit;
-use crate::news::{GroupNews, TellsGroup};
 use crate::pace::{Pace, Pause, moment, sleep_since};
 use crate::senders::Senders;
-use crate::sieve::{PassesOver, Sieve};
 use crate::socket::{BUFFER, MOST_PASSED};
 use crate::sockets::{Open, OpenFault, open_for};
 use norm_base::{Datagram, Fabric, FabricFault, Local, Memory, NodeId, Profile};
@@ -27,6 +22,7 @@ use std::net::{Ipv4Addr, Net};
 use std::sync::Wait;
 use std::thread;
 use std::time::{Clock, Duration};
+use udp_rules::{Asked, GroupNews, Located, Misfit, PassesOver, Sieve, TellsGroup};
 
 /// The most times that a sender looks again in one `take`, while its gap lasts.
 // Our own choice, so that the look ends even if the clock stands still. A millisecond has time for fewer calls of the system.

@@ -4,24 +4,19 @@ ghost use Rattle.std.specs.Prelude.{◌≡◌, ◌==◌, [], true, false, IfOk, 
 ghost use Rattle.std.specs.IoError.{raw_os_error};
 ghost use Rattle.norm_base.specs.Members.{is_node};
 ghost use Rattle.norm_udp.specs.Failures.{is_sending};
-ghost use Rattle.norm_udp.specs.Groups.{IsIn, speaks_to, is_of_another};
+ghost use Rattle.udp_rules.specs.Groups.{IsIn, speaks_to, is_of_another};
 ghost use Rattle.norm_udp.specs.Joining.{IsListener, HearsOffers, IsJoined, is_sent, looks_then};
-ghost use Rattle.norm_udp.specs.Losses.{is_group_loss};
+ghost use Rattle.udp_rules.specs.Losses.{is_group_loss};
 
-use crate::address::Located;
 use crate::cause::SocketCause;
-use crate::group::Group;
-use crate::loss::{is_loss, is_unreachable};
-use crate::machine::Machines;
 use crate::member::{Member, open_own};
-use crate::news::{GroupNews, Unsent};
 use crate::pace::moment;
 use crate::socket::{MOST_PASSED, bind_shared, check_broadcast, receive_from};
-use crate::source::other_in;
 use norm_base::{Datagram, NodeId, Profile};
 use std::io;
 use std::net::{Net, SocketAddr, SocketAddrV4, UdpSocket};
 use std::time::Clock;
+use udp_rules::{Group, GroupNews, Located, Machines, Unsent, is_loss, is_unreachable, other_in};
 
 /// At one look in this many a receiver looks first at what other receivers send.
 // Our own choice. While the sender's datagrams come faster than they are taken, a receiver would else never hear that another one asked
@@ -96,7 +91,7 @@ fn listen_to_offers<R: Net>(
 }
 
 /// Joins a group as one member. Fails if the address is no broadcast address of this machine, or if a socket cannot be opened.
-#[tactic(auto, using(crate::proofs::GroupLemmas::hears_all))]
+#[tactic(auto, using(crate::proofs::JoiningLemmas::hears_all))]
 pub(crate) fn join<R: Net>(
     rt: &R,
     group: &Group,

@@ -2,14 +2,14 @@
 
 ghost use Rattle.std.specs.Prelude.{◌≡◌, true, IfOk, IfErr};
 ghost use Rattle.norm_base.specs.Members.{is_node};
-ghost use Rattle.norm_udp.specs.Addresses.{gets_copy};
+ghost use Rattle.udp_rules.specs.Addresses.{gets_copy};
 ghost use Rattle.norm_udp.specs.Failures.{is_sending};
 
-use crate::address::{Located, address_at, address_of, with_address};
 use crate::cause::SocketCause;
 use crate::socket::{bind, connect, send};
 use norm_base::{NodeId, Profile};
 use std::net::{Net, UdpSocket};
+use udp_rules::{Located, address_at, address_of, with_address};
 
 /// A member with its address, and a socket that is bound to this address or connected to it.
 #[derive(Debug, Drop)]

@@ -4,7 +4,6 @@ ghost use Rattle.std.specs.Prelude.{◌≡◌, [], true, false, IfOk, IfErr, IfN
 ghost use Rattle.norm_udp.specs.Failures.{is_sending};
 
 use crate::cause::SocketCause;
-use crate::loss::is_loss;
 use libc::EACCES;
 use libc::net::{
     AF_INET, SO_RCVBUF, SO_REUSEPORT, SOCK_CLOEXEC, SOCK_DGRAM, SOCK_NONBLOCK, SOL_SOCKET,
@@ -14,6 +13,7 @@ use os::FromRawFd;
 use std::io;
 use std::net::{Ipv4Addr, Net, SocketAddr, SocketAddrV4, UdpSocket};
 use std::os::fd::AsRawFd;
+use udp_rules::is_loss;
 
 /// Octets of the buffer that a datagram is received into: one more than a datagram may have, so that a longer one shows.
 // A read cuts what is longer than the buffer, and does not say so.

@@ -3,17 +3,14 @@
 ghost use Rattle.std.specs.Prelude.{◌≡◌, ◌≤◌, ◌+◌, ◌<◌, ◌==◌, ◌++◌, ◌∷◌, [], true, length, if◌then◌else◌, IfOk, IfErr, IfSome, IfNone, OnOk, OnErr};
 ghost use Rattle.norm_base.specs.Members.{receivers_of, members_of};
 ghost use Rattle.norm_base.specs.Sizes.{datagram_room};
-ghost use Rattle.norm_udp.specs.Addresses.{gets_copy};
+ghost use Rattle.udp_rules.specs.Addresses.{gets_copy};
 ghost use Rattle.norm_udp.specs.Failures.{is_sending};
 ghost use Rattle.norm_udp.specs.Lanes.{lanes_of, sharing, IsHub};
 ghost use Rattle.norm_udp.specs.Ways.{nodes_of, copies, is_on_way, way_from};
 
-use crate::address::{Located, address_at, address_of, gets_copy, heard_from, is_node, member_at};
 use crate::cause::SocketCause;
-use crate::group::{Asked, Group};
 use crate::joined::{Joined, join};
 use crate::member::{Member, open_own, open_way};
-use crate::news::GroupNews;
 use crate::senders::Senders;
 use crate::socket::{MOST_PASSED, bind, receive, receive_from, send_to};
 use crate::way::{Way, send_copies};
@@ -23,6 +20,10 @@ use std::io::{self, ErrorKind};
 use std::net::{Net, SocketAddr, UdpSocket};
 use std::sync::Wait;
 use std::time::Clock;
+use udp_rules::{
+    Asked, Group, GroupNews, Located, address_at, address_of, gets_copy, heard_from, is_node,
+    member_at,
+};
 
 /// Why sockets could not be opened.
 #[derive(Debug, Drop)]

@@ -4,12 +4,12 @@ ghost use Rattle.std.specs.Prelude.{◌≡◌, true, IfOk, IfErr};
 ghost use Rattle.norm_udp.specs.Failures.{is_sending};
 ghost use Rattle.norm_udp.specs.Ways.{nodes_of, copies};
 
-use crate::address::gets_copy;
 use crate::cause::SocketCause;
 use crate::member::{Member, send_copy_through};
 use crate::socket::send_to;
 use norm_base::{NodeId, Profile};
 use std::net::{SocketAddr, UdpSocket};
+use udp_rules::gets_copy;
 
 /// To whom a thread sends what lies in its lane, until it is told another way.
 #[derive(Drop)]

@@ -12,7 +12,7 @@ use Rattle.norm_receive_rules.specs.Leaving.{is_in, enters}
 use Rattle.norm_receive_rules.specs.Overhearing.{overheard, adv_overheard}
 use Rattle.norm_receive_rules.specs.ReceiverState.{ReceiverState}
 use Rattle.norm_receive_rules.specs.Receiving.{info_received, data_received, flush_received, squelch_received, learns, takes_in, in_instance, message_received}
-use Rattle.norm_udp.specs.Hearing.{reading_heard}
+use Rattle.udp_rules.specs.Hearing.{reading_heard}
 use Rattle.norm_watch.specs.Following.{goes_to, followed_by}
 use Rattle.norm_watch.specs.FollowingLaws.{FollowingLaws}
 

@@ -3,7 +3,7 @@ use Rattle.std.specs.Prelude.{ℕ, ◌==◌, ◌&&◌, ◌||◌, not, Bool, true
 use Rattle.norm_base.specs.Settings.{Settings}
 use Rattle.norm_ext.specs.InstanceIds.{is_above}
 use Rattle.norm_ext.specs.ObjectIds.{index_named}
-use Rattle.norm_udp.specs.declared.heard.Heard.{Heard}
+use Rattle.udp_rules.specs.declared.heard.Heard.{Heard}
 
 -- a receiver in this instance goes on to that one: it is in none, or that one lies above its own
 abbrev pub goes_to : Option ℕ → ℕ → Bool

@@ -3,7 +3,7 @@ use Rattle.std.specs.Prelude.{◌≡◌, ℕ, List}
 use Rattle.norm_base.specs.Settings.{Settings}
 use Rattle.norm_receive_rules.specs.ReceiverState.{ReceiverState}
 use Rattle.norm_receive_rules.specs.Receiving.{received}
-use Rattle.norm_udp.specs.Hearing.{heard_in}
+use Rattle.udp_rules.specs.Hearing.{heard_in}
 use Rattle.norm_watch.specs.Following.{followed_by}
 
 -- After each datagram, in whatever state, the receiver is in the instance that is followed.

@@ -13,9 +13,9 @@ use norm_ext::MessageType;
 use norm_ext::flags::REPAIR;
 use norm_ext::items::has_flag;
 use norm_ext::places::FLAGS_AT;
-use norm_udp::{PassesOver, TellsGroup, Unsent};
 use std::fmt;
 use std::time::{Clock, Duration};
+use udp_rules::{PassesOver, TellsGroup, Unsent};
 
 /// At least this many seconds pass from one line of progress to the next.
 // Our own choice: as often as a person can read it.

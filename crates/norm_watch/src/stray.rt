@@ -6,9 +6,9 @@ ghost use Rattle.norm_watch.specs.Following.{goes_to, names_index, followed, fol
 use norm_base::{InstanceId, Local, NodeId, Profile};
 use norm_ext::places::{INSTANCE_AT, SOURCE_AT};
 use norm_ext::{index_named, is_above, read_16, read_32};
-use norm_udp::{Heard, heard_in};
 use std::fmt;
 use std::time::Duration;
+use udp_rules::{Heard, heard_in};
 
 /// After this many seconds a second datagram shows that the first was not just late. Our own choice.
 // We expect a slow network to deliver old datagrams only for a moment.

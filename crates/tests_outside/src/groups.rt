@@ -3,13 +3,14 @@
 use crate::networks::{At, Networks, Step, port_of};
 use crate::sockets::networks;
 use norm_base::Fabric;
-use norm_udp::{TellsGroup, UdpFabric};
+use norm_udp::UdpFabric;
 use std::alloc::Global;
 use std::net::{Ipv4Addr, Net, SocketAddr, SocketAddrV4};
 use std::sync::Wait;
 use std::test::Fail;
 use std::time::Clock;
 use std::{io, process};
+use udp_rules::TellsGroup;
 
 /// The broadcast address of the loopback network, which each machine has.
 const EVERYONE: Ipv4Addr = Ipv4Addr::new(127, 255, 255, 255);

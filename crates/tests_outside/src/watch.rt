@@ -8,9 +8,6 @@ use norm_base::{
     NodeId, Notice, Profile, Sink,
 };
 use norm_memory::MemSink;
-use norm_udp::{
-    Difference, GroupNews, Misfit, PassesOver, SecondMachine, Sizes, TellsGroup, Unsent,
-};
 use norm_watch::{Restarts, Says, Tally, WatchedFabric, WatchedSink, end_progress};
 use std::alloc::Global;
 use std::cell::{Cell, RefCell};
@@ -19,6 +16,9 @@ use std::io::{self, ErrorKind};
 use std::net::{Ipv4Addr, SocketAddr, SocketAddrV4};
 use std::test::Fail;
 use std::time::{Clock, Duration};
+use udp_rules::{
+    Difference, GroupNews, Misfit, PassesOver, SecondMachine, Sizes, TellsGroup, Unsent,
+};
 
 /// What was written to standard error, and a clock that stands until it is set.
 #[derive(Drop)]

@@ -2,7 +2,7 @@
 
 ghost use Rattle.std.specs.Prelude.{◌≡◌};
 ghost use Rattle.std.specs.IoError.{raw_os_error};
-ghost use Rattle.norm_udp.specs.Losses.{is_loss, is_unreachable};
+ghost use Rattle.udp_rules.specs.Losses.{is_loss, is_unreachable};
 
 use libc::{EAGAIN, ECONNREFUSED};
 use std::io;
@@ -12,7 +12,7 @@ use std::io;
 const NO_BUFFERS: i32 = 105;
 
 /// Whether an error of a socket is no fault: a datagram is lost because nobody is there or there is no room, or there is none to receive.
-pub(crate) fn is_loss(error: &io::Error) -> bool
+pub fn is_loss(error: &io::Error) -> bool
     ensures { result ≡ is_loss (raw_os_error error.now) }
 {
     match error.raw_os_error() {
@@ -31,7 +31,7 @@ const NETWORK_UNREACHABLE: i32 = 101;
 const HOST_UNREACHABLE: i32 = 113;
 
 /// Whether an error says that the network cannot be reached now. In a group that is a loss too: an interface that is down comes back.
-pub(crate) fn is_unreachable(error: &io::Error) -> bool
+pub fn is_unreachable(error: &io::Error) -> bool
     ensures { result ≡ is_unreachable (raw_os_error error.now) }
 {
     match error.raw_os_error() {

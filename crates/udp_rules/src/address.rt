@@ -3,7 +3,7 @@
 ghost use Rattle.std.specs.Prelude.{◌≡◌, ◌≤◌, ◌+◌, ◌<◌, true, if◌then◌else◌, IfSome, IfNone, Some, None};
 ghost use Rattle.std.proofs.Props.{props};
 ghost use Rattle.norm_base.specs.Members.{is_node};
-ghost use Rattle.norm_udp.specs.Addresses.{port_of, member_with, member_from, IsAt, gets_copy};
+ghost use Rattle.udp_rules.specs.Addresses.{port_of, member_with, member_from, IsAt, gets_copy};
 
 use norm_base::{NodeId, Profile};
 use std::net::{Ipv4Addr, SocketAddr, SocketAddrV4};
@@ -11,15 +11,15 @@ use std::net::{Ipv4Addr, SocketAddr, SocketAddrV4};
 /// A member and its address at 127.0.0.1.
 // What is received goes up as this value: its node cannot be replaced by one that the address does not belong to.
 #[derive(Clone, Copy, Debug)]
-pub(crate) struct Located {
-    pub(crate) profile: Profile,
-    pub(crate) address: SocketAddr,
-    pub(crate) node: NodeId,
+pub struct Located {
+    pub profile: Profile,
+    pub address: SocketAddr,
+    pub node: NodeId,
     ghost known: { member_from profile address ≡ Some node } by { Prim.hlevel props },
 }
 
 /// Returns 127.0.0.1 with this port.
-pub(crate) fn address_at(port: u16) -> SocketAddr
+pub fn address_at(port: u16) -> SocketAddr
     ensures { IsAt result port }
 {
     // Nothing but this machine: nobody is authenticated, so what comes from outside could speak in any member's name.
@@ -27,7 +27,7 @@ pub(crate) fn address_at(port: u16) -> SocketAddr
 }
 
 /// Whether a node is a member of the profile: its sender or a receiver.
-pub(crate) fn is_node(profile: &Profile, node: NodeId) -> bool
+pub fn is_node(profile: &Profile, node: NodeId) -> bool
     ensures { result ≡ is_node profile.now node }
 {
     node.number() == profile.sender || profile.is_receiver(node)
@@ -40,7 +40,7 @@ fn port_of(profile: &Profile, node: NodeId) -> u16
     profile.port + 1 + (node.number() - profile.sender) as u16
 }
 
-pub(crate) fn address_of(profile: &Profile, node: NodeId) -> SocketAddr
+pub fn address_of(profile: &Profile, node: NodeId) -> SocketAddr
     requires { is_node profile.now node ≡ true }
     ensures { IsAt result (port_of profile.now node) }
 {
@@ -49,7 +49,7 @@ pub(crate) fn address_of(profile: &Profile, node: NodeId) -> SocketAddr
 
 /// Returns a member with its address, to which its own socket is bound.
 #[tactic(auto, using(crate::proofs::AddressLemmas::known))]
-pub(crate) fn with_address(profile: &Profile, node: NodeId) -> Located
+pub fn with_address(profile: &Profile, node: NodeId) -> Located
     requires { is_node profile.now node ≡ true }
     ensures profile { result.profile ≡ profile.now }
     ensures node { result.node ≡ node }
@@ -63,7 +63,7 @@ pub(crate) fn with_address(profile: &Profile, node: NodeId) -> Located
 }
 
 /// Returns the member with this index: the sender at 0, and then the receivers in the order of their ids.
-pub(crate) fn member_at(profile: &Profile, place: u8) -> NodeId
+pub fn member_at(profile: &Profile, place: u8) -> NodeId
     requires { place ≤ profile.now.receivers }
     ensures id { result ≡ profile.now.sender + place }
     ensures node { is_node profile.now result ≡ true }
@@ -94,7 +94,7 @@ fn member_from(profile: &Profile, address: &SocketAddr) -> Option<NodeId>
 }
 
 /// Returns the member that sends from this address, with the address. `None` if it is no member's.
-pub(crate) fn heard_from(profile: &Profile, address: SocketAddr) -> Option<Located>
+pub fn heard_from(profile: &Profile, address: SocketAddr) -> Option<Located>
     ensures some { IfSome result (λ from. (from.profile ≡ profile.now) × (from.address ≡ address)) }
     ensures none { IfNone result (member_from profile.now address ≡ None) }
 {
@@ -109,7 +109,7 @@ pub(crate) fn heard_from(profile: &Profile, address: SocketAddr) -> Option<Locat
 }
 
 /// Whether `to` gets a copy of what `from` offers: both are members, and not the same one.
-pub(crate) fn gets_copy(profile: &Profile, from: NodeId, to: NodeId) -> bool
+pub fn gets_copy(profile: &Profile, from: NodeId, to: NodeId) -> bool
     ensures { result ≡ gets_copy profile.now from to }
 {
     is_node(profile, from) && is_node(profile, to) && to != from

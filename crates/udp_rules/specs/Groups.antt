@@ -8,8 +8,8 @@ use Rattle.std.specs.Net.Addr.{ipv4_octets}
 use Rattle.std.specs.Net.Socket.{v4_ip, v4_port}
 use Rattle.norm_base.specs.Settings.{Settings}
 use Rattle.norm_ext.specs.Numbers.{number}
-use Rattle.norm_udp.specs.Addresses.{gets_copy}
-use Rattle.norm_udp.specs.declared.group.Group.{Group}
+use Rattle.udp_rules.specs.Addresses.{gets_copy}
+use Rattle.udp_rules.specs.declared.group.Group.{Group}
 
 -- the port that a member speaks to
 abbrev pub speaks_to : Settings → ℕ → ℕ → ℕ

@@ -5,10 +5,10 @@ use Rattle.norm_base.specs.declared.kinds.Local.{Local}
 use Rattle.norm_base.specs.declared.kinds.Local.TheVariants as members
 use Rattle.norm_ext.specs.Asking.{has_flag}
 use Rattle.norm_ext.specs.Extensions.{Fti}
-use Rattle.norm_udp.specs.declared.heard.Heard.{Heard}
-use Rattle.norm_udp.specs.declared.misfit.Difference.{Difference}
-use Rattle.norm_udp.specs.declared.misfit.Difference.TheVariants as differs
-use Rattle.norm_udp.specs.declared.misfit.Misfit.{Misfit}
+use Rattle.udp_rules.specs.declared.heard.Heard.{Heard}
+use Rattle.udp_rules.specs.declared.misfit.Difference.{Difference}
+use Rattle.udp_rules.specs.declared.misfit.Difference.TheVariants as differs
+use Rattle.udp_rules.specs.declared.misfit.Misfit.{Misfit}
 
 -- the flags of INFO and DATA have STREAM (RFC 5740 section 4.2.1), and then the length says nothing
 abbrev pub says_stream : ℕ → Bool

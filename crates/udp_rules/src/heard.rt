@@ -3,7 +3,7 @@
 ghost use Rattle.std.specs.Prelude.{◌≡◌, Some};
 ghost use Rattle.norm_cmdmsg.specs.View.{command_of};
 ghost use Rattle.norm_codec.specs.View.{message_of};
-ghost use Rattle.norm_udp.specs.Hearing.{object_heard, command_heard, message_heard, heard_in};
+ghost use Rattle.udp_rules.specs.Hearing.{object_heard, command_heard, message_heard, heard_in};
 
 use norm_base::{InstanceId, NodeId};
 use norm_cmdmsg::CommandMsg;

@@ -7,7 +7,7 @@ use Rattle.std.specs.Net.Socket.{v4_port}
 use Rattle.std.proofs.lemmas.Grind.{common_steps}
 use Rattle.norm_base.specs.Members.{is_node}
 use Rattle.norm_base.specs.Settings.{Settings}
-use Rattle.norm_udp.specs.Addresses.{here, port_of, member_with, member_from, IsAt, AddressLaws}
+use Rattle.udp_rules.specs.Addresses.{here, port_of, member_with, member_from, IsAt, AddressLaws}
 
 found : (p : Settings) → (node : ℕ) → is_node p node ≡ true → member_with p (port_of p node) ≡ Some node
 found p node is = grind (arith, common_steps)

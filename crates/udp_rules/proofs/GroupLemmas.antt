@@ -1,24 +1,12 @@
--- The ports of a group: who hears whom, and that a member's sockets are at its ports.
-use Rattle.std.proofs.Common.{◌≡◌, ◌∙◌, ℕ, ◌+◌, Bool, true, false, cond, List, [], ◌∷◌, Option, Some, None, refl, arith}
+-- The ports of a group: who hears whom.
+use Rattle.std.proofs.Common.{◌≡◌, ◌∙◌, ℕ, ◌+◌, Bool, true, false, cond, List, [], ◌∷◌, refl, arith}
 use Rattle.std.specs.Prelude.{◌==◌, ◌&&◌, ◌||◌, not}
 use Rattle.std.specs.List.{list_any}
 use Rattle.std.proofs.lemmas.Bool.Decides.{nat_tests}
 use Rattle.norm_base.specs.Members.{is_node}
 use Rattle.norm_base.specs.Settings.{Settings}
-use Rattle.norm_udp.specs.Addresses.{gets_copy}
-use Rattle.norm_udp.specs.Groups.{IsIn, speaks_to, hears, GroupLaws}
-use Rattle.norm_udp.specs.Joining.{HearsOffers, AreIn, heard_at}
-use Rattle.norm_udp.specs.declared.group.Group.{Group}
-use Rattle.norm_udp.specs.declared.joined.Listener.{Listener}
-
--- a sender's socket, or a receiver's two
-pub hears_all : (g : Group) (is_sender : Bool) (offers : Option Listener) (feedback : Listener)
-    → HearsOffers g is_sender offers → IsIn g feedback.address (g.port + 1)
-    → AreIn g (heard_at offers feedback) (cond is_sender ((g.port + 1) ∷ []) (g.port ∷ (g.port + 1) ∷ []))
-hears_all g true None feedback offers is = (is, tt)
-hears_all g true (Some l) feedback offers is = absurd offers
-hears_all g false None feedback offers is = absurd offers
-hears_all g false (Some l) feedback offers is = (offers, (is, tt))
+use Rattle.udp_rules.specs.Addresses.{gets_copy}
+use Rattle.udp_rules.specs.Groups.{speaks_to, hears, GroupLaws}
 
 any_of : (b : Bool) (test : ℕ → Bool) (xs ys : List ℕ) → list_any test (cond b xs ys) ≡ cond b (list_any test xs) (list_any test ys)
 any_of true test xs ys = refl

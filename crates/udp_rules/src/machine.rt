@@ -2,7 +2,7 @@
 
 ghost use Rattle.std.specs.Prelude.{◌≡◌, true};
 ghost use Rattle.norm_base.specs.Members.{is_node};
-ghost use Rattle.norm_udp.specs.Machines.{keeps, is_same, gives_way, takes_from, kept_then, second_then, takes, kept_after, second_after};
+ghost use Rattle.udp_rules.specs.Machines.{keeps, is_same, gives_way, takes_from, kept_then, second_then, takes, kept_after, second_after};
 
 use norm_base::{NodeId, Profile};
 use std::fmt;
@@ -17,9 +17,9 @@ const SILENCE: u64 = 10_000_000;
 
 /// A machine that sends as one of the members, and the moment of its last datagram, in microseconds of the clock.
 #[derive(Clone, Copy, Debug)]
-pub(crate) struct Machine {
-    pub(crate) address: Ipv4Addr,
-    pub(crate) heard: u64,
+pub struct Machine {
+    pub address: Ipv4Addr,
+    pub heard: u64,
 }
 
 /// A machine whose datagrams are passed over, because the number that they name is taken from another one.
@@ -120,15 +120,15 @@ fn second_then(
 /// From which machine a node takes each member's number: that from which it came first. A sender keeps it for its run, and a receiver keeps
 /// its sender's until that was silent for ten seconds. What receivers send to each other is taken from any.
 #[derive(Clone, Copy, Debug)]
-pub(crate) struct Machines {
+pub struct Machines {
     /// By the members' indexes, the sender's first.
-    kept: [Option<Machine>; MEMBERS],
+    pub kept: [Option<Machine>; MEMBERS],
     /// The first that was passed over.
-    pub(crate) second: Option<SecondMachine>,
+    pub second: Option<SecondMachine>,
 }
 
 impl Machines {
-    pub(crate) fn new() -> Machines {
+    pub fn new() -> Machines {
         Machines {
             kept: [None; MEMBERS],
             second: None,
@@ -137,7 +137,7 @@ impl Machines {
 
     /// Whether `node` takes what `from` sent from this machine at this moment. Keeps the machine if so, and else the first that was passed
     /// over.
-    pub(crate) fn takes(
+    pub fn takes(
         &mut self,
         profile: &Profile,
         node: NodeId,

@@ -2,8 +2,8 @@
 
 ghost use Rattle.std.specs.Prelude.{◌≡◌, Some, None};
 ghost use Rattle.norm_base.specs.Faults.{one_more, counted};
-ghost use Rattle.norm_udp.specs.Hearing.{heard_in};
-ghost use Rattle.norm_udp.specs.Misfits.{compared, is_in, cut_by, cut_after, cut_then, is_cut_off, first_misfit, misfit_then};
+ghost use Rattle.udp_rules.specs.Hearing.{heard_in};
+ghost use Rattle.udp_rules.specs.Misfits.{compared, is_in, cut_by, cut_after, cut_then, is_cut_off, first_misfit, misfit_then};
 
 use crate::heard::{Heard, heard_in};
 use crate::misfit::{Misfit, fits, misfit_of};
@@ -23,7 +23,7 @@ pub trait PassesOver {
 /// the sender off until then. A sender that only flushes sends neither.
 // In the network and not in the rules: a network may lose anything, so no clause above it changes.
 #[derive(Drop)]
-pub(crate) struct Sieve {
+pub struct Sieve {
     /// The receiver's profile. `None` at any other node, which passes nothing over.
     pub profile: Option<Profile>,
     /// The instance that is cut off, if one is.
@@ -85,7 +85,7 @@ fn cut_after(profile: &Profile, cut: Option<InstanceId>, heard: &Heard) -> Optio
 
 impl Sieve {
     /// Returns a sieve with nothing cut off. It lets everything through unless `local` is a receiver alone.
-    pub(crate) fn of(profile: &Profile, local: &Local) -> Sieve
+    pub fn of(profile: &Profile, local: &Local) -> Sieve
         ensures profile { result.profile ≡ compared profile.now local.now }
         ensures cut { result.cut ≡ None }
         ensures count { result.count ≡ 0 }
@@ -100,7 +100,7 @@ impl Sieve {
     }
 
     /// Returns a sieve that lets everything through, for a network without a session.
-    pub(crate) fn open() -> Sieve
+    pub fn open() -> Sieve
         ensures profile { result.profile ≡ None }
         ensures count { result.count ≡ 0 }
         ensures misfit { result.misfit ≡ None }
@@ -149,7 +149,7 @@ impl Sieve {
     }
 
     /// Whether a datagram is passed over. If so, counts it.
-    pub(crate) fn passes_over(&mut self, bytes: &[u8]) -> bool
+    pub fn passes_over(&mut self, bytes: &[u8]) -> bool
         ensures profile { self.new.profile ≡ self.old.profile }
         ensures cut { self.new.cut ≡ cut_then self.old.profile self.old.cut (heard_in bytes.now) }
         ensures exact { result ≡ is_cut_off self.new.profile self.new.cut (heard_in bytes.now) }

@@ -2,7 +2,7 @@
 
 ghost use Rattle.std.specs.Prelude.{◌≡◌, Some, None, if◌then◌else◌};
 ghost use Rattle.norm_base.specs.Members.{is_node};
-ghost use Rattle.norm_udp.specs.Groups.{source_in, other_in};
+ghost use Rattle.udp_rules.specs.Groups.{source_in, other_in};
 
 use crate::address::gets_copy;
 use norm_base::{NodeId, Profile};
@@ -30,7 +30,7 @@ fn member_numbered(profile: &Profile, number: u32) -> Option<NodeId>
 }
 
 /// Returns the member that a datagram is of. `None` if it is the node itself, or no member of the profile.
-pub(crate) fn other_in(profile: &Profile, node: NodeId, octets: &[u8]) -> Option<NodeId>
+pub fn other_in(profile: &Profile, node: NodeId, octets: &[u8]) -> Option<NodeId>
     ensures { result ≡ other_in profile.now node octets.now }
 {
     let source = source_in(octets)?;

@@ -10,22 +10,22 @@ const MOST_PORT: u16 = 65_534;
 
 /// A group that a node alone is to join at its next starts: the broadcast address, and the port if it is not the profile's.
 #[derive(Clone, Copy, Debug)]
-pub(crate) struct Asked {
-    pub(crate) address: Ipv4Addr,
-    pub(crate) port: Option<u16>,
+pub struct Asked {
+    pub address: Ipv4Addr,
+    pub port: Option<u16>,
 }
 
 /// The broadcast address of a group, and the port that its sender sends to. Its receivers send to the next one.
 #[derive(Clone, Copy, Debug)]
-pub(crate) struct Group {
-    pub(crate) address: Ipv4Addr,
-    pub(crate) port: u16,
+pub struct Group {
+    pub address: Ipv4Addr,
+    pub port: u16,
     ghost fits: { port ≤ 65534 },
 }
 
 impl Group {
     /// Returns the group that is asked for, with the profile's port if none is given. A port above [`MOST_PORT`] counts as that one.
-    pub(crate) fn of(asked: &Asked, profile: &Profile) -> Group
+    pub fn of(asked: &Asked, profile: &Profile) -> Group
         ensures address { result.address ≡ asked.now.address }
         ensures port { result.port ≡ min (unwrap_or asked.now.port profile.now.port) 65534 }
     {

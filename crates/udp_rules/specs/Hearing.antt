@@ -5,7 +5,7 @@ use Rattle.norm_ext.specs.Message.{Message, Info, Data, Flush, Eot, Squelch, Rep
 use Rattle.norm_ext.specs.Reading.{decoded}
 use Rattle.norm_ext.specs.declared.head.CmdHead.{CmdHead}
 use Rattle.norm_ext.specs.declared.head.ObjHead.{ObjHead}
-use Rattle.norm_udp.specs.declared.heard.Heard.{Heard}
+use Rattle.udp_rules.specs.declared.heard.Heard.{Heard}
 
 -- INFO or DATA, by its head and its extensions
 abbrev pub object_heard : ObjHead → List Extension → Heard

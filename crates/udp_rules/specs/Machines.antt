@@ -4,8 +4,8 @@ use Rattle.std.specs.Cmp.Lexicographic.{pointwise}
 use Rattle.std.specs.Net.Addr.{ipv4_octets}
 use Rattle.std.specs.declared.net.ipv4_addr.Ipv4Addr.{Ipv4Addr}
 use Rattle.norm_base.specs.Settings.{Settings}
-use Rattle.norm_udp.specs.declared.machine.Machine.{Machine}
-use Rattle.norm_udp.specs.declared.machine.SecondMachine.{SecondMachine}
+use Rattle.udp_rules.specs.declared.machine.Machine.{Machine}
+use Rattle.udp_rules.specs.declared.machine.SecondMachine.{SecondMachine}
 
 -- whose machine a node keeps: a sender that of each receiver, and a receiver that of the sender
 abbrev pub keeps : Settings → (node from : ℕ) → Bool

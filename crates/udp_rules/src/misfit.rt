@@ -1,7 +1,7 @@
 //! A sender's instance that does not fit this receiver's profile.
 
 ghost use Rattle.std.specs.Prelude.{◌≡◌};
-ghost use Rattle.norm_udp.specs.Misfits.{says_stream, has_sizes, fits, difference_of, misfit_of};
+ghost use Rattle.udp_rules.specs.Misfits.{says_stream, has_sizes, fits, difference_of, misfit_of};
 
 use crate::heard::Heard;
 use norm_base::{InstanceId, NodeId, Profile};
@@ -78,7 +78,7 @@ fn has_sizes(profile: &Profile, fti: &Fti) -> bool
 }
 
 /// Whether transmission information fits the profile. `flags` are those of its message: if it is a stream's, the length says nothing.
-pub(crate) fn fits(profile: &Profile, fti: &Fti, flags: u8) -> bool
+pub fn fits(profile: &Profile, fti: &Fti, flags: u8) -> bool
     ensures { result ≡ fits profile.now fti.now flags }
 {
     has_sizes(profile, fti) && (is_stream(flags) || fti.l <= u64::from(profile.octets))
@@ -109,7 +109,7 @@ fn difference_of(profile: &Profile, fti: &Fti) -> Difference
 }
 
 /// `fti` is that of `heard`, and does not fit.
-pub(crate) fn misfit_of(profile: &Profile, heard: &Heard, fti: &Fti) -> Misfit
+pub fn misfit_of(profile: &Profile, heard: &Heard, fti: &Fti) -> Misfit
     ensures { result ≡ misfit_of profile.now heard.now fti.now }
 {
     Misfit {

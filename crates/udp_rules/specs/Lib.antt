@@ -1,0 +1,6 @@
+pub mod Addresses
+pub mod Groups
+pub mod Hearing
+pub mod Losses
+pub mod Machines
+pub mod Misfits

@@ -1,0 +1,30 @@
+//! What a node over UDP decides, apart from the sockets: `norm_udp` opens these, and asks here.
+//!
+//! [`Located`] is a member with its address at 127.0.0.1, and [`Group`] a broadcast address with its port. [`heard_from`] and [`other_in`] say of
+//! which member a datagram is, [`Machines`] whether a number is taken from a machine, [`Sieve`] which instance a receiver passes over, and
+//! [`is_loss`] and [`is_unreachable`] which errors of a socket only lose a datagram. `norm_watch` reports what a receiver passed over
+//! ([`PassesOver`]) and what becomes of a group ([`TellsGroup`]), and reads datagrams with [`heard_in`].
+#![tactic(auto)]
+
+mod address;
+mod group;
+mod heard;
+pub mod laws;
+mod loss;
+mod machine;
+mod misfit;
+mod news;
+mod sieve;
+mod source;
+
+pub use crate::address::{
+    Located, address_at, address_of, gets_copy, heard_from, is_node, member_at, with_address,
+};
+pub use crate::group::{Asked, Group};
+pub use crate::heard::{Heard, heard_in};
+pub use crate::loss::{is_loss, is_unreachable};
+pub use crate::machine::{Machine, Machines, SecondMachine};
+pub use crate::misfit::{Difference, Misfit, Sizes};
+pub use crate::news::{GroupNews, TellsGroup, Unsent};
+pub use crate::sieve::{PassesOver, Sieve};
+pub use crate::source::other_in;
