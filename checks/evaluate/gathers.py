@@ -1,4 +1,4 @@
-"""Recorded inputs of `gather` (checks/runs/gathers) against the one definition of what it prints (crates/norm_program/specs/Gathered)."""
+"""Recorded inputs of `gather` (checks/runs/gathers) against the one definition of what it prints (crates/driven_nodes/specs/Gathered)."""
 import glob, json, os, re, shutil
 
 from evaluate import evaluating, terms
@@ -6,11 +6,11 @@ from evaluate.evaluating import found_in, put
 from evaluate.journals import KIT
 from evaluate.laws import is_refused
 
-# Of these crates so much is evaluated: what a receiver or the program keeps is not.
-DEFINITIONS = {'norm_multi': ('Owner',), 'norm_program': ('Gathered',)}
+# Of these crates so much is evaluated: what a receiver or a gathering keeps is not.
+DEFINITIONS = {'norm_multi': ('Owner',), 'driven_nodes': ('Gathered',)}
 BELOW = {'norm_multi': ('norm_ext',),
-         'norm_program': ('norm_base', 'norm_text', 'norm_script', 'norm_ext', 'norm_receive_rules', 'norm_journal', 'norm_multi', 'norm_show', 'hex', 'rand_pcg')}
-USES = '''use Rattle.norm_program.specs.Gathered.{Printed, gathered}
+         'driven_nodes': ('norm_base', 'norm_text', 'norm_script', 'norm_ext', 'norm_receive_rules', 'norm_journal', 'norm_multi', 'norm_show', 'hex', 'rand_pcg')}
+USES = '''use Rattle.driven_nodes.specs.Gathered.{Printed, gathered}
 use Rattle.norm_script.specs.Text.{text_lines}
 '''
 SHARED = '''
@@ -24,7 +24,7 @@ class Gathers(evaluating.Workspace):
     """The definition of what `gather` prints, over those of the rules, the lines and the draws."""
 
     def __init__(self, work):
-        super().__init__(work, 'norm_program', terms.USES + USES, SHARED)
+        super().__init__(work, 'driven_nodes', terms.USES + USES, SHARED)
         self.public = [n for n in self.public if n not in ('Do', 'Pass', 'Look')]
 
     def read_crates(self):

@@ -10,8 +10,8 @@ use Rattle.norm_session.specs.Session as session
 use Rattle.norm_session.specs.Turning as turning
 use Rattle.norm_turns.specs.declared.fault.SessionFault.{SessionFault}
 use Rattle.norm_turns.specs.declared.fault.SessionFault.TheVariants as fault
-use Rattle.norm_program.specs.Boarded.{RunsScript, StopsScript, span}
 use Rattle.producer_gate.specs.Boards.{BoardState}
+use Rattle.norm_program.specs.Boarded.{RunsScript, StopsScript, span}
 
 -- what is so of these boards is so of some
 pub ran_over_some : {T : Type 0} (P : T → BoardState → BoardState → Type 0) (result : Result T SessionFault) (b c : BoardState)

@@ -7,11 +7,13 @@ use Rattle.norm_journal.specs.declared.event.Event.{Event}
 use Rattle.norm_turns.specs.Causes.{Counted, HasCause, counted}
 use Rattle.norm_turns.specs.declared.fault.SessionFault.{SessionFault}
 use Rattle.norm_turns.specs.declared.fault.SessionFault.TheVariants as fault
+use Rattle.norm_endings.specs.Outside.{Called, outside, IsInput}
+use Rattle.norm_endings.specs.Endings.{IsReadEnding, IsLastEnding, IsAbsentEnding, IsStoppedEnding}
+use Rattle.norm_endings.specs.declared.status.Ending.{Ending}
+use Rattle.norm_endings.specs.declared.status.Ending.TheVariants.{Done, Memory, Refused, Read, Write, Absent, Spent}
 use Rattle.norm_program.specs.Asked.{Asked, is_alone}
 use Rattle.norm_program.specs.Boarded.{RunsScript, StopsScript, span}
-use Rattle.norm_program.specs.Ends.{Called, outside, EndsScript, EndsEarly, Prepared, IsReadEnding, IsTextEnding, IsLastEnding, IsAbsentEnding, IsStoppedEnding, IsInput, RanSession, StoppedSession}
-use Rattle.norm_program.specs.declared.status.Ending.{Ending}
-use Rattle.norm_program.specs.declared.status.Ending.TheVariants.{Done, Memory, Refused, Read, Write, Absent, Spent}
+use Rattle.norm_program.specs.Ends.{EndsScript, EndsEarly, Prepared, IsTextEnding, RanSession, StoppedSession}
 
 -- Each part that ends the program early, or at last, in plain variables: the input before and after (i, j), the output's pieces (u, v, w),
 -- the counts of failed reads (r, s) and writes (k, l, t), and what only a session calls (c, d).

@@ -15,18 +15,19 @@ use Rattle.norm_show.specs.declared.fault.NoDatagram.{NoDatagram}
 use Rattle.norm_turns.specs.Causes.{Counted, HasCause, WriteCause, counted}
 use Rattle.norm_turns.specs.declared.fault.SessionFault.{SessionFault}
 use Rattle.norm_turns.specs.declared.fault.SessionFault.TheVariants as fault
-use Rattle.norm_program.specs.Ends.{Called, Says, IsInput, IsReadEnding, IsStoppedEnding, outside, called_as, refused_line}
+use Rattle.driven_nodes.specs.Gathered.{Printed, gathered}
+use Rattle.driven_nodes.specs.Hearing.{TookLines}
+use Rattle.driven_nodes.specs.Leaving.{LeavesLines}
+use Rattle.norm_endings.specs.Outside.{Called, Says, IsInput, outside, called_as, refused_line}
+use Rattle.norm_endings.specs.Endings.{IsReadEnding, IsStoppedEnding, IsLoading, IsRefusing}
+use Rattle.norm_endings.specs.declared.status.Ending.{Ending}
+use Rattle.norm_endings.specs.declared.status.Ending.TheVariants.{Done, Memory, Line, Read, Write}
+use Rattle.norm_endings.specs.declared.status.ProfileFault.TheVariants.{Members}
 use Rattle.norm_program.specs.GatherEnds.{AreLoaded, EndsAmong, EndsGather}
-use Rattle.norm_program.specs.Gathered.{Printed, gathered}
-use Rattle.norm_program.specs.Hearing.{TookLines, IsLinesEnding, IsMembersEnding, IsLoadingPair}
-use Rattle.norm_program.specs.NodeEnds.{IsLoading, IsRefusing}
+use Rattle.norm_program.specs.Gathering.{IsLinesEnding, IsMembersEnding, IsLoadingPair}
 use Rattle.norm_program.specs.ShowEnds.{IsLineEnding}
-use Rattle.norm_program.specs.TailEnds.{LeavesLines}
-use Rattle.norm_program.specs.declared.status.Ending.{Ending}
-use Rattle.norm_program.specs.declared.status.Ending.TheVariants.{Done, Memory, Line, Read, Write}
-use Rattle.norm_program.specs.declared.status.ProfileFault.TheVariants.{Members}
+use Rattle.driven_nodes.proofs.LeavingLemmas.{leaves_same, wants_memory}
 use Rattle.norm_program.proofs.NodeLemmas.{unloaded_ends}
-use Rattle.norm_program.proofs.TailLemmas.{leaves_same, wants_memory}
 
 -- ---- the lines
 

@@ -12,9 +12,13 @@ use Rattle.norm_args.specs.declared.node_tasks.NodeTask.TheVariants.{Send, Recei
 use Rattle.norm_args.specs.declared.tasks.Options.{Options}
 use Rattle.norm_args.specs.declared.tasks.Task.{Task}
 use Rattle.norm_args.specs.declared.tasks.Task.TheVariants.{Session, Show, Generate}
+use Rattle.norm_endings.specs.Outside.{Outside, Says, absent_line}
+use Rattle.norm_endings.specs.StatusOf.{status_of}
+use Rattle.norm_endings.specs.declared.status.Ending.{Ending}
+use Rattle.norm_endings.specs.declared.status.Ending.TheVariants.{Done, Datagram, Memory, Refused, Line, Profile, Read, Write, Fabric, Files, Absent, Spent, Tailed, TailRefused, Event, Command, Relayed}
 use Rattle.norm_program.specs.Asked.{Asked, Members, Sender, with_instance}
 use Rattle.norm_program.specs.Commands.{EndsNode, EndsTask, EndsAsked, EndsBy}
-use Rattle.norm_program.specs.Ends.{Outside, Says, EndsScript, absent_line}
+use Rattle.norm_program.specs.Ends.{EndsScript}
 use Rattle.norm_program.specs.GatherEnds.{EndsAmong, EndsGather}
 use Rattle.norm_program.specs.GenerateEnds.{GenerateEnds}
 use Rattle.norm_program.specs.Laws.{NoneFailed, NamesAbsent, FourIsOfReads, FiveIsOfWrites, SixIsOfTheNetwork, SevenIsOfFiles}
@@ -22,9 +26,6 @@ use Rattle.norm_program.specs.NodeEnds.{EndsUnloaded, EndsUnder, EndsBroken, Bro
 use Rattle.norm_program.specs.RelayEnds.{EndsBetween, EndsRelay}
 use Rattle.norm_program.specs.ShowEnds.{ShowEnds}
 use Rattle.norm_program.specs.TailEnds.{EndsTails, EndsBeside}
-use Rattle.norm_program.specs.StatusOf.{status_of}
-use Rattle.norm_program.specs.declared.status.Ending.{Ending}
-use Rattle.norm_program.specs.declared.status.Ending.TheVariants.{Done, Datagram, Memory, Refused, Line, Profile, Read, Write, Fabric, Files, Absent, Spent, Tailed, TailRefused, Event, Command, Relayed}
 
 -- what an ending shows of the counts of failed calls, and of the line of a file that is not there
 abbrev Shows : Ending → Outside → Outside → Type 0

@@ -1,4 +1,3 @@
-pub mod SayLemmas
 pub mod BoardedLemmas
 pub mod EndingLemmas
 pub mod AskedLemmas
@@ -7,8 +6,5 @@ pub mod CommandLemmas
 pub mod TailLemmas
 pub mod TailEndLemmas
 pub mod LawLemmas
-pub mod HearerLemmas
-pub mod GatherLemmas
 pub mod GatherEndLemmas
-pub mod ChainLemmas
 pub mod RelayEndLemmas

@@ -16,10 +16,11 @@ use Rattle.norm_profile.specs.declared.loading.LoadFault.TheVariants as load
 use Rattle.norm_turns.specs.Causes.{HasCause}
 use Rattle.norm_turns.specs.declared.fault.SessionFault.{SessionFault}
 use Rattle.norm_turns.specs.declared.fault.SessionFault.TheVariants as fault
-use Rattle.norm_program.specs.Ends.{Called, Outside, outside, called_as, IsAbsentEnding, IsStoppedEnding}
-use Rattle.norm_program.specs.NodeEnds.{EndsUnloaded, IsUnloadedEnding, IsLoading, EndsUnder, EndsBroken, BrokenReceiver, BrokenHub, EndsReceiver, EndsHub, seen, heard}
-use Rattle.norm_program.specs.declared.status.Ending.{Ending}
-use Rattle.norm_program.specs.declared.status.Ending.TheVariants.{Done, Memory, Profile, Absent}
+use Rattle.norm_endings.specs.Outside.{Called, Outside, outside, called_as}
+use Rattle.norm_endings.specs.Endings.{IsAbsentEnding, IsStoppedEnding, IsUnloadedEnding, IsLoading}
+use Rattle.norm_endings.specs.declared.status.Ending.{Ending}
+use Rattle.norm_endings.specs.declared.status.Ending.TheVariants.{Done, Memory, Profile, Absent}
+use Rattle.norm_program.specs.NodeEnds.{EndsUnloaded, EndsUnder, EndsBroken, BrokenReceiver, BrokenHub, EndsReceiver, EndsHub, seen, heard}
 use Rattle.norm_program.proofs.EndingLemmas.{counts}
 
 -- In plain variables: the input (i) and the count of failed reads (r), the output's pieces before, when a run stopped and after (u, v, w) with the

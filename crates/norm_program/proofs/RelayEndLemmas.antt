@@ -1,11 +1,7 @@
 -- How a relay's run ends the program.
-use Rattle.std.proofs.Common.{◌≡◌, ◌∙◌, sym, ap, subst, refl, arith, cond, ℕ, zero, suc, ◌+◌, ◌++◌, List, [], ◌∷◌, Bool, true, false, Option, None, Some, Result, Ok, Err, inl, inr}
-use Rattle.std.specs.Prelude.{codes, find, ◌⊎◌, ◌<◌, ◌≤◌}
-use Rattle.std.specs.Option.{option_or}
-use Rattle.std.proofs.lemmas.Bool.{cases_lt}
+use Rattle.std.proofs.Common.{◌≡◌, ◌∙◌, sym, ap, subst, refl, ℕ, ◌++◌, List, [], true, Option, Result, Err, inl, inr}
+use Rattle.std.specs.Prelude.{codes}
 use Rattle.std.proofs.lemmas.List.{append-nil}
-use Rattle.std.proofs.lemmas.List.Folds.{find-append}
-use Rattle.norm_base.specs.Members.{is_node, receivers_of}
 use Rattle.norm_base.specs.Settings.{Settings}
 use Rattle.norm_base.specs.Told.{Pieces, gained}
 use Rattle.norm_relay.specs.RelayState.{can_relay}
@@ -14,19 +10,21 @@ use Rattle.norm_relay.specs.declared.relay.RelayFault.TheVariants as relay
 use Rattle.norm_turns.specs.Causes.{Counted, HasCause, WriteCause, counted}
 use Rattle.norm_turns.specs.declared.fault.SessionFault.{SessionFault}
 use Rattle.norm_turns.specs.declared.fault.SessionFault.TheVariants as fault
-use Rattle.norm_program.specs.Chaining.{Ends}
-use Rattle.norm_program.specs.Ends.{Called, Outside, Says, IsInput, IsReadEnding, IsStoppedEnding, outside, refused_line}
-use Rattle.norm_program.specs.RelayEnds.{Printed, EndsBetween, patience_of, relayed, shared, shared_of}
+use Rattle.relay_words.specs.declared.ends.NoEvent.{NoEvent}
+use Rattle.relay_words.specs.declared.ends.Patience.{Patience}
+use Rattle.relay_words.specs.declared.ends.RelayEnd.{RelayEnd}
+use Rattle.relay_words.specs.declared.ends.RelayEnd.TheVariants as stop
+use Rattle.driven_nodes.specs.Chaining.{Ends}
+use Rattle.driven_nodes.specs.Relayed.{Printed, relayed}
+use Rattle.driven_nodes.specs.Misfits.{patience_of}
+use Rattle.driven_nodes.specs.Leaving.{LeavesLines}
+use Rattle.norm_endings.specs.Outside.{Called, Says, IsInput, outside, refused_line}
+use Rattle.norm_endings.specs.Endings.{IsReadEnding, IsStoppedEnding}
+use Rattle.norm_endings.specs.declared.status.Ending.{Ending}
+use Rattle.norm_endings.specs.declared.status.Ending.TheVariants.{Memory, Event, Command, Relayed, Read, Write}
+use Rattle.norm_program.specs.RelayEnds.{EndsBetween}
 use Rattle.norm_program.specs.Relaying.{IsEventEnding, IsPrintedEnding, IsSaying, IsSessionsEnding}
-use Rattle.norm_program.specs.TailEnds.{LeavesLines}
-use Rattle.norm_program.specs.declared.status.Ending.{Ending}
-use Rattle.norm_program.specs.declared.status.Ending.TheVariants.{Memory, Event, Command, Profile, Relayed, Read, Write}
-use Rattle.norm_program.specs.declared.status.NoEvent.{NoEvent}
-use Rattle.norm_program.specs.declared.status.NoRelay.TheVariants as no
-use Rattle.norm_program.specs.declared.status.Patience.{Patience}
-use Rattle.norm_program.specs.declared.status.RelayEnd.{RelayEnd}
-use Rattle.norm_program.specs.declared.status.RelayEnd.TheVariants as stop
-use Rattle.norm_program.proofs.TailLemmas.{leaves_same, wants_memory}
+use Rattle.driven_nodes.proofs.LeavingLemmas.{leaves_same, wants_memory}
 
 -- ---- the lines
 
@@ -144,48 +142,3 @@ lines_end ending p node q text i j u v w r s k l t called fits input reads same 
     printed_end ending p node q text i j u w r s k t called fits input reads
     (subst (λ n. IsPrintedEnding ending (patience_of p q) (relayed p node q text) u w n t) quiet
     (subst (λ x. IsPrintedEnding ending (patience_of p q) (relayed p node q text) x w l t) same h))
-
--- ---- an id in both sessions
-
--- none of these so far
-abbrev pub NoneOf : Settings → Settings → ℕ → Type 0
-NoneOf p q n = find (is_node q) (receivers_of p n) ≡ None
-
--- one more is none
-pub none_more : (p q : Settings) (i id : ℕ) → NoneOf p q i → id ≡ p.sender + 1 + i → is_node q id ≡ false → NoneOf p q (i + 1)
-none_more p q i id none is isnt =
-    let more : i + 1 ≡ suc i = omega arith in
-    ap (λ n. find (is_node q) (receivers_of p n)) more ∙ find-append (is_node q) (receivers_of p i) ((p.sender + 1 + i) ∷ [])
-    ∙ ap (λ o. option_or o (find (is_node q) ((p.sender + 1 + i) ∷ []))) none
-    ∙ ap (λ b. option_or None (cond b (Some (p.sender + 1 + i)) None)) (ap (is_node q) (sym is) ∙ isnt)
-
-found_at : (p q : Settings) (n i : ℕ) → i < n → NoneOf p q i → is_node q (p.sender + 1 + i) ≡ true
-    → find (is_node q) (receivers_of p n) ≡ Some (p.sender + 1 + i)
-found_at p q zero i lt none is = absurd (omega (arith, lt))
-found_at p q (suc n) i lt none is =
-    find-append (is_node q) (receivers_of p n) ((p.sender + 1 + n) ∷ []) ∙ go (cases_lt i n) (λ less. found_at p q n i less none is)
-  where
-    last : ℕ → Option ℕ
-    last k = find (is_node q) ((p.sender + 1 + k) ∷ [])
-
-    go : (i < n) ⊎ (n ≤ i) → (i < n → find (is_node q) (receivers_of p n) ≡ Some (p.sender + 1 + i))
-        → option_or (find (is_node q) (receivers_of p n)) (last n) ≡ Some (p.sender + 1 + i)
-    go (inl less) front = ap (λ o. option_or o (last n)) (front less)
-    go (inr more) front =
-        let same : n ≡ i = omega (arith, lt, more) in
-        ap (λ k. option_or (find (is_node q) (receivers_of p k)) (last k)) same ∙ ap (λ o. option_or o (last i)) none
-        ∙ ap (λ b. option_or None (cond b (Some (p.sender + 1 + i)) None)) is
-
-pub shared_first : (p q : Settings) → is_node q p.sender ≡ true → no.Shared p.sender ≡ shared p q
-shared_first p q is = sym (ap (λ b. shared_of p.sender (cond b (Some p.sender) (find (is_node q) (receivers_of p p.receivers)))) is)
-
-pub shared_one : (p q : Settings) (i id : ℕ) → i < p.receivers → is_node q p.sender ≡ false → NoneOf p q i → id ≡ p.sender + 1 + i → is_node q id ≡ true
-    → no.Shared id ≡ shared p q
-shared_one p q i id lt first none is found =
-    ap no.Shared is ∙ sym (ap (λ b. shared_of p.sender (cond b (Some p.sender) (find (is_node q) (receivers_of p p.receivers)))) first
-    ∙ ap (shared_of p.sender) (found_at p q p.receivers i lt none (ap (is_node q) (sym is) ∙ found)))
-
-pub shared_none : (p q : Settings) (i : ℕ) → is_node q p.sender ≡ false → NoneOf p q i → i ≡ p.receivers → no.Shared p.sender ≡ shared p q
-shared_none p q i first none all =
-    sym (ap (λ b. shared_of p.sender (cond b (Some p.sender) (find (is_node q) (receivers_of p p.receivers)))) first
-    ∙ ap (shared_of p.sender) (ap (λ n. find (is_node q) (receivers_of p n)) (sym all) ∙ none))

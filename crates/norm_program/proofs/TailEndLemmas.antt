@@ -21,14 +21,17 @@ use Rattle.norm_turns.specs.declared.fault.SessionFault.TheVariants as fault
 use Rattle.norm_world.specs.WorldKept.{StandsFor}
 use Rattle.norm_args.specs.Fits.{FitsOptions}
 use Rattle.norm_args.specs.declared.tasks.Options.{Options}
+use Rattle.driven_nodes.specs.Leaving.{LeavesLines}
+use Rattle.norm_endings.specs.Outside.{Outside, Called, outside}
+use Rattle.norm_endings.specs.Endings.{IsStoppedEnding}
+use Rattle.norm_endings.specs.declared.status.Ending.{Ending}
+use Rattle.norm_endings.specs.declared.status.Ending.TheVariants.{Done, Memory, Refused, Read, Write, Absent, Tailed, TailRefused}
+use Rattle.norm_endings.specs.declared.status.NoTail.{NoTail}
 use Rattle.norm_program.specs.Asked.{Asked, Members}
 use Rattle.norm_program.specs.Boarded.{PausesScript, span}
-use Rattle.norm_program.specs.Ends.{Outside, Called, outside, EndsScript, EndsUnrun, Prepared, IsStoppedEnding}
-use Rattle.norm_program.specs.TailEnds.{Made, LeavesLines, PausedSession, RanTails, EndsTails, EndsBeside, EndsSession, ending_of, ending_if, ending_after, lines_after, going_on}
+use Rattle.norm_program.specs.Ends.{EndsScript, EndsUnrun, Prepared}
+use Rattle.norm_program.specs.TailEnds.{Made, PausedSession, RanTails, EndsTails, EndsBeside, EndsSession, ending_of, ending_if, ending_after, lines_after, going_on}
 use Rattle.norm_program.specs.Tailing.{MayGoOn, IsTailsEnding}
-use Rattle.norm_program.specs.declared.status.Ending.{Ending}
-use Rattle.norm_program.specs.declared.status.Ending.TheVariants.{Done, Memory, Refused, Read, Write, Absent, Tailed, TailRefused}
-use Rattle.norm_program.specs.declared.status.NoTail.{NoTail}
 use Rattle.norm_program.proofs.EndingLemmas.{Stopped, counts, stopped_ends, stopped_last}
 
 -- ---- the ending of what comes after the turns

@@ -3,11 +3,11 @@ use Rattle.std.proofs.Common.{◌≡◌, ◌∙◌, sym, ap, subst, refl, arith,
 use Rattle.std.specs.Option.{option_map, option_to_list}
 use Rattle.std.proofs.lemmas.List.{append-nil, take_more, take-append-drop, take_all}
 use Rattle.std.proofs.lemmas.List.Concat.{flat_map-append}
-use Rattle.std.proofs.lemmas.Option.{same_Some, none-some}
+use Rattle.std.proofs.lemmas.Option.{none-some}
 use Rattle.rand_pcg.specs.Lcg.{Lcg}
 use Rattle.mark_book.specs.Answers.{open_watermark}
 use Rattle.norm_base.specs.Settings.{Settings}
-use Rattle.norm_base.specs.Told.{Pieces, gained, GainsFront}
+use Rattle.norm_base.specs.Told.{Pieces, gained}
 use Rattle.norm_journal.specs.Judged.{Judged}
 use Rattle.norm_journal.specs.Lines.{end_line}
 use Rattle.norm_safety.specs.Recovery.{IsOldest}
@@ -30,74 +30,16 @@ use Rattle.norm_turns.specs.declared.fault.SessionFault.{SessionFault}
 use Rattle.norm_turns.specs.declared.fault.SessionFault.TheVariants as fault
 use Rattle.norm_session.proofs.SoFarLemmas.{gained-nil, gained-gained}
 use Rattle.norm_world.specs.WorldKept.{WorldKept, IsReady, StandsFor}
-use Rattle.norm_program.specs.TailEnds.{TailsSoFar, Made, LeavesLines, step_line, lines_of, with_step, with_tail, with_tail_of, tail_unless, tail_once, has_open, tails_from, tails_of, no_tail, no_tails, refused_after, going_on_if, going_on, last_line, ending_of, lines_with, ending_if, ending_after, lines_if, lines_after}
+use Rattle.driven_nodes.specs.Leaving.{LeavesLines}
+use Rattle.norm_endings.specs.declared.status.Ending.TheVariants.{Done}
+use Rattle.norm_endings.specs.declared.status.NoTail.{NoTail}
+use Rattle.norm_program.specs.TailEnds.{TailsSoFar, Made, step_line, lines_of, with_step, with_tail, with_tail_of, tail_unless, tail_once, has_open, tails_from, tails_of, no_tail, no_tails, refused_after, going_on_if, going_on, last_line, ending_of, lines_with, ending_if, ending_after, lines_if, lines_after}
 use Rattle.norm_program.specs.Tailing.{MayGoOn, AreMade, IsTurned}
-use Rattle.norm_program.specs.declared.status.Ending.TheVariants.{Done}
-use Rattle.norm_program.specs.declared.status.NoTail.{NoTail}
 use Rattle.norm_program.specs.declared.tail.Tails.{Tails}
 use Rattle.norm_program.specs.declared.tail.Turned.{Turned}
 
--- ---- lines that a fault broke off
-
 abbrev Lines : Type 0
 Lines = List (List ℕ)
-
--- more were to follow
-pub leaves_more : (f : SessionFault) (u w : Pieces) (lines more : Lines) → LeavesLines f u w lines → LeavesLines f u w (lines ++ more)
-leaves_more fault.Write u w lines more h = record {
-  front = h.front;
-  broken = h.broken;
-  rest = h.rest ++ more;
-  all = ap (λ ls. ls ++ more) h.all ∙ append_assoc h.front (h.broken ∷ h.rest) more;
-  output = h.output;
-}
-leaves_more fault.Memory u w lines more h = record {
-  front = h.front;
-  rest = h.rest ++ more;
-  all = ap (λ ls. ls ++ more) h.all ∙ append_assoc h.front h.rest more;
-  output = h.output;
-}
-leaves_more _ u w lines more h = absurd h
-
--- others were written before
-pub leaves_after : (f : SessionFault) (u v w : Pieces) (before lines : Lines) → v ≡ gained u before → LeavesLines f v w lines → LeavesLines f u w (before ++ lines)
-leaves_after fault.Write u v w before lines is h = record {
-  front = before ++ h.front;
-  broken = h.broken;
-  rest = h.rest;
-  all = ap (λ ls. before ++ ls) h.all ∙ sym (append_assoc before h.front (h.broken ∷ h.rest));
-  output = subst (λ x. GainsFront x w h.broken) (ap (λ x. gained x h.front) is ∙ gained-gained u before h.front) h.output;
-}
-leaves_after fault.Memory u v w before lines is h = record {
-  front = before ++ h.front;
-  rest = h.rest;
-  all = ap (λ ls. before ++ ls) h.all ∙ sym (append_assoc before h.front h.rest);
-  output = h.output ∙ ap (λ x. gained x h.front) is ∙ gained-gained u before h.front;
-}
-leaves_after _ u v w before lines is h = absurd h
-
--- of some lines, as of others that are the same
-pub leaves_same : (f : SessionFault) (u w : Pieces) (lines other : Lines) → lines ≡ other → LeavesLines f u w lines → LeavesLines f u w other
-leaves_same f u w lines other same h = subst (λ ls. LeavesLines f u w ls) same h
-
--- there was no memory, and nothing was written since
-pub wants_memory : (u w : Pieces) (before more : Lines) → w ≡ gained u before → LeavesLines fault.Memory u w (before ++ more)
-wants_memory u w before more is = record { front = before; rest = more; all = refl; output = is }
-
--- one line
-pub leaves_one : (f : SessionFault) (u w : Pieces) (o : Option (List ℕ)) → IsUnwritten f u w o → LeavesLines f u w (option_to_list o)
-leaves_one fault.Write u w None h = absurd (none-some h.0 h.1)
-leaves_one fault.Write u w (Some line) h = record {
-  front = [];
-  broken = h.0;
-  rest = [];
-  all = ap (λ l. l ∷ []) (same_Some line h.0 h.1);
-  output = subst (λ x. GainsFront x w h.0) (sym (gained-nil u)) h.2;
-}
-leaves_one fault.Memory u w o h = record { front = []; rest = option_to_list o; all = refl; output = h ∙ sym (gained-nil u) }
-leaves_one fault.Fabric u w o h = absurd h
-leaves_one fault.Files u w o h = absurd h
-leaves_one (fault.Absent name) u w o h = absurd h
 
 -- ---- the lines of a tail
 

@@ -7,18 +7,19 @@ use Rattle.norm_args.specs.declared.node_tasks.NodeTask.{NodeTask}
 use Rattle.norm_args.specs.declared.node_tasks.NodeTask.TheVariants.{Send, Receive, Hub, Gather, Relay}
 use Rattle.norm_args.specs.declared.tasks.Task.{Task}
 use Rattle.norm_args.specs.declared.tasks.Task.TheVariants.{Session, Show, Generate}
-use Rattle.norm_program.specs.Ends.{Outside, RefusedWords}
+use Rattle.norm_endings.specs.Outside.{Outside}
+use Rattle.norm_endings.specs.StatusOf.{status_of}
+use Rattle.norm_endings.specs.declared.status.Ending.{Ending}
+use Rattle.norm_endings.specs.declared.status.Ending.TheVariants.{Words, Memory}
+use Rattle.norm_program.specs.Ends.{RefusedWords}
 use Rattle.norm_program.specs.GatherEnds.{EndsGather}
 use Rattle.norm_program.specs.GenerateEnds.{GenerateEnds}
 use Rattle.norm_program.specs.NodeEnds.{EndsUnder, EndsSender, EndsReceiver, EndsHub}
 use Rattle.norm_program.specs.RelayEnds.{EndsRelay}
 use Rattle.norm_program.specs.ShowEnds.{ShowEnds}
-use Rattle.norm_program.specs.StatusOf.{status_of}
 use Rattle.norm_program.specs.TailEnds.{EndsSession}
 use Rattle.norm_program.specs.declared.words.WordsFault.{WordsFault}
 use Rattle.norm_program.specs.declared.words.WordsFault.TheVariants.{NotText, Memory as NoMemory}
-use Rattle.norm_program.specs.declared.status.Ending.{Ending}
-use Rattle.norm_program.specs.declared.status.Ending.TheVariants.{Words, Memory}
 
 -- what was asked for under profiles ended so; words that ask for nothing are refused
 abbrev pub EndsNode : Option NodeTask → Ending → Outside → Outside → Type 0

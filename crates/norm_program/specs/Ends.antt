@@ -1,62 +1,20 @@
 -- How a session ends, or the run of a sender alone, and what each ending says.
-use Rattle.std.specs.Prelude.{◌≡◌, ℕ, List, [], ◌∷◌, ◌++◌, ◌⊎◌, Bool, true, false, codes, Option, IfSome}
-use Rattle.std.specs.Fmt.{decimal}
+use Rattle.std.specs.Prelude.{◌≡◌, ℕ, List, [], ◌∷◌, ◌⊎◌, Bool, true, false, codes, Option}
 use Rattle.norm_base.specs.Faults.{one_more}
-use Rattle.norm_base.specs.Network.{Network}
 use Rattle.norm_base.specs.Told.{Pieces, gained, GainsFront}
 use Rattle.norm_script.specs.Commands.{Commands}
 use Rattle.norm_script.specs.declared.refusal.Refusal.{Refusal}
 use Rattle.norm_journal.specs.declared.event.Event.{Event}
-use Rattle.norm_journal.specs.Jobs.{Told}
 use Rattle.norm_turns.specs.declared.fault.SessionFault.{SessionFault}
 use Rattle.norm_turns.specs.declared.fault.SessionFault.TheVariants as fault
+use Rattle.norm_endings.specs.declared.status.Ending.{Ending}
+use Rattle.norm_endings.specs.declared.status.Ending.TheVariants.{Done, Memory, Refused, Read, Write, Fabric, Files, Absent, Spent}
+use Rattle.norm_endings.specs.Outside.{refused_line, absent_line, Says, Called, Outside, Undisturbed, IsInput, FailedRead, Untouched, outside}
 use Rattle.norm_program.specs.Asked.{Asked, is_alone, IsAsked, IsRefusedLine}
 use Rattle.norm_program.specs.Boarded.{RunsScript, Span, StopsScript, span}
-use Rattle.norm_program.specs.declared.status.Ending.{Ending}
-use Rattle.norm_program.specs.declared.status.Ending.TheVariants.{Done, Memory, Refused, Read, Write, Fabric, Files, Absent, Spent}
 
 abbrev pub usage_line : List ℕ
 usage_line = codes "usage: normd session | show | generate N | send PROFILE | recv PROFILE NODE | hub PROFILE | gather PROFILE NODE .. | relay UP NODE DOWN\n"
-
-unfoldable pub refused_line : ℕ → List ℕ
-refused_line n = codes "refused line " ++ (decimal n ++ codes "\n")
-
-unfoldable pub absent_line : List ℕ → List ℕ
-absent_line name = codes "absent " ++ (name ++ codes "\n")
-
--- The whole line was written, as one piece; or that one write failed, as the count of the output's faults shows, and left
--- a front of it.
-abbrev pub Says : (unwritten written : Pieces) (before now : ℕ) → List ℕ → Type 0
-Says unwritten written before now line =
-    ((written ≡ gained unwritten (line ∷ [])) × (now ≡ before)) ⊎ (GainsFront unwritten written line × (now ≡ one_more before))
-
--- what only nodes call: the network, the files with their contents, and the clock with the moments that it gave; and how often
--- the first two had failed
-pub record Called : Type 0 where
-  pub network : Network
-  pub files : Told
-  pub moments : Option (List ℕ)
-  pub network_faults : ℕ
-  pub file_faults : ℕ
-
--- what a call of the program found or left: the input's octets and the output's pieces, how often each had failed, and the others
-pub record Outside : Type 0 where
-  pub input : Option (List ℕ)
-  pub written : Pieces
-  pub read_faults : ℕ
-  pub write_faults : ℕ
-  pub called : Called
-
--- the counts of failed reads, and of failed calls of the network and of the files, are as they were
-pub record Undisturbed (before after : Outside) : Type 0 where
-  pub reads : after.read_faults ≡ before.read_faults
-  pub calls : after.called.network_faults ≡ before.called.network_faults
-  pub files : after.called.file_faults ≡ before.called.file_faults
-
--- where the input tells its octets, they were this text, and none are left
-pub record IsInput (text : List ℕ) (before after : Option (List ℕ)) : Type 0 where
-  pub octets : IfSome before (λ octets. octets ≡ text)
-  pub end : IfSome after (λ rest. rest ≡ [])
 
 -- what a session had, up to when this was written
 abbrev pub session_span : Outside → Outside → Pieces → Span
@@ -111,12 +69,6 @@ pub record RefusedLine (a : Asked) (before after : Outside) (refusal : Refusal) 
   pub output : Says before.written after.written before.write_faults after.write_faults (refused_line refusal.line)
   pub undisturbed : Undisturbed before after
 
--- One read failed.
-pub record FailedRead (before after : Outside) : Type 0 where
-  pub cause : after.read_faults ≡ one_more before.read_faults
-  pub called : after.called ≡ before.called
-  pub output : Says before.written after.written before.write_faults after.write_faults (codes "fault read\n")
-
 -- One write failed. It stopped the session, or it was that of the last line of spent turns.
 pub record FailedWrite (a : Asked) (before after : Outside) : Type 0 where
   pub cause : after.write_faults ≡ one_more before.write_faults
@@ -147,11 +99,6 @@ pub record AbsentFile (a : Asked) (name : List ℕ) (before after : Outside) : T
   pub session : StoppedSession a (fault.Absent name) before after unsaid
   pub output : Says unsaid after.written before.write_faults after.write_faults (absent_line name)
   pub undisturbed : Undisturbed before after
-
--- nothing was called or written
-pub record Untouched (before after : Outside) : Type 0 where
-  pub called : after.called ≡ before.called
-  pub output : after.written ≡ before.written
 
 -- a command's file is not there, and no line says so
 abbrev pub AbsentUnsaid : Asked → Outside → Outside → Type 0
@@ -184,19 +131,6 @@ EndsScript a Files before after = FailedFiles a before after
 EndsScript a (Absent name) before after = AbsentFile a name before after
 EndsScript a _ before after = ⊥
 
-abbrev pub called_as : (network : Network) (files : Told) (moments : Option (List ℕ)) (network_faults file_faults : ℕ) → Called
-called_as network files moments network_faults file_faults = record {
-  network = network;
-  files = files;
-  moments = moments;
-  network_faults = network_faults;
-  file_faults = file_faults;
-}
-
-abbrev pub outside : (input : Option (List ℕ)) (written : Pieces) (read_faults write_faults : ℕ) → Called → Outside
-outside input written read_faults write_faults called =
-    record { input = input; written = written; read_faults = read_faults; write_faults = write_faults; called = called }
-
 -- What there is to run: the input is this script.
 pub record Prepared (a : Asked) (script : Commands) (before after : Option (List ℕ)) : Type 0 where
   pub text : List ℕ
@@ -215,41 +149,9 @@ abbrev pub EndsEarly : Asked → Ending → (input left : Option (List ℕ)) →
 EndsEarly a ending input left unwritten written reads read_faults writes write_faults =
     (called : Called) → EndsUnrun a ending (outside input unwritten reads writes called) (outside left written read_faults write_faults called)
 
--- how a read of the whole input failed
-abbrev pub IsReadEnding : Ending → (before after : ℕ) → (unwritten written : Pieces) → (old new : ℕ) → Type 0
-IsReadEnding Memory before after unwritten written old new = (after ≡ before) × (written ≡ unwritten) × (new ≡ old)
-IsReadEnding Read before after unwritten written old new =
-    (after ≡ one_more before) × Says unwritten written old new (codes "fault read\n")
-IsReadEnding _ before after unwritten written old new = ⊥
-
 -- how a text is no script
 abbrev pub IsTextEnding : Asked → Ending → List ℕ → (unwritten written : Pieces) → (old new : ℕ) → Type 0
 IsTextEnding a Memory text unwritten written old new = (written ≡ unwritten) × (new ≡ old)
 IsTextEnding a (Refused refusal) text unwritten written old new =
     IsRefusedLine a text refusal × Says unwritten written old new (refused_line refusal.line)
 IsTextEnding a _ text unwritten written old new = ⊥
-
--- how a session that ran ends the program
-abbrev pub IsLastEnding : Ending → Bool → (unwritten written : Pieces) → (before after : ℕ) → Type 0
-IsLastEnding Done whole unwritten written before after = (whole ≡ true) × (written ≡ unwritten) × (after ≡ before)
-IsLastEnding Spent whole unwritten written before after =
-    (whole ≡ false) × (written ≡ gained unwritten (codes "turns spent\n" ∷ [])) × (after ≡ before)
-IsLastEnding Write whole unwritten written before after =
-    (whole ≡ false) × GainsFront unwritten written (codes "turns spent\n") × (after ≡ one_more before)
-IsLastEnding _ whole unwritten written before after = ⊥
-
--- how an absent file ends the program: its name is said, or there was no memory for that
-abbrev pub IsAbsentEnding : Ending → List ℕ → (unwritten written : Pieces) → (before after : ℕ) → Type 0
-IsAbsentEnding (Absent said) name unwritten written before after = (said ≡ name) × Says unwritten written before after (absent_line name)
-IsAbsentEnding Memory name unwritten written before after = (written ≡ unwritten) × (after ≡ before)
-IsAbsentEnding _ name unwritten written before after = ⊥
-
--- how a session that a fault stopped ends the program
-abbrev pub IsStoppedEnding : SessionFault → Ending → (unwritten written : Pieces) → (before after : ℕ) → Type 0
-IsStoppedEnding fault.Memory ending unwritten written before after = (ending ≡ Memory) × (written ≡ unwritten) × (after ≡ before)
-IsStoppedEnding fault.Write ending unwritten written before after = (ending ≡ Write) × (written ≡ unwritten) × (after ≡ before)
-IsStoppedEnding fault.Fabric ending unwritten written before after =
-    (ending ≡ Fabric) × Says unwritten written before after (codes "fault fabric\n")
-IsStoppedEnding fault.Files ending unwritten written before after =
-    (ending ≡ Files) × Says unwritten written before after (codes "fault files\n")
-IsStoppedEnding (fault.Absent name) ending unwritten written before after = IsAbsentEnding ending name unwritten written before after

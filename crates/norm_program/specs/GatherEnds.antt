@@ -1,5 +1,5 @@
 -- How `gather` ends.
-use Rattle.std.specs.Prelude.{◌≡◌, ◌⊎◌, ⊤, ℕ, ◌+◌, List, [], ◌∷◌, ◌++◌, codes, None, Some, Ok}
+use Rattle.std.specs.Prelude.{◌≡◌, ◌⊎◌, ⊤, ℕ, List, [], ◌∷◌, ◌++◌, codes, None, Some, Ok}
 use Rattle.norm_base.specs.Faults.{one_more}
 use Rattle.norm_base.specs.Settings.{Settings}
 use Rattle.norm_base.specs.Told.{gained}
@@ -10,14 +10,14 @@ use Rattle.norm_profile.specs.Loading.{IsOfFile}
 use Rattle.norm_show.specs.declared.fault.NoDatagram.{NoDatagram}
 use Rattle.norm_turns.specs.declared.fault.SessionFault.{SessionFault}
 use Rattle.norm_turns.specs.declared.fault.SessionFault.TheVariants as fault
-use Rattle.norm_program.specs.Ends.{Outside, Says, Undisturbed, Untouched, IsInput, FailedRead, refused_line}
+use Rattle.driven_nodes.specs.Leaving.{LeavesLines}
+use Rattle.driven_nodes.specs.Gathered.{gathered}
+use Rattle.norm_endings.specs.Outside.{Outside, Says, Undisturbed, Untouched, IsInput, FailedRead, refused_line}
+use Rattle.norm_endings.specs.declared.status.Ending.{Ending}
+use Rattle.norm_endings.specs.declared.status.Ending.TheVariants.{Done, Memory, Line, Profile, Read, Write}
+use Rattle.norm_endings.specs.declared.status.ProfileFault.{ProfileFault}
+use Rattle.norm_endings.specs.declared.status.ProfileFault.TheVariants.{Members}
 use Rattle.norm_program.specs.NodeEnds.{EndsUnloaded, NoFault}
-use Rattle.norm_program.specs.TailEnds.{LeavesLines}
-use Rattle.norm_program.specs.declared.status.Ending.{Ending}
-use Rattle.norm_program.specs.declared.status.Ending.TheVariants.{Done, Memory, Line, Profile, Read, Write}
-use Rattle.norm_program.specs.declared.status.ProfileFault.{ProfileFault}
-use Rattle.norm_program.specs.declared.status.ProfileFault.TheVariants.{Members}
-use Rattle.norm_program.specs.Gathered.{gathered}
 
 -- these profiles, with these nodes, are at the paths
 abbrev pub AreLoaded : Told → List (List ℕ × ℕ) → List (Settings × ℕ) → Type 0

@@ -4,9 +4,9 @@ use Rattle.norm_base.specs.Faults.{one_more}
 use Rattle.norm_base.specs.Told.{gained, written_of}
 use Rattle.norm_script.specs.Generated.{generated_pieces, generate_text, generated_script, StopsWithin}
 use Rattle.norm_script.specs.Reading.{script_of}
-use Rattle.norm_program.specs.Ends.{Outside, Undisturbed}
-use Rattle.norm_program.specs.declared.status.Ending.{Ending}
-use Rattle.norm_program.specs.declared.status.Ending.TheVariants.{Done, Write}
+use Rattle.norm_endings.specs.Outside.{Outside, Undisturbed}
+use Rattle.norm_endings.specs.declared.status.Ending.{Ending}
+use Rattle.norm_endings.specs.declared.status.Ending.TheVariants.{Done, Write}
 
 -- nothing was read, and no network, no files and no clock were called
 pub record Untold (before after : Outside) : Type 0 where

@@ -1,8 +1,8 @@
 -- What is promised of the statuses of failed calls.
 use Rattle.std.specs.Prelude.{◌≡◌, ◌<◌, ℕ, List, [], ◌∷◌}
 use Rattle.norm_base.specs.Told.{Pieces, gained}
+use Rattle.norm_endings.specs.Outside.{Outside, absent_line}
 use Rattle.norm_program.specs.Commands.{EndsWith}
-use Rattle.norm_program.specs.Ends.{Outside, absent_line}
 
 -- None of the calls failed whose failures this counts. A count that has come to its end stays there, so it could not tell.
 pub record NoneFailed (before after : ℕ) : Type 0 where

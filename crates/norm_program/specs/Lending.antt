@@ -6,7 +6,7 @@ use Rattle.norm_base.specs.declared.fabric.Fabric as fabric
 use Rattle.norm_base.specs.declared.files.Files as files
 use Rattle.norm_base.specs.declared.sink.Sink as sink
 use Rattle.norm_base.specs.declared.source.Source as source
-use Rattle.norm_program.specs.Ends.{Outside, outside, called_as}
+use Rattle.norm_endings.specs.Outside.{Outside, outside, called_as}
 use Rattle.norm_program.specs.declared.lent.Lent.{Lent}
 
 -- what the parts tell

@@ -1,6 +1,3 @@
-pub mod StatusOf
-pub mod RelayReasons
-pub mod Reasons
 pub mod Asked
 pub mod Boarded
 pub mod Ends
@@ -10,13 +7,9 @@ pub mod Lending
 pub mod ShowEnds
 pub mod GenerateEnds
 pub mod NodeEnds
-pub mod Gathered
 pub mod GatherEnds
-pub mod Hearing
-pub mod Events
+pub mod Gathering
 pub mod RelayEnds
-pub mod Chaining
 pub mod Relaying
 pub mod Commands
-pub mod InputCause
 pub mod Laws

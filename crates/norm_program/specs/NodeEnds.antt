@@ -1,25 +1,24 @@
 -- How one node of a session over a network ends, and what each ending says. Its profile is loaded first.
-use Rattle.std.specs.Prelude.{◌≡◌, ℕ, ◌+◌, List, ◌⊎◌, true, false, codes, Option, Ok, Err}
-use Rattle.norm_base.specs.Faults.{one_more, counted}
+use Rattle.std.specs.Prelude.{◌≡◌, ℕ, ◌+◌, List, ◌⊎◌, true, false, codes, Option, Ok}
+use Rattle.norm_base.specs.Faults.{one_more}
 use Rattle.norm_base.specs.Members.{is_receiver}
 use Rattle.norm_base.specs.Settings.{Settings}
 use Rattle.norm_base.specs.Told.{Pieces}
 use Rattle.norm_node.specs.Hub.{Around, RunsHub, StopsHub, around}
 use Rattle.norm_node.specs.Runs.{RunsReceiver, StopsReceiver}
 use Rattle.norm_node.specs.Shown as shown
-use Rattle.norm_journal.specs.Jobs.{Told}
-use Rattle.norm_profile.specs.Loading.{IsAbsent, IsOfFile, IsUnloaded, has_failed}
-use Rattle.norm_profile.specs.declared.loading.LoadFault.{LoadFault}
+use Rattle.norm_profile.specs.Loading.{IsAbsent, IsOfFile, IsUnloaded}
 use Rattle.norm_profile.specs.declared.loading.LoadFault.TheVariants as load
 use Rattle.norm_profile.specs.declared.refusal.ProfileRefusal.{ProfileRefusal}
 use Rattle.norm_turns.specs.declared.fault.SessionFault.{SessionFault}
 use Rattle.norm_turns.specs.declared.fault.SessionFault.TheVariants as fault
+use Rattle.norm_endings.specs.Outside.{Outside, Says, Undisturbed, absent_line}
+use Rattle.norm_endings.specs.declared.status.Ending.{Ending}
+use Rattle.norm_endings.specs.declared.status.Ending.TheVariants.{Done, Memory, Profile, Write, Fabric, Files, Absent}
+use Rattle.norm_endings.specs.declared.status.ProfileFault.{ProfileFault}
+use Rattle.norm_endings.specs.declared.status.ProfileFault.TheVariants.{Document, Node}
 use Rattle.norm_program.specs.Asked.{Sender, with_instance}
-use Rattle.norm_program.specs.Ends.{Outside, Says, Undisturbed, absent_line, EndsScript, IsAbsentEnding}
-use Rattle.norm_program.specs.declared.status.Ending.{Ending}
-use Rattle.norm_program.specs.declared.status.Ending.TheVariants.{Done, Memory, Profile, Write, Fabric, Files, Absent}
-use Rattle.norm_program.specs.declared.status.ProfileFault.{ProfileFault}
-use Rattle.norm_program.specs.declared.status.ProfileFault.TheVariants.{Document, Node}
+use Rattle.norm_program.specs.Ends.{EndsScript}
 
 -- ---- the profile
 
@@ -68,26 +67,6 @@ EndsUnloaded path _ before after = ⊥
 abbrev pub EndsUnder : List ℕ → (Settings → Ending → Outside → Outside → Type 0) → Ending → Outside → Outside → Type 0
 EndsUnder path Ends ending before after =
     EndsUnloaded path ending before after ⊎ ((p : Settings) × IsOfFile before.called.files path (Ok p) × Ends p ending before after)
-
--- how a profile that is refused ends the program
-abbrev pub IsRefusing : Ending → ProfileFault → (unwritten written : Pieces) → (before after : ℕ) → Type 0
-IsRefusing ending why unwritten written before after =
-    (ending ≡ Profile why) × Says unwritten written before after (codes "refused profile\n")
-
--- how a file that gives no profile ends the program
-abbrev pub IsUnloadedEnding : LoadFault → Ending → List ℕ → (unwritten written : Pieces) → (before after : ℕ) → Type 0
-IsUnloadedEnding (load.Refused why) ending path unwritten written before after = IsRefusing ending (Document why) unwritten written before after
-IsUnloadedEnding load.Absent ending path unwritten written before after = IsAbsentEnding ending path unwritten written before after
-IsUnloadedEnding load.Failed ending path unwritten written before after =
-    (ending ≡ Files) × Says unwritten written before after (codes "fault files\n")
-IsUnloadedEnding load.Memory ending path unwritten written before after = (ending ≡ Memory) × (written ≡ unwritten) × (after ≡ before)
-
--- What a load left that gave no profile: why, what the count of the files' faults is then, and how that ends the program.
-pub record IsLoading (path : List ℕ) (ending : Ending) (files : Told) (unwritten written : Pieces) (before after faults now : ℕ) : Type 0 where
-  pub failed : LoadFault
-  pub cause : IsUnloaded files path failed
-  pub count : now ≡ counted faults (has_failed {T = ℕ} (Err failed))
-  pub said : IsUnloadedEnding failed ending path unwritten written before after
 
 -- ---- a run that a fault broke off
 

@@ -7,16 +7,17 @@ use Rattle.norm_relay.specs.RelayState.{can_relay}
 use Rattle.norm_relay.specs.declared.relay.RelayFault.{RelayFault}
 use Rattle.norm_relay.specs.declared.relay.RelayFault.TheVariants as relay
 use Rattle.norm_turns.specs.declared.fault.SessionFault.TheVariants as fault
-use Rattle.norm_program.specs.Ends.{Says, refused_line}
-use Rattle.norm_program.specs.RelayEnds.{Printed, no_relay}
-use Rattle.norm_program.specs.TailEnds.{LeavesLines}
-use Rattle.norm_program.specs.declared.status.Ending.{Ending}
-use Rattle.norm_program.specs.declared.status.Ending.TheVariants.{Memory, Event, Command, Profile, Relayed, Write}
-use Rattle.norm_program.specs.declared.status.NoEvent.{NoEvent}
-use Rattle.norm_program.specs.declared.status.Patience.{Patience}
-use Rattle.norm_program.specs.declared.status.ProfileFault.TheVariants.{Relay}
-use Rattle.norm_program.specs.declared.status.RelayEnd.{RelayEnd}
-use Rattle.norm_program.specs.declared.status.RelayEnd.TheVariants as stop
+use Rattle.relay_words.specs.declared.ends.NoEvent.{NoEvent}
+use Rattle.relay_words.specs.declared.ends.Patience.{Patience}
+use Rattle.relay_words.specs.declared.ends.RelayEnd.{RelayEnd}
+use Rattle.relay_words.specs.declared.ends.RelayEnd.TheVariants as stop
+use Rattle.driven_nodes.specs.Relayed.{Printed}
+use Rattle.driven_nodes.specs.Misfits.{no_relay}
+use Rattle.driven_nodes.specs.Leaving.{LeavesLines}
+use Rattle.norm_endings.specs.Outside.{Says, refused_line}
+use Rattle.norm_endings.specs.declared.status.Ending.{Ending}
+use Rattle.norm_endings.specs.declared.status.Ending.TheVariants.{Memory, Event, Command, Profile, Relayed, Write}
+use Rattle.norm_endings.specs.declared.status.ProfileFault.TheVariants.{Relay}
 
 -- how sessions that are not relayed end the program
 pub record IsRefusedEnding (p : Settings) (node : ℕ) (q : Settings) (ending : Ending) (unwritten written : Pieces) (before after : ℕ) : Type 0 where

@@ -5,9 +5,9 @@ use Rattle.norm_base.specs.Told.{Pieces}
 use Rattle.norm_show.specs.Progress.{ShowsAll, ShowsLess}
 use Rattle.norm_show.specs.declared.fault.NoDatagram.{NoDatagram}
 use Rattle.norm_show.specs.declared.fault.ShowFault.TheVariants as fault
-use Rattle.norm_program.specs.Ends.{Outside, Says, refused_line}
-use Rattle.norm_program.specs.declared.status.Ending.{Ending}
-use Rattle.norm_program.specs.declared.status.Ending.TheVariants.{Done, Datagram, Memory, Line, Read, Write}
+use Rattle.norm_endings.specs.Outside.{Outside, Says, refused_line}
+use Rattle.norm_endings.specs.declared.status.Ending.{Ending}
+use Rattle.norm_endings.specs.declared.status.Ending.TheVariants.{Done, Datagram, Memory, Line, Read, Write}
 
 -- nothing was called that only nodes call: no network, no files and no clock
 abbrev pub Alone : Outside → Outside → Type 0

@@ -6,7 +6,7 @@ use Rattle.std.specs.Option.{option_map, option_to_list}
 use Rattle.rand_pcg.specs.Lcg.{Lcg}
 use Rattle.norm_base.specs.Faults.{one_more}
 use Rattle.norm_base.specs.Settings.{Settings}
-use Rattle.norm_base.specs.Told.{Pieces, gained, GainsFront}
+use Rattle.norm_base.specs.Told.{Pieces, gained}
 use Rattle.norm_text.specs.Words.{line}
 use Rattle.norm_script.specs.Commands.{Commands}
 use Rattle.norm_send_rules.specs.SenderState.{SenderState, Watermark}
@@ -27,13 +27,15 @@ use Rattle.norm_turns.specs.Telling.{left_by}
 use Rattle.norm_turns.specs.declared.fault.SessionFault.{SessionFault}
 use Rattle.norm_turns.specs.declared.fault.SessionFault.TheVariants as fault
 use Rattle.norm_args.specs.declared.tasks.Options.{Options}
+use Rattle.driven_nodes.specs.Leaving.{LeavesLines}
+use Rattle.norm_endings.specs.Outside.{Outside, Undisturbed, IsInput, FailedRead}
+use Rattle.norm_endings.specs.declared.status.Ending.{Ending}
+use Rattle.norm_endings.specs.declared.status.Ending.TheVariants.{Done, Memory, Refused, Read, Write, Fabric, Files, Absent, Tailed, TailRefused}
+use Rattle.norm_endings.specs.declared.status.NoTail.{NoTail}
+use Rattle.norm_endings.specs.declared.status.NoTail.TheVariants as refusal
 use Rattle.norm_program.specs.Asked.{IsAsked, Members}
 use Rattle.norm_program.specs.Boarded.{PausesScript}
-use Rattle.norm_program.specs.Ends.{Outside, Undisturbed, IsInput, StoppedSession, RefusedLine, FailedRead, FailedNetwork, FailedFiles, AbsentFile, WantedMemory, EndsScript, session_span}
-use Rattle.norm_program.specs.declared.status.Ending.{Ending}
-use Rattle.norm_program.specs.declared.status.Ending.TheVariants.{Done, Memory, Refused, Read, Write, Fabric, Files, Absent, Tailed, TailRefused}
-use Rattle.norm_program.specs.declared.status.NoTail.{NoTail}
-use Rattle.norm_program.specs.declared.status.NoTail.TheVariants as refusal
+use Rattle.norm_program.specs.Ends.{StoppedSession, RefusedLine, FailedNetwork, FailedFiles, AbsentFile, WantedMemory, EndsScript, session_span}
 
 -- ---- tails
 
@@ -175,28 +177,6 @@ lines_if false totals t = lines_with t
 
 abbrev pub lines_after : Settings → Judged → List (List ℕ)
 lines_after p j = lines_if (is_whole j) j.totals (going_on p j)
-
--- ---- what a fault leaves of lines
-
--- whole lines, from the first on
-pub record WholeLines (unwritten written : Pieces) (lines : List (List ℕ)) : Type 0 where
-  pub front : List (List ℕ)
-  pub rest : List (List ℕ)
-  pub all : lines ≡ front ++ rest
-  pub output : written ≡ gained unwritten front
-
--- whole lines, and a front of the next
-pub record BrokenLines (unwritten written : Pieces) (lines : List (List ℕ)) : Type 0 where
-  pub front : List (List ℕ)
-  pub broken : List ℕ
-  pub rest : List (List ℕ)
-  pub all : lines ≡ front ++ broken ∷ rest
-  pub output : GainsFront (gained unwritten front) written broken
-
-abbrev pub LeavesLines : SessionFault → (unwritten written : Pieces) → List (List ℕ) → Type 0
-LeavesLines fault.Write unwritten written lines = BrokenLines unwritten written lines
-LeavesLines fault.Memory unwritten written lines = WholeLines unwritten written lines
-LeavesLines _ unwritten written lines = ⊥
 
 -- ---- endings
 

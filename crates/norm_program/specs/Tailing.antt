@@ -8,10 +8,11 @@ use Rattle.norm_safety.specs.World.{World}
 use Rattle.norm_session.specs.Pausing.{has_commands}
 use Rattle.norm_turns.specs.declared.fault.SessionFault.{SessionFault}
 use Rattle.norm_world.specs.WorldKept.{WorldKept, IsReady, StandsFor}
-use Rattle.norm_program.specs.TailEnds.{TailsSoFar, Made, LeavesLines, WholeLines, BrokenLines, ending_after, lines_after}
-use Rattle.norm_program.specs.declared.status.Ending.{Ending}
-use Rattle.norm_program.specs.declared.status.Ending.TheVariants.{Memory, Write}
-use Rattle.norm_program.specs.declared.status.NoTail.{NoTail}
+use Rattle.driven_nodes.specs.Leaving.{LeavesLines, WholeLines, BrokenLines}
+use Rattle.norm_endings.specs.declared.status.Ending.{Ending}
+use Rattle.norm_endings.specs.declared.status.Ending.TheVariants.{Memory, Write}
+use Rattle.norm_endings.specs.declared.status.NoTail.{NoTail}
+use Rattle.norm_program.specs.TailEnds.{TailsSoFar, Made, ending_after, lines_after}
 use Rattle.norm_program.specs.declared.tail.Tails.{Tails}
 use Rattle.norm_program.specs.declared.tail.Turned.{Turned}
 

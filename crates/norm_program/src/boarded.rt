@@ -3,9 +3,9 @@
 
 ghost use Rattle.std.specs.Prelude.{◌≡◌, ◌≤◌, List, IfOk, IfErr, true, false};
 ghost use Rattle.norm_journal.specs.declared.event.Event.{Event};
-ghost use Rattle.norm_program.specs.Boarded.{PausesScript, RunsScript, StopsScript, span};
 ghost use Rattle.norm_turns.specs.Causes.{HasCause, counted};
 ghost use Rattle.norm_script.specs.Scripts.{CanRun};
+ghost use Rattle.norm_program.specs.Boarded.{PausesScript, RunsScript, StopsScript, span};
 
 use norm_base::{Clock, Fabric, Files, Memory, Sink};
 use norm_script::Script;

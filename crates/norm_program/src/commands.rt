@@ -2,15 +2,13 @@
 
 ghost use Rattle.std.specs.Prelude.{◌≡◌, Err, Ok, IfOk, IfErr, OnOk};
 ghost use Rattle.norm_base.specs.Settings.{InRange};
-ghost use Rattle.norm_program.specs.Asked.{Sender};
-ghost use Rattle.norm_program.specs.Ends.{EndsEarly, IsTextEnding, Prepared};
 ghost use Rattle.norm_script.specs.Reading.{commands_of};
 ghost use Rattle.norm_script.specs.Scripts.{CanRun};
+ghost use Rattle.norm_program.specs.Asked.{Sender};
+ghost use Rattle.norm_program.specs.Ends.{EndsEarly, IsTextEnding, Prepared};
 
-use crate::input::read_input;
-use crate::last_line::{refused_line, say};
-use crate::status::Ending;
 use norm_base::{Memory, Profile, Sink, Source};
+use norm_endings::{Ending, read_input, refused_line, say};
 use norm_script::{Refusal, Script, read_under};
 use std::alloc::Global;
 

@@ -1,11 +1,11 @@
 //! `generate`: writes a script to try a session with. The program calls [`write_script`].
 
 ghost use Rattle.std.specs.Prelude.{List, Option, ℕ};
-ghost use Rattle.norm_program.specs.Ends.{Called, outside};
+ghost use Rattle.norm_endings.specs.Outside.{Called, outside};
 ghost use Rattle.norm_program.specs.GenerateEnds.{GenerateEnds};
 
-use crate::status::Ending;
 use norm_base::{Failed, Sink};
+use norm_endings::Ending;
 use norm_script::{generate, reads_generated};
 
 /// Writes the script of this number and returns the ending: `Write` if a write fails. Reads nothing, and calls no network, files or clock.

@@ -4,11 +4,9 @@ ghost use Rattle.std.specs.Prelude.{◌≡◌};
 ghost use Rattle.norm_program.specs.Lending.{GivesBack};
 ghost use Rattle.norm_program.specs.NodeEnds.{EndsUnder, EndsHub};
 
-use crate::last_line::stop_session;
 use crate::lent::Lent;
-use crate::profiles::load;
-use crate::status::Ending;
 use norm_base::{Clock, Fabric, Files, Profile, Sink, Source, Text};
+use norm_endings::{Ending, load, stop_session};
 use norm_node::run_hub;
 use std::alloc::Global;
 

@@ -3,27 +3,25 @@
 
 ghost use Rattle.std.specs.Prelude.{◌≡◌, map, string_bytes, Some, IfSome, MatchResult};
 ghost use Rattle.std.specs.Process.{exit_status};
-ghost use Rattle.norm_program.specs.Commands.{EndsNode, EndsTask, EndsOther, EndsBy, EndsWith, EndsUnread, KeepsFiles};
-ghost use Rattle.norm_program.specs.Ends.{outside, called_as};
-ghost use Rattle.norm_program.specs.Lending.{GivesBack};
 ghost use Rattle.norm_args.specs.Fits.{FitsNode, FitsTask};
 ghost use Rattle.norm_args.specs.NodeTasks.{node_task_of};
+ghost use Rattle.norm_endings.specs.Outside.{outside, called_as};
+ghost use Rattle.norm_program.specs.Commands.{EndsNode, EndsTask, EndsOther, EndsBy, EndsWith, EndsUnread, KeepsFiles};
+ghost use Rattle.norm_program.specs.Lending.{GivesBack};
 
 use crate::gather::end_gather;
 use crate::generate::write_script;
 use crate::hub::end_hub;
-use crate::last_line::say;
 use crate::lent::Lent;
-use crate::reason::{explain, explain_no_text};
 use crate::recv::end_receive;
 use crate::relay::end_relay;
 use crate::send::end_send;
 use crate::session::run_input;
 use crate::show::show;
-use crate::status::{Ending, Status};
 use crate::words::WordsFault;
 use norm_args::{NodeTask, Task, node_task_of, task_of};
 use norm_base::{Clock, Fabric, Files, Memory, Sink, Source};
+use norm_endings::{Ending, Status, explain, explain_no_text, say};
 use std::alloc::Global;
 use std::process::ExitCode;
 use std::sync::Wait;

@@ -4,11 +4,9 @@ ghost use Rattle.std.specs.Prelude.{◌≡◌};
 ghost use Rattle.norm_program.specs.Lending.{GivesBack};
 ghost use Rattle.norm_program.specs.NodeEnds.{EndsUnder, EndsReceiver, no_receiver};
 
-use crate::last_line::stop_session;
 use crate::lent::Lent;
-use crate::profiles::{load, refuse_profile};
-use crate::status::{Ending, ProfileFault};
 use norm_base::{Clock, Fabric, Files, NodeId, Profile, Sink, Source, Text};
+use norm_endings::{Ending, ProfileFault, load, refuse_profile, stop_session};
 use norm_node::run_receiver;
 use std::alloc::Global;
 

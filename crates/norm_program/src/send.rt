@@ -1,19 +1,17 @@
 //! `send`: runs the sender of a profile alone, with the input as its script. The program calls [`end_send`].
 
 ghost use Rattle.std.specs.Prelude.{◌≡◌};
+ghost use Rattle.norm_args.specs.Fits.{FitsInstance};
 ghost use Rattle.norm_program.specs.Asked.{Sender, with_instance};
 ghost use Rattle.norm_program.specs.Ends.{EndsScript};
 ghost use Rattle.norm_program.specs.Lending.{GivesBack};
 ghost use Rattle.norm_program.specs.NodeEnds.{EndsUnder, EndsSender};
-ghost use Rattle.norm_args.specs.Fits.{FitsInstance};
 
 use crate::boarded::run_send;
 use crate::commands::prepare_commands;
-use crate::last_line::{end_session, stop_session};
 use crate::lent::Lent;
-use crate::profiles::load;
-use crate::status::Ending;
 use norm_base::{Clock, Fabric, Files, Profile, Sink, Source, Text};
+use norm_endings::{Ending, end_session, load, stop_session};
 use std::alloc::Global;
 use std::sync::Wait;
 use std::thread::Threads;

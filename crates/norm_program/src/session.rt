@@ -2,21 +2,19 @@
 //! [`run_input`].
 
 ghost use Rattle.std.specs.Prelude.{◌≡◌, Ok, IfOk, IfErr, OnOk};
+ghost use Rattle.norm_script.specs.Scripts.{CanRun};
+ghost use Rattle.norm_args.specs.Fits.{FitsOptions};
 ghost use Rattle.norm_program.specs.Asked.{Members, profile_with, script_asked, script_with};
 ghost use Rattle.norm_program.specs.Ends.{Prepared, IsTextEnding, EndsEarly};
 ghost use Rattle.norm_program.specs.Lending.{GivesBack};
 ghost use Rattle.norm_program.specs.TailEnds.{EndsSession};
-ghost use Rattle.norm_script.specs.Scripts.{CanRun};
-ghost use Rattle.norm_args.specs.Fits.{FitsOptions};
 
 use crate::boarded::{Part, run_session, run_until};
-use crate::input::read_input;
-use crate::last_line::{end_session, refused_line, say, stop_session};
 use crate::lent::Lent;
-use crate::status::Ending;
 use crate::tail::end_tails;
 use norm_args::Options;
 use norm_base::{Clock, Fabric, Files, Memory, Profile, Sink, Source};
+use norm_endings::{Ending, end_session, read_input, refused_line, say, stop_session};
 use norm_script::{Script, read};
 use std::alloc::Global;
 use std::sync::Wait;

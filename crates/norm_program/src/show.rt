@@ -1,11 +1,10 @@
 //! `show`: prints the datagrams of the input, one a line. The program calls [`show`], and `gather` calls [`refuse_line`].
 
-ghost use Rattle.norm_program.specs.Ends.{Called, outside};
+ghost use Rattle.norm_endings.specs.Outside.{Called, outside};
 ghost use Rattle.norm_program.specs.ShowEnds.{ShowEnds, IsLineEnding};
 
-use crate::last_line::{refused_line, say};
-use crate::status::Ending;
 use norm_base::{Sink, Source};
+use norm_endings::{Ending, refused_line, say};
 use norm_show::{NoDatagram, ShowFault};
 use std::alloc::Global;
 

@@ -1,7 +1,7 @@
 //! `session --tail T`: after turn T, or the profile's last turn if that is earlier, the nodes of a session that is not whole go on over a
 //! network that loses nothing, until no watermark is open or a tail is refused. `session` calls [`end_tails`].
 
-ghost use Rattle.std.specs.Prelude.{◌≡◌, ◌+◌, ◌*◌, ◌^◌, ◌≤◌, ◌∷◌, [], ◌++◌, fold, IfOk, IfErr, OnOk, Some};
+ghost use Rattle.std.specs.Prelude.{◌≡◌, ◌+◌, ◌*◌, ◌^◌, ◌≤◌, ◌∷◌, [], fold, IfOk, IfErr, OnOk, Some};
 ghost use Rattle.std.specs.Bool.{Decides};
 ghost use Rattle.std.specs.Option.{option_map, option_to_list};
 ghost use Rattle.std.specs.Result.{result_ok};
@@ -17,12 +17,12 @@ ghost use Rattle.norm_text.specs.Words.{with_words};
 ghost use Rattle.norm_turns.specs.Causes.{NeedsMemory, WriteCause};
 ghost use Rattle.norm_turns.specs.Printing.{IsUnwritten};
 ghost use Rattle.norm_world.specs.WorldKept.{StandsFor};
-ghost use Rattle.norm_program.specs.TailEnds.{LeavesLines, step_line, lines_of, with_step, has_open, no_tail, word_of, last_words, last_line, ending_of, no_tails, tail_once, tails_of, refused_after, going_on, ending_after, lines_after};
+ghost use Rattle.driven_nodes.specs.Leaving.{LeavesLines};
+ghost use Rattle.norm_program.specs.TailEnds.{step_line, lines_of, with_step, has_open, no_tail, word_of, last_words, last_line, ending_of, no_tails, tail_once, tails_of, refused_after, going_on, ending_after, lines_after};
 ghost use Rattle.norm_program.specs.Tailing.{AreMade, IsTailsEnding, IsTurned, LeadsOn, MayGoOn, StopsOn};
 
-use crate::last_line::stop_session;
-use crate::status::{Ending, NoTail};
 use norm_base::{Moment, Notice, Profile, Sink};
+use norm_endings::{Ending, NoTail, stop_session};
 use norm_journal::Totals;
 use norm_sender::Sender;
 use norm_session::Paused;

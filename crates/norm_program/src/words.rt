@@ -4,13 +4,13 @@
 ghost use Rattle.std.specs.Prelude.{◌≡◌, ◌↔◌, ℕ, List, [], ◌∷◌, drop, map, string_bytes, IfOk};
 ghost use Rattle.std.specs.IoError.{error_kind};
 ghost use Rattle.std.specs.declared.io.ErrorKind.TheVariants.{OutOfMemory};
+ghost use Rattle.norm_args.specs.NodeTasks.{node_task_of};
 ghost use Rattle.norm_program.specs.Commands.{paths_asked};
 ghost use Rattle.norm_program.specs.declared.words.WordsFault.TheVariants as fault;
-ghost use Rattle.norm_args.specs.NodeTasks.{node_task_of};
 
-use crate::profiles::copy_of;
 use norm_args::{NodeTask, node_task_of};
 use norm_base::{Memory, NodeId, Text};
+use norm_endings::copy_of;
 use std::alloc::{AllocFailed, Global};
 use std::rt::Env;
 use std::{env, io};

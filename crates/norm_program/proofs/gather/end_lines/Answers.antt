@@ -1,7 +1,7 @@
 use Rattle.std.proofs.Common.{ap, subst}
 use Rattle.norm_turns.specs.Causes.{Counted}
-use Rattle.norm_program.specs.Gathered.{opening, gathered}
-use Rattle.norm_program.specs.Hearing.{TookLines}
+use Rattle.driven_nodes.specs.Gathered.{opening, gathered}
+use Rattle.driven_nodes.specs.Hearing.{TookLines}
 use Rattle.norm_program.proofs.GatherEndLemmas.{lines_done, lines_refused, lines_broken}
 use Rattle.norm_program.proofs.gather.end_lines.Goals as goal
 

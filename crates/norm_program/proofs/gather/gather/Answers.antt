@@ -1,6 +1,6 @@
 use Rattle.std.proofs.Common.{refl, subst}
-use Rattle.norm_program.specs.Gathered.{gathered}
-use Rattle.norm_program.specs.Hearing.{IsLinesEnding}
+use Rattle.driven_nodes.specs.Gathered.{gathered}
+use Rattle.norm_program.specs.Gathering.{IsLinesEnding}
 use Rattle.norm_program.proofs.GatherEndLemmas.{among_memory, members_end, read_end, lines_end}
 use Rattle.norm_program.proofs.gather.gather.Goals as goal
 

@@ -1,6 +1,6 @@
 use Rattle.std.proofs.Common.{◌∙◌, rules}
 use Rattle.std.proofs.lemmas.Result.{err_from_is_err_and}
-use Rattle.norm_program.specs.declared.status.Ending.TheVariants.{Memory}
+use Rattle.norm_endings.specs.declared.status.Ending.TheVariants.{Memory}
 use Rattle.norm_program.proofs.GatherEndLemmas.{pair_fails, pair_lacks, pairs_more, pairs_all, at_ending}
 use Rattle.norm_program.proofs.gather.load_all.Goals as goal
 

@@ -1,5 +1,5 @@
 use Rattle.std.proofs.Common.{◌∙◌, sym, ℕ, refl}
-use Rattle.norm_program.specs.Ends.{called_as}
+use Rattle.norm_endings.specs.Outside.{called_as}
 use Rattle.norm_program.specs.Lending.{told}
 use Rattle.norm_program.proofs.NodeLemmas.{receiver_stopped}
 use Rattle.norm_program.proofs.recv.receive.Goals as goal

@@ -1,6 +1,6 @@
 use Rattle.std.proofs.Common.{inl, refl}
+use Rattle.norm_endings.specs.Outside.{called_as}
 use Rattle.norm_program.specs.Asked.{with_instance}
-use Rattle.norm_program.specs.Ends.{called_as}
 use Rattle.norm_program.specs.Lending.{told}
 use Rattle.norm_program.specs.RelayEnds.{EndsBetween}
 use Rattle.norm_program.proofs.NodeLemmas.{loaded_ends, unloaded_ends}

@@ -1,6 +1,7 @@
-use Rattle.std.proofs.Common.{◌∙◌, ap}
+use Rattle.std.proofs.Common.{ap}
 use Rattle.norm_turns.specs.Causes.{Counted}
-use Rattle.norm_program.specs.RelayEnds.{ended, opening, patience_of, relayed}
+use Rattle.driven_nodes.specs.Relayed.{ended, opening, relayed}
+use Rattle.driven_nodes.specs.Misfits.{patience_of}
 use Rattle.norm_program.proofs.RelayEndLemmas.{lines_said, lines_broken}
 use Rattle.norm_program.proofs.relay.end_lines.Goals as goal
 

@@ -1,5 +1,6 @@
 use Rattle.std.proofs.Common.{subst}
-use Rattle.norm_program.specs.RelayEnds.{patience_of, relayed}
+use Rattle.driven_nodes.specs.Misfits.{patience_of}
+use Rattle.driven_nodes.specs.Relayed.{relayed}
 use Rattle.norm_program.specs.Relaying.{IsPrintedEnding}
 use Rattle.norm_program.proofs.RelayEndLemmas.{sessions_end, read_end, lines_end}
 use Rattle.norm_program.proofs.relay.relay.Goals as goal

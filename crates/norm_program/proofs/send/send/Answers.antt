@@ -1,6 +1,6 @@
 use Rattle.std.proofs.Common.{ℕ, refl}
+use Rattle.norm_endings.specs.Outside.{called_as}
 use Rattle.norm_program.specs.Asked.{Sender}
-use Rattle.norm_program.specs.Ends.{called_as}
 use Rattle.norm_program.specs.Lending.{told}
 use Rattle.norm_program.proofs.EndingLemmas.{last_ends, stopped_ends}
 use Rattle.norm_program.proofs.TailEndLemmas.{early_script}

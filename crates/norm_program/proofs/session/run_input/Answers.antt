@@ -2,8 +2,8 @@ use Rattle.std.proofs.Common.{ℕ, ap, sym, refl, subst}
 use Rattle.norm_base.specs.Settings.{Settings}
 use Rattle.norm_base.specs.Told.{Pieces}
 use Rattle.norm_script.specs.Commands.{Commands}
+use Rattle.norm_endings.specs.Outside.{outside, called_as}
 use Rattle.norm_program.specs.Asked.{Members}
-use Rattle.norm_program.specs.Ends.{outside, called_as}
 use Rattle.norm_program.specs.Lending.{told}
 use Rattle.norm_program.specs.TailEnds.{EndsTails}
 use Rattle.norm_program.specs.Tailing.{IsTailsEnding, MayGoOn}

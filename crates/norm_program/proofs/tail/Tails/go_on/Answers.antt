@@ -1,8 +1,9 @@
 use Rattle.std.proofs.Common.{◌≡◌, ◌∙◌, sym, subst, refl, Some, true, false}
 use Rattle.std.proofs.lemmas.Result.{IfOk-weaker, IfErr-weaker}
-use Rattle.norm_program.specs.TailEnds.{Made, LeavesLines, has_open, no_tails}
+use Rattle.driven_nodes.specs.Leaving.{LeavesLines}
+use Rattle.norm_endings.specs.declared.status.NoTail.TheVariants as refusal
+use Rattle.norm_program.specs.TailEnds.{Made, has_open, no_tails}
 use Rattle.norm_program.specs.Tailing.{AreMade}
-use Rattle.norm_program.specs.declared.status.NoTail.TheVariants as refusal
 use Rattle.norm_program.proofs.TailLemmas.{going_is}
 use Rattle.norm_program.proofs.tail.Tails.go_on.Goals as goal
 

@@ -1,0 +1,5 @@
+pub mod LeavingLemmas
+mod HearerLemmas
+mod GatherLemmas
+mod ChainLemmas
+mod MisfitLemmas

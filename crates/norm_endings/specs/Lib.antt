@@ -1,0 +1,5 @@
+pub mod StatusOf
+pub mod Reasons
+pub mod Outside
+pub mod Endings
+pub mod InputCause

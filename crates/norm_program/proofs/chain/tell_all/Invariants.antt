@@ -1,9 +1,0 @@
-use Rattle.std.proofs.Common.{◌≤◌}
-use Rattle.norm_program.proofs.ChainLemmas.{Told}
-use Rattle.norm_program.proofs.chain.tell_all.Given as goal
-
-abbrev pub invariant-loop : goal.invariant-loop
-invariant-loop l = record {
-  told : Told l.initial.relay l.counter l.relay;
-  within : l.counter ≤ l.end;
-}
