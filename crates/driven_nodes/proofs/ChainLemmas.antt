@@ -35,7 +35,7 @@ use Rattle.driven_nodes.specs.Chaining.{StandsFor, LeadsTo, Does, Halts, DoesUnl
 use Rattle.driven_nodes.specs.Gathered.{moment_of_line}
 use Rattle.driven_nodes.specs.Relayed.{SoFar, Printed, Act, next, answered, in_front, halted, after, told_news, told_all, tells, octets_in, sent_line, sent_lines, sends, acks_in, pump_told, pumped, pumps_by, pumps, followed, loses, losses_of, delivery, is_taken, busy_line, hears_by, hears_up, hears_down, takes_event, counts, takes_one, takes_or_halts, takes_line, takes_lines, last_line}
 use Rattle.driven_nodes.specs.declared.chain.Chain.{Chain}
-use Rattle.driven_nodes.proofs.LeavingLemmas.{gained-nil, gained-gained, leaves_more, leaves_after, leaves_same, leaves_one, wants_memory}
+use Rattle.driven_nodes.proofs.WritingLemmas.{gained-nil, gained-gained, leaves_more, leaves_after, leaves_same, leaves_one, wants_memory}
 
 abbrev Lines : Type 0
 Lines = List (List ℕ)

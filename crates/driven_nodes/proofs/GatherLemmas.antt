@@ -38,10 +38,10 @@ use Rattle.norm_turns.specs.Printing.{IsUnwritten}
 use Rattle.norm_turns.specs.declared.fault.SessionFault.{SessionFault}
 use Rattle.norm_turns.specs.declared.fault.SessionFault.TheVariants as fault
 use Rattle.driven_nodes.specs.Gathered.{Hearer, hearer_at, SoFar, draws_of, opening, Printed, in_front, stopped, ended, hears, uses_draw, draws_if, up_lines_in, up_lines, send_line, send_lines, emptied, tick_of, after_tick, told, with_ups, all_hear, after_datagram, lines_of, moment_of_line, last_line, gather_or_stop, gather_line, gather_lines}
-use Rattle.driven_nodes.specs.Hearing.{IsMemberOf, IsAt, AreHeard, StandsFor, IsReady, KeepsOthers, Hands, HandsOn, HandedAll, TickedAt, Answered, AllAnswered, IsDelivered, Heard, LeadsTo, TakesLine, TookLines, role}
-use Rattle.driven_nodes.specs.Leaving.{LeavesLines}
+use Rattle.driven_nodes.specs.Hearing.{IsMemberOf, IsAt, AreHeard, StandsFor, IsReady, KeepsOthers, Hands, HandsOn, HandedAll, TickedAt, Answered, AllAnswered, IsDelivered, Heard, LeadsTo, TakesLine, role}
+use Rattle.driven_nodes.specs.Writing.{TookLines, LeavesLines}
 use Rattle.driven_nodes.specs.declared.gathering.Gathering.{Gathering}
-use Rattle.driven_nodes.proofs.LeavingLemmas.{gained-nil, gained-gained, leaves_more, leaves_after, leaves_same, leaves_one, wants_memory}
+use Rattle.driven_nodes.proofs.WritingLemmas.{gained-nil, gained-gained, leaves_more, leaves_after, leaves_same, leaves_one, wants_memory}
 use Rattle.driven_nodes.proofs.HearerLemmas.{same_inside, nothing_inside, others_stay, own_moves, there_still, answers_it, lends, all_heard, draws_it, at_one, one_changed}
 
 abbrev Lines : Type 0

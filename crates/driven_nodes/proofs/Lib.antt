@@ -1,5 +1,6 @@
-pub mod LeavingLemmas
+pub mod WritingLemmas
 mod HearerLemmas
 mod GatherLemmas
 mod ChainLemmas
+mod RunLemmas
 mod MisfitLemmas

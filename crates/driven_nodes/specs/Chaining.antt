@@ -15,7 +15,7 @@ use Rattle.norm_turns.specs.declared.fault.SessionFault.{SessionFault}
 use Rattle.relay_words.specs.declared.ends.Losses.{Losses}
 use Rattle.relay_words.specs.declared.ends.RelayEnd.{RelayEnd}
 use Rattle.driven_nodes.specs.Relayed.{SoFar, Printed, Act, in_front, after, told_all, answered, delivery, is_taken, taken_up, up_sent, up_ticked, down_sent, down_ticked, with_loss}
-use Rattle.driven_nodes.specs.Leaving.{LeavesLines}
+use Rattle.driven_nodes.specs.Writing.{Ends, LeavesLines}
 use Rattle.driven_nodes.specs.declared.chain.Chain.{Chain}
 
 -- A chain stands for what the lines so far led to. It has the next draw already.
@@ -41,11 +41,6 @@ pub record LeadsTo (whole : Printed) (rest : SoFar → Printed) (new : Chain) (u
 -- an act was done, whatever follows it
 abbrev pub Does : Act → (old new : Chain) → (unwritten written : Pieces) → Type 0
 Does act old new unwritten written = (g : SoFar) (rest : SoFar → Printed) → StandsFor old g → LeadsTo (act g rest) rest new unwritten written
-
--- all that is printed was written, and it ends so
-pub record Ends (printed : Printed) (end : RelayEnd) (unwritten written : Pieces) : Type 0 where
-  pub is : printed.end ≡ end
-  pub output : written ≡ gained unwritten printed.lines
 
 -- an act ended the run, so nothing follows it
 abbrev pub Halts : Act → RelayEnd → (old : Chain) → (unwritten written : Pieces) → Type 0

@@ -160,8 +160,3 @@ TakesLine list n text g new unwritten written None =
     (rest : SoFar → Printed) → LeadsTo list (gather_line n text g rest) rest new unwritten written
 TakesLine list n text g new unwritten written (Some why) =
     ((rest : SoFar → Printed) → gather_line n text g rest ≡ stopped n why) × (written ≡ unwritten)
-
--- all that is printed was written, and what stopped it is this
-pub record TookLines (printed : Printed) (unwritten written : Pieces) (stop : Option (ℕ × NoDatagram)) : Type 0 where
-  pub stop_is : stop ≡ printed.stop
-  pub output : written ≡ gained unwritten printed.lines

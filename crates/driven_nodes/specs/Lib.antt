@@ -1,6 +1,6 @@
-pub mod Leaving
 pub mod Gathered
-pub mod Hearing
 pub mod Relayed
 pub mod Misfits
+pub mod Writing
+pub mod Hearing
 pub mod Chaining

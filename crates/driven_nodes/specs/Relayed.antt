@@ -236,6 +236,15 @@ opening p node q = record {
   lost = nothing_lost;
 }
 
+-- The profiles of the sessions above and below, and the node above that relays them.
+pub record Joined : Type 0 where
+  pub up : Settings
+  pub node : ℕ
+  pub down : Settings
+
+abbrev pub joined : Settings → ℕ → Settings → Joined
+joined p node q = record { up = p; node = node; down = q }
+
 -- What is printed of a text, and how it ends.
 abbrev pub relayed : Settings → ℕ → Settings → List ℕ → Printed
 relayed p node q text = takes_lines 1 (text_lines text) (opening p node q)

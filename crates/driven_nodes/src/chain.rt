@@ -1,4 +1,4 @@
-//! A relay that the lines of the input drive, and what is printed of it. `norm_program` calls
+//! A relay that the lines of the input drive, and what is printed of it. `relay_run` calls
 //! [`Chain::begin`] and [`Chain::take_lines`].
 
 ghost use Rattle.std.specs.Prelude.{◌≡◌, ◌+◌, [], ◌∷◌, true, fold, Some, IfOk, IfErr, OnOk};
@@ -32,7 +32,7 @@ const TYPES: u8 = 16;
 
 /// A relay, and what the lines so far led to.
 #[derive(Drop)]
-pub struct Chain {
+pub(crate) struct Chain {
     relay: Relay,
     /// The next draw, which is used if a datagram from above is taken.
     // It is drawn before it is known whether it is used: `deliver_up` takes it and says whether the datagram was taken.
@@ -253,7 +253,7 @@ impl Chain {
     /// # Errors
     ///
     /// `Profiles` if they cannot be relayed, or `Memory`.
-    pub fn begin(
+    pub(crate) fn begin(
         alloc: Global,
         up: &Profile,
         node: NodeId,
@@ -520,7 +520,7 @@ impl Chain {
 
     /// Takes the lines of a text in order, as far as they are events and no job is refused. Returns how the run ends. If all were taken, writes the
     /// last line.
-    pub fn take_lines<K: Sink>(
+    pub(crate) fn take_lines<K: Sink>(
         &mut self,
         alloc: Global,
         text: &[u8],

@@ -1,4 +1,4 @@
-//! The receivers of several senders, driven by the lines of the input, and what is printed of them. `norm_program` calls [`Gathering::begin`] and
+//! The receivers of several senders, driven by the lines of the input, and what is printed of them. `gather_run` calls [`Gathering::begin`] and
 //! [`Gathering::take_lines`].
 
 ghost use Rattle.std.specs.Prelude.{◌≡◌, ◌+◌, ◌≤◌, ℕ, List, length, IfOk, IfErr, IfSome, OnOk, IsSome};
@@ -10,8 +10,8 @@ ghost use Rattle.norm_multi.specs.MultiMoves.{AreTaken};
 ghost use Rattle.norm_script.specs.Text.{text_lines};
 ghost use Rattle.norm_turns.specs.Causes.{WriteCause, NeedsMemory};
 ghost use Rattle.driven_nodes.specs.Gathered.{Hearer, SoFar, Printed, draws_of, opening, up_lines, told, gather_line, gather_lines, lines_of};
-ghost use Rattle.driven_nodes.specs.Hearing.{AllAnswered, Answered, AreHeard, AreReady, Delivers, HandedAll, HandsOn, Heard, IsAt, IsReady, KeepsOthers, StandsFor, TakesLine, TickedAt, TookLines};
-ghost use Rattle.driven_nodes.specs.Leaving.{LeavesLines};
+ghost use Rattle.driven_nodes.specs.Hearing.{AllAnswered, Answered, AreHeard, AreReady, Delivers, HandedAll, HandsOn, Heard, IsAt, IsReady, KeepsOthers, StandsFor, TakesLine, TickedAt};
+ghost use Rattle.driven_nodes.specs.Writing.{TookLines, LeavesLines};
 
 use crate::gathered_lines::{write_last, write_of, write_send};
 use crate::lines::{first_line, moment_of, next_number};
@@ -27,7 +27,7 @@ use std::alloc::Global;
 
 /// The receivers of several senders, and what the lines so far led to.
 #[derive(Drop)]
-pub struct Gathering {
+pub(crate) struct Gathering {
     multi: Multi,
     /// The next draw, which is used if a datagram belongs to one of the senders.
     // It is drawn before it is known whether it is used: `deliver` takes it and says whose the datagram was.
@@ -78,7 +78,10 @@ impl Gathering {
     /// # Errors
     ///
     /// `NotReceiver` or `SameId`, the first that applies, or `Memory`.
-    pub fn begin(alloc: Global, members: &[(Profile, NodeId)]) -> Result<Gathering, MultiFault>
+    pub(crate) fn begin(
+        alloc: Global,
+        members: &[(Profile, NodeId)],
+    ) -> Result<Gathering, MultiFault>
         requires { length members.now ≤ 8 }
         ensures stands { IfOk result (λ k. StandsFor members.now k (opening members.now)) }
         ensures fault { IfErr result (λ why. IsFault why members.now) }
@@ -283,7 +286,7 @@ impl Gathering {
     }
 
     /// Takes the lines of a text, and writes the last line. If a line spells no datagram, returns its number and why, and takes no further one.
-    pub fn take_lines<K: Sink>(
+    pub(crate) fn take_lines<K: Sink>(
         &mut self,
         alloc: Global,
         members: &[(Profile, NodeId)],

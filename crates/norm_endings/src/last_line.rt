@@ -1,6 +1,6 @@
 //! Writes the last line of the program, except a tail's. [`end_session`], [`say_absent`] and [`stop_session`] also return the ending that goes
-//! with it. Commands call these when they end, and so do what they share (`input`, `commands`, `profiles`, `tail`) and `program`, for the usage
-//! line.
+//! with it. Commands of `norm_program` call these when they end, `input` and `profiles` if they end the program, and `norm_program` itself
+//! for the usage line.
 
 ghost use Rattle.std.specs.Prelude.{◌≡◌, string_bytes, IfOk};
 ghost use Rattle.norm_endings.specs.Outside.{refused_line, absent_line, Says};
@@ -49,7 +49,7 @@ pub fn end_session<K: Sink>(whole: bool, output: &mut K) -> Ending
 }
 
 /// Writes which file is absent and returns the ending: `Memory` if memory runs out for the line.
-pub fn say_absent<K: Sink>(alloc: Global, name: Text, output: &mut K) -> Ending
+pub(crate) fn say_absent<K: Sink>(alloc: Global, name: Text, output: &mut K) -> Ending
     ensures { IsAbsentEnding result name (K.pieces output.old) (K.pieces output.new)
         (K.fault_count output.old) (K.fault_count output.new) }
 {

@@ -10,7 +10,7 @@ mod reason;
 mod status;
 
 pub use crate::input::read_input;
-pub use crate::last_line::{end_session, refused_line, say, say_absent, stop_session};
+pub use crate::last_line::{end_session, refused_line, say, stop_session};
 pub use crate::profiles::{copy_of, load, refuse_profile};
 pub use crate::reason::{explain, explain_no_text, needed, say_cause};
 pub use crate::status::{Ending, NoTail, ProfileFault, Status};

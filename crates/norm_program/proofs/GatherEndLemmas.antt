@@ -16,8 +16,7 @@ use Rattle.norm_turns.specs.Causes.{Counted, HasCause, WriteCause, counted}
 use Rattle.norm_turns.specs.declared.fault.SessionFault.{SessionFault}
 use Rattle.norm_turns.specs.declared.fault.SessionFault.TheVariants as fault
 use Rattle.driven_nodes.specs.Gathered.{Printed, gathered}
-use Rattle.driven_nodes.specs.Hearing.{TookLines}
-use Rattle.driven_nodes.specs.Leaving.{LeavesLines}
+use Rattle.driven_nodes.specs.Writing.{TookLines, LeavesLines}
 use Rattle.norm_endings.specs.Outside.{Called, Says, IsInput, outside, called_as, refused_line}
 use Rattle.norm_endings.specs.Endings.{IsReadEnding, IsStoppedEnding, IsLoading, IsRefusing}
 use Rattle.norm_endings.specs.declared.status.Ending.{Ending}
@@ -26,7 +25,7 @@ use Rattle.norm_endings.specs.declared.status.ProfileFault.TheVariants.{Members}
 use Rattle.norm_program.specs.GatherEnds.{AreLoaded, EndsAmong, EndsGather}
 use Rattle.norm_program.specs.Gathering.{IsLinesEnding, IsMembersEnding, IsLoadingPair}
 use Rattle.norm_program.specs.ShowEnds.{IsLineEnding}
-use Rattle.driven_nodes.proofs.LeavingLemmas.{leaves_same, wants_memory}
+use Rattle.driven_nodes.proofs.WritingLemmas.{leaves_same, wants_memory}
 use Rattle.norm_program.proofs.NodeLemmas.{unloaded_ends}
 
 -- ---- the lines

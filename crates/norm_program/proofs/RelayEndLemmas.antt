@@ -14,17 +14,16 @@ use Rattle.relay_words.specs.declared.ends.NoEvent.{NoEvent}
 use Rattle.relay_words.specs.declared.ends.Patience.{Patience}
 use Rattle.relay_words.specs.declared.ends.RelayEnd.{RelayEnd}
 use Rattle.relay_words.specs.declared.ends.RelayEnd.TheVariants as stop
-use Rattle.driven_nodes.specs.Chaining.{Ends}
+use Rattle.driven_nodes.specs.Writing.{Ends, LeavesLines}
 use Rattle.driven_nodes.specs.Relayed.{Printed, relayed}
 use Rattle.driven_nodes.specs.Misfits.{patience_of}
-use Rattle.driven_nodes.specs.Leaving.{LeavesLines}
 use Rattle.norm_endings.specs.Outside.{Called, Says, IsInput, outside, refused_line}
 use Rattle.norm_endings.specs.Endings.{IsReadEnding, IsStoppedEnding}
 use Rattle.norm_endings.specs.declared.status.Ending.{Ending}
 use Rattle.norm_endings.specs.declared.status.Ending.TheVariants.{Memory, Event, Command, Relayed, Read, Write}
 use Rattle.norm_program.specs.RelayEnds.{EndsBetween}
 use Rattle.norm_program.specs.Relaying.{IsEventEnding, IsPrintedEnding, IsSaying, IsSessionsEnding}
-use Rattle.driven_nodes.proofs.LeavingLemmas.{leaves_same, wants_memory}
+use Rattle.driven_nodes.proofs.WritingLemmas.{leaves_same, wants_memory}
 
 -- ---- the lines
 

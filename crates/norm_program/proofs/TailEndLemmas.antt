@@ -21,7 +21,7 @@ use Rattle.norm_turns.specs.declared.fault.SessionFault.TheVariants as fault
 use Rattle.norm_world.specs.WorldKept.{StandsFor}
 use Rattle.norm_args.specs.Fits.{FitsOptions}
 use Rattle.norm_args.specs.declared.tasks.Options.{Options}
-use Rattle.driven_nodes.specs.Leaving.{LeavesLines}
+use Rattle.driven_nodes.specs.Writing.{LeavesLines}
 use Rattle.norm_endings.specs.Outside.{Outside, Called, outside}
 use Rattle.norm_endings.specs.Endings.{IsStoppedEnding}
 use Rattle.norm_endings.specs.declared.status.Ending.{Ending}

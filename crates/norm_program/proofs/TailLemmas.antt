@@ -30,13 +30,14 @@ use Rattle.norm_turns.specs.declared.fault.SessionFault.{SessionFault}
 use Rattle.norm_turns.specs.declared.fault.SessionFault.TheVariants as fault
 use Rattle.norm_session.proofs.SoFarLemmas.{gained-nil, gained-gained}
 use Rattle.norm_world.specs.WorldKept.{WorldKept, IsReady, StandsFor}
-use Rattle.driven_nodes.specs.Leaving.{LeavesLines}
+use Rattle.driven_nodes.specs.Writing.{LeavesLines}
 use Rattle.norm_endings.specs.declared.status.Ending.TheVariants.{Done}
 use Rattle.norm_endings.specs.declared.status.NoTail.{NoTail}
 use Rattle.norm_program.specs.TailEnds.{TailsSoFar, Made, step_line, lines_of, with_step, with_tail, with_tail_of, tail_unless, tail_once, has_open, tails_from, tails_of, no_tail, no_tails, refused_after, going_on_if, going_on, last_line, ending_of, lines_with, ending_if, ending_after, lines_if, lines_after}
 use Rattle.norm_program.specs.Tailing.{MayGoOn, AreMade, IsTurned}
 use Rattle.norm_program.specs.declared.tail.Tails.{Tails}
 use Rattle.norm_program.specs.declared.tail.Turned.{Turned}
+use Rattle.driven_nodes.proofs.WritingLemmas.{leaves_more, leaves_after, leaves_same, leaves_one, wants_memory}
 
 abbrev Lines : Type 0
 Lines = List (List ℕ)

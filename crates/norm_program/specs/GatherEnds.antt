@@ -10,7 +10,7 @@ use Rattle.norm_profile.specs.Loading.{IsOfFile}
 use Rattle.norm_show.specs.declared.fault.NoDatagram.{NoDatagram}
 use Rattle.norm_turns.specs.declared.fault.SessionFault.{SessionFault}
 use Rattle.norm_turns.specs.declared.fault.SessionFault.TheVariants as fault
-use Rattle.driven_nodes.specs.Leaving.{LeavesLines}
+use Rattle.driven_nodes.specs.Writing.{LeavesLines}
 use Rattle.driven_nodes.specs.Gathered.{gathered}
 use Rattle.norm_endings.specs.Outside.{Outside, Says, Undisturbed, Untouched, IsInput, FailedRead, refused_line}
 use Rattle.norm_endings.specs.declared.status.Ending.{Ending}

@@ -8,7 +8,7 @@ use Rattle.norm_multi.specs.declared.multi.MultiFault.{MultiFault}
 use Rattle.norm_multi.specs.declared.multi.MultiFault.TheVariants as multi
 use Rattle.norm_turns.specs.declared.fault.SessionFault.TheVariants as fault
 use Rattle.driven_nodes.specs.Gathered.{Printed}
-use Rattle.driven_nodes.specs.Leaving.{LeavesLines}
+use Rattle.driven_nodes.specs.Writing.{LeavesLines}
 use Rattle.norm_endings.specs.Outside.{Says, refused_line}
 use Rattle.norm_endings.specs.Endings.{IsLoading, IsRefusing}
 use Rattle.norm_endings.specs.declared.status.Ending.{Ending}

@@ -10,7 +10,7 @@ use Rattle.relay_words.specs.declared.ends.Losses.{Losses}
 use Rattle.relay_words.specs.declared.ends.Patience.{Patience}
 use Rattle.relay_words.specs.declared.ends.RelayEnd.{RelayEnd}
 use Rattle.relay_words.specs.declared.ends.RelayEnd.TheVariants as stop
-use Rattle.driven_nodes.specs.Leaving.{LeavesLines}
+use Rattle.driven_nodes.specs.Writing.{LeavesLines}
 use Rattle.driven_nodes.specs.Relayed.{relayed}
 use Rattle.driven_nodes.specs.Misfits.{no_relay, patience_of}
 use Rattle.norm_endings.specs.Outside.{Outside, Says, Undisturbed, Untouched, IsInput, FailedRead, refused_line}

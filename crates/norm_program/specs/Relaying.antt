@@ -13,7 +13,7 @@ use Rattle.relay_words.specs.declared.ends.RelayEnd.{RelayEnd}
 use Rattle.relay_words.specs.declared.ends.RelayEnd.TheVariants as stop
 use Rattle.driven_nodes.specs.Relayed.{Printed}
 use Rattle.driven_nodes.specs.Misfits.{no_relay}
-use Rattle.driven_nodes.specs.Leaving.{LeavesLines}
+use Rattle.driven_nodes.specs.Writing.{LeavesLines}
 use Rattle.norm_endings.specs.Outside.{Says, refused_line}
 use Rattle.norm_endings.specs.declared.status.Ending.{Ending}
 use Rattle.norm_endings.specs.declared.status.Ending.TheVariants.{Memory, Event, Command, Profile, Relayed, Write}

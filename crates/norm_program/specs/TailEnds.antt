@@ -27,7 +27,7 @@ use Rattle.norm_turns.specs.Telling.{left_by}
 use Rattle.norm_turns.specs.declared.fault.SessionFault.{SessionFault}
 use Rattle.norm_turns.specs.declared.fault.SessionFault.TheVariants as fault
 use Rattle.norm_args.specs.declared.tasks.Options.{Options}
-use Rattle.driven_nodes.specs.Leaving.{LeavesLines}
+use Rattle.driven_nodes.specs.Writing.{LeavesLines}
 use Rattle.norm_endings.specs.Outside.{Outside, Undisturbed, IsInput, FailedRead}
 use Rattle.norm_endings.specs.declared.status.Ending.{Ending}
 use Rattle.norm_endings.specs.declared.status.Ending.TheVariants.{Done, Memory, Refused, Read, Write, Fabric, Files, Absent, Tailed, TailRefused}

@@ -8,7 +8,7 @@ use Rattle.norm_safety.specs.World.{World}
 use Rattle.norm_session.specs.Pausing.{has_commands}
 use Rattle.norm_turns.specs.declared.fault.SessionFault.{SessionFault}
 use Rattle.norm_world.specs.WorldKept.{WorldKept, IsReady, StandsFor}
-use Rattle.driven_nodes.specs.Leaving.{LeavesLines, WholeLines, BrokenLines}
+use Rattle.driven_nodes.specs.Writing.{LeavesLines, WholeLines, BrokenLines}
 use Rattle.norm_endings.specs.declared.status.Ending.{Ending}
 use Rattle.norm_endings.specs.declared.status.Ending.TheVariants.{Memory, Write}
 use Rattle.norm_endings.specs.declared.status.NoTail.{NoTail}

@@ -11,7 +11,7 @@ ghost use Rattle.norm_program.specs.Lending.{GivesBack};
 
 use crate::lent::Lent;
 use crate::show::refuse_line;
-use driven_nodes::Gathering;
+use driven_nodes::GatherRun;
 use norm_args::Pairs;
 use norm_base::{Clock, Fabric, Files, NodeId, Profile, Sink, Source, Text};
 use norm_endings::{Ending, ProfileFault, copy_of, load, read_input, refuse_profile, stop_session};
@@ -35,19 +35,11 @@ fn refuse_members<K: Sink>(why: MultiFault, output: &mut K) -> Ending
 }
 
 /// Takes the lines of a text, writes what is printed of them, and returns the ending.
-fn end_lines<K: Sink>(
-    alloc: Global,
-    gathering: Gathering,
-    members: &[(Profile, NodeId)],
-    text: &[u8],
-    output: &mut K,
-) -> Ending
-    requires { StandsFor members.now gathering (opening members.now) }
-    ensures { IsLinesEnding result (gathered members.now text.now) (K.pieces output.old) (K.pieces output.new)
+fn end_lines<K: Sink>(alloc: Global, run: GatherRun, text: &[u8], output: &mut K) -> Ending
+    ensures { IsLinesEnding result (gathered run text.now) (K.pieces output.old) (K.pieces output.new)
         (K.fault_count output.old) (K.fault_count output.new) }
 {
-    let mut gathering = gathering;
-    match gathering.take_lines(alloc, members, text, output) {
+    match run.take_lines(alloc, text, output) {
         Ok(None) => Ending::Done,
         Ok(Some(stop)) => refuse_line(alloc, stop.0, stop.1, output),
         Err(fault) => stop_session(alloc, fault, output),
@@ -58,11 +50,11 @@ fn end_lines<K: Sink>(
 /// not read the input.
 fn gather<S: Source, K: Sink>(
     alloc: Global,
-    members: &[(Profile, NodeId)],
+    members: Vec<(Profile, NodeId)>,
     input: &mut S,
     output: &mut K,
 ) -> Ending
-    ensures { (called : Called) → EndsAmong members.now result
+    ensures { (called : Called) → EndsAmong members.items result
         (outside (S.left input.old) (K.pieces output.old) (S.fault_count input.old) (K.fault_count output.old) called)
         (outside (S.left input.new) (K.pieces output.new) (S.fault_count input.new) (K.fault_count output.new) called) }
 {
@@ -70,12 +62,12 @@ fn gather<S: Source, K: Sink>(
     if members.len() > MOST_SENDERS {
         return Ending::Memory;
     }
-    let gathering = match Gathering::begin(alloc, members) {
-        Ok(gathering) => gathering,
+    let run = match GatherRun::begin(alloc, members) {
+        Ok(run) => run,
         Err(why) => return refuse_members(why, output),
     };
     match read_input(alloc, input, output) {
-        Ok(text) => end_lines(alloc, gathering, members, &text, output),
+        Ok(text) => end_lines(alloc, run, &text, output),
         Err(ending) => ending,
     }
 }
@@ -114,7 +106,7 @@ pub(crate) fn end_gather<S: Source, K: Sink, F: Fabric, D: Files, C: Clock>(
 {
     let pairs = pairs.into_inner();
     match load_all(alloc, &pairs, lent.output, lent.files) {
-        Ok(members) => gather(alloc, &members, lent.input, lent.output),
+        Ok(members) => gather(alloc, members, lent.input, lent.output),
         Err(ending) => ending,
     }
 }

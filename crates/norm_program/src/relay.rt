@@ -17,7 +17,7 @@ ghost use Rattle.norm_program.specs.Relaying.{IsEventEnding, IsPrintedEnding, Is
 
 use crate::lent::Lent;
 use crate::send::with_instance;
-use driven_nodes::{Chain, no_relay, patience_of};
+use driven_nodes::{RelayRun, no_relay, patience_of};
 use norm_base::{Clock, Fabric, Files, NodeId, Profile, Sink, Source, Text};
 use norm_endings::{
     Ending, ProfileFault, load, read_input, refuse_profile, refused_line, say, stop_session,
@@ -78,20 +78,16 @@ fn say_end<K: Sink>(alloc: Global, end: RelayEnd, patience: Patience, output: &m
 /// Takes the lines of a text, writes what is printed of them, and returns the ending.
 fn end_lines<K: Sink>(
     alloc: Global,
-    chain: Chain,
-    up: &Profile,
-    node: NodeId,
-    down: &Profile,
+    run: RelayRun,
+    patience: Patience,
     text: &[u8],
     output: &mut K,
 ) -> Ending
-    requires { StandsFor chain (opening up.now node down.now) }
-    ensures { IsPrintedEnding result (patience_of up.now down.now) (relayed up.now node down.now text.now) (K.pieces output.old) (K.pieces output.new)
+    ensures { IsPrintedEnding result patience (relayed run.up run.node run.down text.now) (K.pieces output.old) (K.pieces output.new)
         (K.fault_count output.old) (K.fault_count output.new) }
 {
-    let mut chain = chain;
-    match chain.take_lines(alloc, text, output) {
-        Ok(end) => say_end(alloc, end, patience_of(up, down), output),
+    match run.take_lines(alloc, text, output) {
+        Ok(end) => say_end(alloc, end, patience, output),
         Err(fault) => stop_session(alloc, fault, output),
     }
 }
@@ -110,12 +106,12 @@ fn relay<S: Source, K: Sink>(
         (outside (S.left input.old) (K.pieces output.old) (S.fault_count input.old) (K.fault_count output.old) called)
         (outside (S.left input.new) (K.pieces output.new) (S.fault_count input.new) (K.fault_count output.new) called) }
 {
-    let chain = match Chain::begin(alloc, up, node, down) {
-        Ok(chain) => chain,
+    let run = match RelayRun::begin(alloc, up, node, down) {
+        Ok(run) => run,
         Err(why) => return refuse_sessions(why, up, node, down, output),
     };
     match read_input(alloc, input, output) {
-        Ok(text) => end_lines(alloc, chain, up, node, down, &text, output),
+        Ok(text) => end_lines(alloc, run, patience_of(up, down), &text, output),
         Err(ending) => ending,
     }
 }

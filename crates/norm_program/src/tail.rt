@@ -17,7 +17,7 @@ ghost use Rattle.norm_text.specs.Words.{with_words};
 ghost use Rattle.norm_turns.specs.Causes.{NeedsMemory, WriteCause};
 ghost use Rattle.norm_turns.specs.Printing.{IsUnwritten};
 ghost use Rattle.norm_world.specs.WorldKept.{StandsFor};
-ghost use Rattle.driven_nodes.specs.Leaving.{LeavesLines};
+ghost use Rattle.driven_nodes.specs.Writing.{LeavesLines};
 ghost use Rattle.norm_program.specs.TailEnds.{step_line, lines_of, with_step, has_open, no_tail, word_of, last_words, last_line, ending_of, no_tails, tail_once, tails_of, refused_after, going_on, ending_after, lines_after};
 ghost use Rattle.norm_program.specs.Tailing.{AreMade, IsTailsEnding, IsTurned, LeadsOn, MayGoOn, StopsOn};
 

@@ -12,7 +12,7 @@ returns-in-Ok-clause-ends g c =
           (g.K.Sink.fault_count c.gather.new.output) o.called.network o.called.files (g.D.Files.contents c.load_all.new.files) o.called.moments o.called.network_faults
           o.called.file_faults (g.D.Files.fault_count c.load_all.new.files) c.in-Ok.ensures.unwritten c.in-Ok.ensures.quiet.0 c.in-Ok.ensures.same c.in-Ok.ensures.quiet.1
           (loaded_here o.called.files _ c.args.pairs c.in-Ok.members.items (c.deref.ensures.value ∙ c.into_inner-pairs.ensures) c.in-Ok.ensures.loaded)
-          (rw (c.deref-in-Ok.ensures.value) at c.gather.ensures);
+          c.gather.ensures;
     }
 
 pub returns-clause-ends : goal.returns-clause-ends

@@ -1,6 +1,5 @@
 use Rattle.std.proofs.Common.{subst}
-use Rattle.driven_nodes.specs.Misfits.{patience_of}
-use Rattle.driven_nodes.specs.Relayed.{relayed}
+use Rattle.driven_nodes.specs.Relayed.{Joined, relayed}
 use Rattle.norm_program.specs.Relaying.{IsPrintedEnding}
 use Rattle.norm_program.proofs.RelayEndLemmas.{sessions_end, read_end, lines_end}
 use Rattle.norm_program.proofs.relay.relay.Goals as goal
@@ -14,9 +13,15 @@ returns-in-Err g c called =
 pub returns-in-Ok-read_input : goal.returns-in-Ok-read_input
 returns-in-Ok-read_input g c called =
     let text = c.in-Ok-read_input.text.items in
-    let ends = subst (λ t. IsPrintedEnding c.end_lines.result (patience_of c.args.up.now c.args.down.now) (relayed c.args.up.now c.args.node c.args.down.now t)
+    let whole = subst (λ t. IsPrintedEnding c.end_lines.result c.patience_of.result (relayed c.in-Ok.run.up c.in-Ok.run.node c.in-Ok.run.down t)
     (g.K.Sink.pieces c.read_input.new.output) (g.K.Sink.pieces c.end_lines.new.output) (g.K.Sink.fault_count c.read_input.new.output)
     (g.K.Sink.fault_count c.end_lines.new.output)) c.deref.ensures.value c.end_lines.ensures in
+    let begun = subst (λ (r : Joined). IsPrintedEnding c.end_lines.result c.patience_of.result (relayed r.up r.node r.down text)
+    (g.K.Sink.pieces c.read_input.new.output) (g.K.Sink.pieces c.end_lines.new.output) (g.K.Sink.fault_count c.read_input.new.output)
+    (g.K.Sink.fault_count c.end_lines.new.output)) c.in-Ok.ensures.begun whole in
+    let ends = subst (λ k. IsPrintedEnding c.end_lines.result k (relayed c.args.up.now c.args.node c.args.down.now text)
+    (g.K.Sink.pieces c.read_input.new.output) (g.K.Sink.pieces c.end_lines.new.output) (g.K.Sink.fault_count c.read_input.new.output)
+    (g.K.Sink.fault_count c.end_lines.new.output)) c.patience_of.ensures begun in
     lines_end c.end_lines.result c.args.up.now c.args.node c.args.down.now text (g.S.Source.left c.args.input.now) (g.S.Source.left c.read_input.new.input)
     (g.K.Sink.pieces c.args.output.now) (g.K.Sink.pieces c.read_input.new.output) (g.K.Sink.pieces c.end_lines.new.output) (g.S.Source.fault_count c.args.input.now)
     (g.S.Source.fault_count c.read_input.new.input) (g.K.Sink.fault_count c.args.output.now) (g.K.Sink.fault_count c.read_input.new.output)

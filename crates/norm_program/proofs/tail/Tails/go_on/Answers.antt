@@ -1,6 +1,6 @@
 use Rattle.std.proofs.Common.{◌≡◌, ◌∙◌, sym, subst, refl, Some, true, false}
 use Rattle.std.proofs.lemmas.Result.{IfOk-weaker, IfErr-weaker}
-use Rattle.driven_nodes.specs.Leaving.{LeavesLines}
+use Rattle.driven_nodes.specs.Writing.{LeavesLines}
 use Rattle.norm_endings.specs.declared.status.NoTail.TheVariants as refusal
 use Rattle.norm_program.specs.TailEnds.{Made, has_open, no_tails}
 use Rattle.norm_program.specs.Tailing.{AreMade}

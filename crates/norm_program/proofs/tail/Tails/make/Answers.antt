@@ -6,7 +6,7 @@ use Rattle.norm_sender.specs.SenderKept.{SenderKept, Stands}
 use Rattle.norm_turns.proofs.FaultLemmas.{at_fault}
 use Rattle.norm_turns.specs.declared.fault.SessionFault.TheVariants as fault
 use Rattle.norm_world.specs.WorldKept.{WorldKept}
-use Rattle.driven_nodes.specs.Leaving.{LeavesLines}
+use Rattle.driven_nodes.specs.Writing.{LeavesLines}
 use Rattle.norm_program.specs.TailEnds.{lines_of, refused_after, tail_once, with_step}
 use Rattle.norm_program.specs.Tailing.{AreMade, MayGoOn}
 use Rattle.norm_program.specs.declared.tail.Tails.{Tails}

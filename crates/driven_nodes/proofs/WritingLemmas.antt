@@ -6,7 +6,7 @@ use Rattle.norm_base.specs.Told.{Pieces, gained, GainsFront}
 use Rattle.norm_turns.specs.Printing.{IsUnwritten}
 use Rattle.norm_turns.specs.declared.fault.SessionFault.{SessionFault}
 use Rattle.norm_turns.specs.declared.fault.SessionFault.TheVariants as fault
-use Rattle.driven_nodes.specs.Leaving.{LeavesLines}
+use Rattle.driven_nodes.specs.Writing.{LeavesLines}
 
 abbrev Lines : Type 0
 Lines = List (List ℕ)

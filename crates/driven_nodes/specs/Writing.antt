@@ -1,8 +1,22 @@
--- What a fault leaves of lines.
-use Rattle.std.specs.Prelude.{◌≡◌, ℕ, List, ◌∷◌, ◌++◌}
+-- What is written of the lines of a run: all of them, and it ended so; or what a fault leaves.
+use Rattle.std.specs.Prelude.{◌≡◌, ℕ, List, ◌∷◌, ◌++◌, Option}
 use Rattle.norm_base.specs.Told.{Pieces, gained, GainsFront}
 use Rattle.norm_turns.specs.declared.fault.SessionFault.{SessionFault}
 use Rattle.norm_turns.specs.declared.fault.SessionFault.TheVariants as fault
+use Rattle.norm_show.specs.declared.fault.NoDatagram.{NoDatagram}
+use Rattle.relay_words.specs.declared.ends.RelayEnd.{RelayEnd}
+use Rattle.driven_nodes.specs.Gathered as gathering
+use Rattle.driven_nodes.specs.Relayed as relaying
+
+-- all that `gather` prints was written, and what stopped it is this
+pub record TookLines (printed : gathering.Printed) (unwritten written : Pieces) (stop : Option (ℕ × NoDatagram)) : Type 0 where
+  pub stop_is : stop ≡ printed.stop
+  pub output : written ≡ gained unwritten printed.lines
+
+-- all that `relay` prints was written, and it ends so
+pub record Ends (printed : relaying.Printed) (end : RelayEnd) (unwritten written : Pieces) : Type 0 where
+  pub is : printed.end ≡ end
+  pub output : written ≡ gained unwritten printed.lines
 
 -- whole lines, from the first on
 pub record WholeLines (unwritten written : Pieces) (lines : List (List ℕ)) : Type 0 where
