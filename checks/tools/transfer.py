@@ -68,12 +68,13 @@ class Nodes:
             it.wait()
 
 
-def ended(process: subprocess.Popen, status: int, what: str) -> str:
+def ended(process: subprocess.Popen, status: int, what: str, seconds: int = SECONDS) -> str:
     """What it said, once it ended with this status."""
     try:
-        said, _ = process.communicate(timeout=SECONDS)
+        said, _ = process.communicate(timeout=seconds)
     except subprocess.TimeoutExpired:
-        raise Unmet(f'{what} did not end in {SECONDS} seconds') from None
+        process.terminate()
+        raise Unmet(f'{what} did not end in {seconds} seconds: {process.communicate()[0].strip()}') from None
     holds(process.returncode == status, f'{what} ended with status {process.returncode}, not {status}: {said.strip()}')
     return said
 
@@ -323,7 +324,7 @@ def in_a_group(program: str, port: int, room: Path, number: int) -> str | None:
             time.sleep(1)
             holds(sender.poll() is None, 'the folder takes longer to send than its machines are away')
             subnet.away(0, 1)
-            said = ended(sender, 0, 'send to a group')
+            said = ended(sender, 0, 'send to a group', 2 * SECONDS)
             took = time.monotonic() - began
             for what in (f'cannot send to {Subnet.group}:{port}', f'sending to {Subnet.group}:{port} works again'):
                 holds(said.count(what) == 1, f'the sender says once {what!r}: {said}')
