@@ -2,7 +2,7 @@
 //! the system's words.
 
 use crate::broken::{Broken, Wrong};
-use crate::networks::{At, Networks, Step, port_of};
+use crate::networks::{At, Networks, Step, everyone, port_of};
 use crate::{hosted, sockets};
 use norm_base::Fabric;
 use norm_host::HostFabric;
@@ -223,10 +223,8 @@ fn a_group_that_cannot_be_joined(rt: HostRuntime) -> Result<(), Fail> {
 fn a_number_that_runs_in_a_group_already(rt: HostRuntime) -> Result<(), Fail> {
     let port = port_of(process::id(rt.process()), 34);
     let mut networks = sockets::networks(rt.alloc(), rt, port)?;
-    networks.hub.join(Ipv4Addr::new(127, 255, 255, 255), None);
-    networks
-        .receiver
-        .join(Ipv4Addr::new(127, 255, 255, 255), None);
+    networks.hub.join(everyone(), None);
+    networks.receiver.join(everyone(), None);
     let holder = [(At::Hub, Step::StartOne(2))];
     compare(rt.alloc(), networks, &holder, &DOUBLE)
 }

@@ -1,6 +1,6 @@
 //! Tests `UdpFabric` with members in a group at 127.255.255.255: who hears whom, what each passes over, and why a start fails.
 
-use crate::networks::{At, Networks, Step, port_of};
+use crate::networks::{At, Networks, Step, everyone, port_of};
 use crate::sockets::networks;
 use norm_base::Fabric;
 use norm_udp::UdpFabric;
@@ -11,9 +11,6 @@ use std::test::Fail;
 use std::time::Clock;
 use std::{io, process};
 use udp_rules::TellsGroup;
-
-/// The broadcast address of the loopback network, which each machine has.
-const EVERYONE: Ipv4Addr = Ipv4Addr::new(127, 255, 255, 255);
 
 /// The fewest octets of a datagram that is too long.
 const TOO_LONG: usize = 1_501;
@@ -108,7 +105,7 @@ fn joined<R: Net + Wait + Clock + Copy + Drop>(
 fn send<R: Net>(alloc: Global, rt: &R, port: u16, strange: Strange) -> io::Result<()> {
     let (from, above, octets) = strange;
     let own = SocketAddr::V4(SocketAddrV4::new(Ipv4Addr::new(127, 0, 0, from), 0));
-    let to = SocketAddr::V4(SocketAddrV4::new(EVERYONE, port.wrapping_add(above)));
+    let to = SocketAddr::V4(SocketAddrV4::new(everyone(), port.wrapping_add(above)));
     let socket = rt.bind_udp(own)?;
     socket.set_broadcast(true)?;
     match octets {
@@ -169,13 +166,13 @@ fn compare_strange<R: Net, F: Fabric + TellsGroup + Drop>(
 #[test]
 fn a_group_on_one_machine(rt: HostRuntime) -> Result<(), Fail> {
     let port = port_of(process::id(rt.process()), 15);
-    let networks = joined(rt.alloc(), rt, port, EVERYONE)?;
+    let networks = joined(rt.alloc(), rt, port, everyone())?;
     compare(rt.alloc(), networks, &MEMBERS, MEMBERS_ANSWERS)
 }
 
 #[test]
 fn what_a_member_of_a_group_passes_over(rt: HostRuntime) -> Result<(), Fail> {
     let port = port_of(process::id(rt.process()), 32);
-    let networks = joined(rt.alloc(), rt, port, EVERYONE)?;
+    let networks = joined(rt.alloc(), rt, port, everyone())?;
     compare_strange(rt.alloc(), &rt, networks)
 }

@@ -5,6 +5,7 @@ use norm_base::{
     DATAGRAM_ROOM, Datagram, Fabric, FabricFault, FabricKind, Given, Key, Local, NodeId, Profile,
 };
 use std::alloc::Global;
+use std::net::Ipv4Addr;
 use std::test::Fail;
 
 /// The lowest port. All ports of tests are below those that the system gives to a socket that asks for none.
@@ -49,6 +50,11 @@ pub(crate) enum Step {
     StartInMemory,
     Offer(u32, &'static [u8]),
     Take(u32),
+}
+
+/// Returns the broadcast address of the loopback network, which each machine has.
+pub(crate) fn everyone() -> Ipv4Addr {
+    Ipv4Addr::new(127, 255, 255, 255)
 }
 
 /// Returns the hub's port for a process's id and the number of a test.

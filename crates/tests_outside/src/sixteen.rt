@@ -1,13 +1,13 @@
 //! Tests `UdpFabric` with sixteen receivers, the most that a session has. Each datagram of a member arrives whole at each other member, and
 //! never at the member itself: through a hub, through a hub whose threads send, with all members in one network, and in a group.
 
-use crate::networks::{port_of, profile_of};
+use crate::networks::{everyone, port_of, profile_of};
 use norm_base::{
     DATAGRAM_ROOM, Datagram, Fabric, FabricFault, FabricKind, Local, Memory, NodeId, Profile,
 };
 use norm_udp::{Senders, UdpFabric};
 use std::alloc::Global;
-use std::net::{Ipv4Addr, Net};
+use std::net::Net;
 use std::process;
 use std::sync::Wait;
 use std::test::Fail;
@@ -26,9 +26,6 @@ const LENGTHS: [usize; 3] = [1, 1_000, 1_440];
 const MESSAGE: usize = 12;
 
 const SOURCE_END: usize = 8;
-
-/// The broadcast address of the loopback network, which each machine has.
-const EVERYONE: Ipv4Addr = Ipv4Addr::new(127, 255, 255, 255);
 
 /// The most takes for a datagram that should arrive. `GLANCES` are those for one that should not. A take that finds nothing lasts a
 /// millisecond at most.
@@ -300,7 +297,7 @@ fn compare_group<R: Net + Wait + Clock + Copy + Drop>(
 ) -> Result<(), Fail> {
     let mut members = networks(alloc, rt)?;
     for member in members.iter_mut() {
-        member.join(EVERYONE, None);
+        member.join(everyone(), None);
     }
     compare_in_group(alloc, &mut members, port)
 }
