@@ -77,12 +77,7 @@ impl RelayRun {
             (relayed self.up self.node self.down text.now).lines) }
         ensures cause { WriteCause result (K.fault_count output.old) (K.fault_count output.new) }
     {
-        let RelayRun {
-            up: _up,
-            node: _node,
-            down: _down,
-            mut chain,
-        } = self;
+        let RelayRun { mut chain, .. } = self;
         chain.take_lines(alloc, text, output)
     }
 }

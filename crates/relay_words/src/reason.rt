@@ -34,7 +34,7 @@ pub fn say_no_relay<W: fmt::Write>(why: NoRelay, f: &mut fmt::Formatter<W>) -> f
 
 impl fmt::Display for NoEvent {
     ghost use Rattle.std.specs.Prelude.{Some};
-    ghost use Rattle.relay_words.specs.Reasons.{event_reason, loss_reason, patience_reason};
+    ghost use Rattle.relay_words.specs.Reasons.{event_reason};
 
     ghost output = { λ why. Some (event_reason why) };
 
@@ -89,6 +89,9 @@ pub fn say_command<W: fmt::Write>(fault: SendFault, f: &mut fmt::Formatter<W>) -
 }
 
 impl fmt::Display for Losses {
+    ghost use Rattle.std.specs.Prelude.{Some};
+    ghost use Rattle.relay_words.specs.Reasons.{loss_reason};
+
     ghost output = { λ lost. Some (loss_reason lost) };
 
     fn fmt<W: fmt::Write>(&self, f: &mut fmt::Formatter<W>) -> fmt::Result {
@@ -103,6 +106,9 @@ impl fmt::Display for Losses {
 }
 
 impl fmt::Display for Patience {
+    ghost use Rattle.std.specs.Prelude.{Some};
+    ghost use Rattle.relay_words.specs.Reasons.{patience_reason};
+
     ghost output = { λ patience. Some (patience_reason patience) };
 
     fn fmt<W: fmt::Write>(&self, f: &mut fmt::Formatter<W>) -> fmt::Result {
