@@ -27,6 +27,7 @@ use Rattle.norm_safety.specs.World.{is_of}
 use Rattle.norm_send_rules.specs.Wants.{want_before}
 use Rattle.norm_recovery.specs.Left.{has, will_have, in_window, left}
 use Rattle.norm_recovery.specs.LeftHeard.{brings}
+use Rattle.norm_recovery.specs.Asking.{asks, all_have, have_wanted, with_closed}
 use Rattle.norm_safety.specs.Said.{first_index}
 use Rattle.norm_ext.specs.Message.{Message, Info, Data}
 use Rattle.norm_ext.specs.Written.{Written}
@@ -51,6 +52,11 @@ EARLY = 'tail-05'
 LATER = 'tail-04'
 # in this one something is enqueued while a watermark is open, which does not ask for that
 FURTHER = 'tail-07'
+
+
+# Wrong statements of closings, each refused by this tail: that a closing helps though what is wanted is on its way, that it adds only what every
+# member has, and that it helps whatever its round asks for. And in this tail a round asks for what a member lacks, if every member has all wanted.
+CLOSINGS = {'helps_anyway': 'tail-13', 'keeps_always': 'tail-01', 'helps_asked': 'tail-13', 'never_helps': 'tail-01'}
 
 
 class Recovery(evaluating.Workspace):
@@ -133,6 +139,7 @@ def look(space, runs):
     wrong = {'%s, %s' % (name, w): (run, test % run['last'] if '%' in test else test) for name, run in runs for w, test in WRONG.items()}
     members = {'%s, members' % name: (run, 'members_keep') for name, run in runs if run['lawful']}
     astray = {'%s, %s' % (name, ASTRAY[name]): (run, ASTRAY[name]) for name, run in runs if name in ASTRAY}
+    closings = {'%s, %s' % (name, w): (run, w) for name, run in runs for w, tail in CLOSINGS.items() if name == tail}
     late = [late_case('%s, takes after ticks' % name, run) for name, run in sorted(runs, key=lambda r: len(r[1]['before'] + r[1]['tail']))
             if run['lawful'] and takes_late(run['tail']) != run['tail']][:1]
     far = ('32,769 objects', '', 'is_near most_objects 0 ≡ true')
@@ -144,12 +151,12 @@ def look(space, runs):
     further = [marks_case('%s, marks of all' % name, run, 'marks_end_all') for name, run in runs if name == FURTHER]
     met = [flush_case('%s, a turn with a flush' % name, run, 'is_never_flushed') for name, run in runs if run['lawful'] and has_flush(run)]
     amiss += [early_case('%s, early' % name, run) for name, run in runs if name == EARLY]
-    said = space.evaluate([*(case(name, *of) for name, of in [*whole.items(), *flushed.items(), *wrong.items(), *members.items(), *astray.items()]),
+    said = space.evaluate([*(case(name, *of) for name, of in [*whole.items(), *flushed.items(), *wrong.items(), *members.items(), *astray.items(), *closings.items()]),
                            *late, far, *counted, *amiss, *reached, *at_once, *marks, *further, *met])
     false = [name for name in [*whole, *members, *(name for name, _, _ in [*counted, *reached, *marks])] if said[name]]
     empty = [name for name in [*flushed, *(name for name, _, _ in met)] if not is_refused(said[name])]
     missed = [w for w in WRONG if not any(is_refused(said['%s, %s' % (name, w)]) for name, _ in runs)]
-    missed += [name for name in astray if not is_refused(said[name])] + [name for name, _, _ in [*late, far, *amiss, *at_once, *further] if not laws.is_refused(said[name])]
+    missed += [name for name in [*astray, *closings] if not is_refused(said[name])] + [name for name, _, _ in [*late, far, *amiss, *at_once, *further] if not laws.is_refused(said[name])]
     for name in false:
         print('%s: a law is false: %s' % (name, said[name][:1500]))
     for name in empty:

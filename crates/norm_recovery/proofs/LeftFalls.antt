@@ -154,13 +154,15 @@ back false true false true f g e = absurd (clash e)
 back false true c false f g e = absurd (clash (g refl))
 back false false c d f g e = refl
 
--- no more is left once a round was closed
-pub closing_lowers : (p : Settings) (round : Round) (w : World) → left p (record w { sender = round_closed p round w.sender }) ≤ left p w
-closing_lowers p round w =
-    more_pass (λ y. not (is_member want_before y wants) && not (all_will_have p (record w { sender = round_closed p round w.sender }) y))
-    (λ y. not (is_member want_before y w.sender.wants) && not (all_will_have p w y)) (in_window p w.sender)
-    (λ y e. back (is_member want_before y w.sender.wants) (all_will_have p w y) (is_member want_before y wants)
-    (all_will_have p (record w { sender = round_closed p round w.sender }) y) (among y) (will y) e)
+-- an info or a symbol counts as left
+abbrev pub is_left : Settings → World → Want → Bool
+is_left p w y = not (is_member want_before y w.sender.wants) && not (all_will_have p w y)
+
+-- what is left once a round was closed was left before
+pub was_left : (p : Settings) (round : Round) (w : World) (y : Want) → is_left p (record w { sender = round_closed p round w.sender }) y ≡ true → is_left p w y ≡ true
+was_left p round w y e =
+    back (is_member want_before y w.sender.wants) (all_will_have p w y) (is_member want_before y wants)
+    (all_will_have p (record w { sender = round_closed p round w.sender }) y) (among y) (will y) e
   where
     wants : List Want
     wants = wants_after p w.sender round.asked
@@ -175,3 +177,8 @@ closing_lowers p round w =
         (λ r f. either (not (has_member r.node w.sender)) (will_have p w.sender r y) (not (has_member r.node w.sender))
         (will_have p (round_closed p round w.sender) r y) (λ g. g)
         (had_among w.sender.wants (wants_after p w.sender round.asked) p w.sender (held_for w.sender r) y among) f) e
+
+-- no more is left once a round was closed
+pub closing_lowers : (p : Settings) (round : Round) (w : World) → left p (record w { sender = round_closed p round w.sender }) ≤ left p w
+closing_lowers p round w =
+    more_pass (is_left p (record w { sender = round_closed p round w.sender })) (is_left p w) (in_window p w.sender) (was_left p round w)

@@ -9,6 +9,11 @@ pub mod RunsOutTurns
 pub mod RunsOutTail
 pub mod FlushGoes
 pub mod FlushHeard
+pub mod ClosingLists
+pub mod ClosingHad
+pub mod ClosingFresh
+pub mod ClosingRepairs
+pub mod ClosingHelps
 pub mod TailWalk
 pub mod TailCourses
 pub mod KeepsSender

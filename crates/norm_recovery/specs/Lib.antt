@@ -12,6 +12,7 @@ pub mod MarksEnd
 pub mod FlushConfirmed
 pub mod FlushNeeds
 pub mod Left
+pub mod Asking
 pub mod FlushLacks
 pub mod FlushReaches
 pub mod LeftHeard

@@ -1,5 +1,6 @@
 //! Laws of bounded recovery. Each law is the contract of a function that does nothing. Begin with [`tail_is_lawful`].
 
+ghost use Rattle.norm_recovery.specs.Asking.{ClosingsHelp};
 ghost use Rattle.norm_recovery.specs.Flush.{FlushHeard};
 ghost use Rattle.norm_recovery.specs.FlushListed.{FlushListed};
 ghost use Rattle.norm_recovery.specs.FlushNeeds.{FlushNeeds};
@@ -84,6 +85,12 @@ pub fn flush_needs()
 #[tactic(auto, using(crate::proofs::LeftCounts::left_tells))]
 pub fn left_tells()
     ensures { LeftTells }
+{}
+
+/// Let every member have everything that is wanted. If a round asks for something of the window that a member lacks, by name or by a count, its
+/// closing leaves less, adds a want, and sets the count of flushes to 0. If a closing leaves no less, every member has also all that it adds.
+pub fn closings_help()
+    ensures { ClosingsHelp }
 {}
 
 /// With the position of an open watermark a part of the order ends: it is the last source symbol of data or a file, or a closed segment of a
