@@ -14,6 +14,7 @@ pub mod ClosingHad
 pub mod ClosingFresh
 pub mod ClosingRepairs
 pub mod ClosingHelps
+pub mod RoundAsks
 pub mod TailWalk
 pub mod TailCourses
 pub mod KeepsSender

@@ -13,6 +13,7 @@ pub mod FlushConfirmed
 pub mod FlushNeeds
 pub mod Left
 pub mod Asking
+pub mod RoundAsks
 pub mod FlushLacks
 pub mod FlushReaches
 pub mod LeftHeard

@@ -10,6 +10,7 @@ ghost use Rattle.norm_recovery.specs.LeftHeard.{LeftHeard};
 ghost use Rattle.norm_recovery.specs.MarksEnd.{MarksEnd};
 ghost use Rattle.norm_recovery.specs.MembersEnter.{MembersEnter};
 ghost use Rattle.norm_recovery.specs.MembersStand.{MembersStand};
+ghost use Rattle.norm_recovery.specs.RoundAsks.{RoundAsks};
 ghost use Rattle.norm_recovery.specs.RunsOut.{RunsOutLaws, TailRunsOut};
 ghost use Rattle.norm_recovery.specs.TailKeeps.{TailKeeps};
 ghost use Rattle.norm_recovery.specs.TailLawful.{TailIsLawful};
@@ -91,6 +92,12 @@ pub fn left_tells()
 /// closing leaves less, adds a want, and sets the count of flushes to 0. If a closing leaves no less, every member has also all that it adds.
 pub fn closings_help()
     ensures { ClosingsHelp }
+{}
+
+/// If requests, as the sender reads them, ask for all of a need, the round that they join asks for each info and closed source symbol of the window that
+/// is of that need. What a round asks for it goes on to ask for, whatever joins it.
+pub fn round_asks()
+    ensures { RoundAsks }
 {}
 
 /// With the position of an open watermark a part of the order ends: it is the last source symbol of data or a file, or a closed segment of a
