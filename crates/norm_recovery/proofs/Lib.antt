@@ -22,6 +22,7 @@ pub mod MembersOwn
 pub mod MembersEnter
 pub mod FlushKnown
 pub mod MarksEnd
+pub mod PassTurn
 pub mod FlushTurn
 pub mod FlushListed
 pub mod FlushOwed
@@ -35,3 +36,6 @@ pub mod LeftHeard
 pub mod LeftComes
 pub mod LeftFalls
 pub mod LeftTick
+pub mod LeftSent
+pub mod LeftTurn
+pub mod LeftNever

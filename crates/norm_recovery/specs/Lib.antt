@@ -15,3 +15,4 @@ pub mod Left
 pub mod FlushLacks
 pub mod FlushReaches
 pub mod LeftHeard
+pub mod LeftNeverRises

@@ -6,6 +6,7 @@ ghost use Rattle.norm_recovery.specs.FlushNeeds.{FlushNeeds};
 ghost use Rattle.norm_recovery.specs.FlushReaches.{FlushReaches};
 ghost use Rattle.norm_recovery.specs.Left.{LeftTells};
 ghost use Rattle.norm_recovery.specs.LeftHeard.{LeftHeard};
+ghost use Rattle.norm_recovery.specs.LeftNeverRises.{LeftNeverRises};
 ghost use Rattle.norm_recovery.specs.MarksEnd.{MarksEnd};
 ghost use Rattle.norm_recovery.specs.MembersEnter.{MembersEnter};
 ghost use Rattle.norm_recovery.specs.MembersStand.{MembersStand};
@@ -97,6 +98,12 @@ pub fn marks_end()
 /// of the current instance, and come after a lawful run of few objects.
 pub fn left_heard()
     ensures { LeftHeard }
+{}
+
+/// Over a turn no more is left: in `hold` mode, with no stream in the window, after a run that may go on, and whatever the draws. A closing only adds
+/// wants; what the sender's tick sends is heard by every member in that turn; and what a member has stays.
+pub fn left_never_rises()
+    ensures { LeftNeverRises }
 {}
 
 /// A flush reaches every member. If nothing is to be sent, two round trips have passed since the last flush and fewer than 20 were counted, a due
