@@ -39,3 +39,4 @@ pub mod LeftTick
 pub mod LeftSent
 pub mod LeftTurn
 pub mod LeftNever
+pub mod NeedsRead

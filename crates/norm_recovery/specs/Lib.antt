@@ -16,3 +16,4 @@ pub mod FlushLacks
 pub mod FlushReaches
 pub mod LeftHeard
 pub mod LeftNeverRises
+pub mod NeedsRead

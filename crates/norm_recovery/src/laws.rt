@@ -10,6 +10,7 @@ ghost use Rattle.norm_recovery.specs.LeftNeverRises.{LeftNeverRises};
 ghost use Rattle.norm_recovery.specs.MarksEnd.{MarksEnd};
 ghost use Rattle.norm_recovery.specs.MembersEnter.{MembersEnter};
 ghost use Rattle.norm_recovery.specs.MembersStand.{MembersStand};
+ghost use Rattle.norm_recovery.specs.NeedsRead.{NeedsAreRead};
 ghost use Rattle.norm_recovery.specs.RunsOut.{RunsOutLaws, TailRunsOut};
 ghost use Rattle.norm_recovery.specs.TailKeeps.{TailKeeps};
 ghost use Rattle.norm_recovery.specs.TailLawful.{TailIsLawful};
@@ -104,6 +105,12 @@ pub fn left_heard()
 /// wants; what the sender's tick sends is heard by every member in that turn; and what a member has stays.
 pub fn left_never_rises()
     ensures { LeftNeverRises }
+{}
+
+/// The requests of a NACK ask for all of each need that they were written for, as whoever takes them to whom its index is near: for an unknown object,
+/// for an info, for so many symbols of a block, and in a stream for a source symbol and for the rest.
+pub fn needs_are_read()
+    ensures { NeedsAreRead }
 {}
 
 /// A flush reaches every member. If nothing is to be sent, two round trips have passed since the last flush and fewer than 20 were counted, a due
