@@ -109,14 +109,14 @@ still_member q [] set e = e
 still_member q (x ∷ more) set e = still_member q more (with_member want_before x set) (joined_still q x set e)
 
 -- these wants are among those
-abbrev Among : List Want → List Want → Type 0
+abbrev pub Among : List Want → List Want → Type 0
 Among wants more = (q : Want) → is_member want_before q wants ≡ true → is_member want_before q more ≡ true
 
-there_among : (wants more : List Want) (h : Holding) (at : Position) → Among wants more → is_there wants h at ≡ true → is_there more h at ≡ true
+pub there_among : (wants more : List Want) (h : Holding) (at : Position) → Among wants more → is_there wants h at ≡ true → is_there more h at ≡ true
 there_among wants more h at among e =
     either (holds h at) (is_member want_before (Symbol at) wants) (holds h at) (is_member want_before (Symbol at) more) (λ f. f) (among (Symbol at)) e
 
-complete_among : (wants more : List Want) (h : Holding) (index block : ℕ) (found : Option Shape) → Among wants more → is_complete wants h index block found ≡ true
+pub complete_among : (wants more : List Want) (h : Holding) (index block : ℕ) (found : Option Shape) → Among wants more → is_complete wants h index block found ≡ true
     → is_complete more h index block found ≡ true
 complete_among wants more h index block None among e = e
 complete_among wants more h index block (Some shape) among e =

@@ -28,6 +28,7 @@ pub mod MembersOwn
 pub mod MembersEnter
 pub mod FlushKnown
 pub mod MarksEnd
+pub mod PassTurn
 pub mod FlushTurn
 pub mod FlushListed
 pub mod FlushOwed
@@ -41,3 +42,7 @@ pub mod LeftHeard
 pub mod LeftComes
 pub mod LeftFalls
 pub mod LeftTick
+pub mod LeftSent
+pub mod LeftTurn
+pub mod LeftNever
+pub mod NeedsRead

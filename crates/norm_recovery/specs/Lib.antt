@@ -17,3 +17,5 @@ pub mod RoundAsks
 pub mod FlushLacks
 pub mod FlushReaches
 pub mod LeftHeard
+pub mod LeftNeverRises
+pub mod NeedsRead

@@ -7,9 +7,11 @@ ghost use Rattle.norm_recovery.specs.FlushNeeds.{FlushNeeds};
 ghost use Rattle.norm_recovery.specs.FlushReaches.{FlushReaches};
 ghost use Rattle.norm_recovery.specs.Left.{LeftTells};
 ghost use Rattle.norm_recovery.specs.LeftHeard.{LeftHeard};
+ghost use Rattle.norm_recovery.specs.LeftNeverRises.{LeftNeverRises};
 ghost use Rattle.norm_recovery.specs.MarksEnd.{MarksEnd};
 ghost use Rattle.norm_recovery.specs.MembersEnter.{MembersEnter};
 ghost use Rattle.norm_recovery.specs.MembersStand.{MembersStand};
+ghost use Rattle.norm_recovery.specs.NeedsRead.{NeedsAreRead};
 ghost use Rattle.norm_recovery.specs.RoundAsks.{RoundAsks};
 ghost use Rattle.norm_recovery.specs.RunsOut.{RunsOutLaws, TailRunsOut};
 ghost use Rattle.norm_recovery.specs.TailKeeps.{TailKeeps};
@@ -111,6 +113,18 @@ pub fn marks_end()
 /// of the current instance, and come after a lawful run of few objects.
 pub fn left_heard()
     ensures { LeftHeard }
+{}
+
+/// Over a turn no more is left: in `hold` mode, with no stream in the window, after a run that may go on, and whatever the draws. A closing only adds
+/// wants; what the sender's tick sends is heard by every member in that turn; and what a member has stays.
+pub fn left_never_rises()
+    ensures { LeftNeverRises }
+{}
+
+/// The requests of a NACK ask for all of each need that they were written for, as whoever takes them to whom its index is near: for an unknown object,
+/// for an info, for so many symbols of a block, and in a stream for a source symbol and for the rest.
+pub fn needs_are_read()
+    ensures { NeedsAreRead }
 {}
 
 /// A flush reaches every member. If nothing is to be sent, two round trips have passed since the last flush and fewer than 20 were counted, a due
