@@ -28,6 +28,17 @@ use Rattle.norm_send_rules.specs.Wants.{want_before}
 use Rattle.norm_recovery.specs.Left.{has, will_have, in_window, left}
 use Rattle.norm_recovery.specs.LeftHeard.{brings}
 use Rattle.norm_recovery.specs.Asking.{asks, all_have, have_wanted, with_closed}
+use Rattle.norm_recovery.specs.RoundAsks.{asks_open}
+use Rattle.fec_plan.specs.Points.{same_point}
+use Rattle.norm_order.specs.Shapes.{is_source, has_info}
+use Rattle.norm_ext.specs.declared.refusal.Refusal.{Refusal}
+use Rattle.norm_receive_rules.specs.AllNeeds.{needs}
+use Rattle.norm_receive_rules.specs.HeardNeeds.{width_of}
+use Rattle.norm_receive_rules.specs.Holding.{Holding}
+use Rattle.norm_receive_rules.specs.Nack.{fitting}
+use Rattle.norm_receive_rules.specs.Needs.{Need}
+use Rattle.norm_receive_rules.specs.Needs as need
+use Rattle.norm_send_rules.specs.Hearing.{nack_counts}
 use Rattle.norm_safety.specs.Said.{first_index}
 use Rattle.norm_ext.specs.Message.{Message, Info, Data}
 use Rattle.norm_ext.specs.Written.{Written}

@@ -36,7 +36,7 @@ pub or_true : (a b : Bool) → (a || b) ≡ true → (a ≡ true) ⊎ (b ≡ tru
 or_true true b e = inl refl
 or_true false b e = inr e
 
-both_false : (a b : Bool) → a ≡ false → b ≡ false → (a || b) ≡ false
+pub both_false : (a b : Bool) → a ≡ false → b ≡ false → (a || b) ≡ false
 both_false true b e f = absurd (clash (sym e))
 both_false false b e f = f
 

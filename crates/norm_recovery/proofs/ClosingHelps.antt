@@ -99,7 +99,7 @@ of_window p s y h =
         ap (λ (n : ℕ). at_index (current_shapes p s) n false (λ x. nat_lt at.symbol (encoded_in x at.block))) (let z : at.index ≡ behind = omega (arith, same) in z) ∙ is
 
 -- and whatever is and stands so it has
-within : (p : Settings) (s : SenderState) → InRange p → (y : Want) → is_of_order (current_shapes p s) y ≡ true → stands_behind s.current.drop y ≡ true
+pub within : (p : Settings) (s : SenderState) → InRange p → (y : Want) → is_of_order (current_shapes p s) y ≡ true → stands_behind s.current.drop y ≡ true
     → In y (in_window p s)
 within p s range y of behind =
     in_kept (stands_behind s.current.drop) y all behind

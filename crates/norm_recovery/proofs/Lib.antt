@@ -15,6 +15,8 @@ pub mod ClosingFresh
 pub mod ClosingRepairs
 pub mod ClosingHelps
 pub mod RoundAsks
+pub mod NeedHeld
+pub mod NeedLacks
 pub mod TailWalk
 pub mod TailCourses
 pub mod KeepsSender

@@ -177,10 +177,13 @@ module _ (p : Settings) (range : InRange p) (s : SenderState) (reach : IsReached
       let S : Named → Type 0 = λ x. In found.0 (asked_counts x) in
       let L : List Count → Type 0 = λ cs. In found.0 cs in
       let kept = in_kept (λ (c : Count). is_kept shapes s.current.drop c.of) found.0 (asked_counts (read q.0))
-      (ap (is_kept shapes s.current.drop) (points_same (found.0).of (point_of at) parts.0) ∙ here) (subst S q.2 n.2) in
-      (q.0, q.1, right_is (names shapes (want.Symbol at) (asked_now p s q.0)) (counts shapes (want.Symbol at) (asked_now p s q.0))
-      (any_in (λ (c : Count). same_point c.of (point_of at) && nat_lt 0 c.lacking) found.0 (counts_of shapes (asked_now p s q.0)) (subst L (sym (counts_now q.0)) kept)
-      (and_is (same_point (found.0).of (point_of at)) (nat_lt 0 (found.0).lacking) parts.0 (more wanted (found.0).lacking some parts.1))))
+      (ap (is_kept shapes s.current.drop) (points_same (found.0).of (point_of at) parts.0) ∙ here) (subst S q.2 n.2) in (
+        q.0,
+        q.1,
+        right_is (names shapes (want.Symbol at) (asked_now p s q.0)) (counts shapes (want.Symbol at) (asked_now p s q.0))
+            (any_in (λ (c : Count). same_point c.of (point_of at) && nat_lt 0 c.lacking) found.0 (counts_of shapes (asked_now p s q.0)) (subst L (sym (counts_now q.0)) kept)
+            (and_is (same_point (found.0).of (point_of at)) (nat_lt 0 (found.0).lacking) parts.0 (more wanted (found.0).lacking some parts.1))),
+      )
     where
       more : (a b : ℕ) → 0 < a → nat_le a b ≡ true → nat_lt 0 b ≡ true
       more a b lt e = go (leb_tells a b)

@@ -14,6 +14,7 @@ pub mod FlushNeeds
 pub mod Left
 pub mod Asking
 pub mod RoundAsks
+pub mod NeedLacks
 pub mod FlushLacks
 pub mod FlushReaches
 pub mod LeftHeard

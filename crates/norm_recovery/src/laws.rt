@@ -12,6 +12,7 @@ ghost use Rattle.norm_recovery.specs.MarksEnd.{MarksEnd};
 ghost use Rattle.norm_recovery.specs.MembersEnter.{MembersEnter};
 ghost use Rattle.norm_recovery.specs.MembersStand.{MembersStand};
 ghost use Rattle.norm_recovery.specs.NeedsRead.{NeedsAreRead};
+ghost use Rattle.norm_recovery.specs.NeedLacks.{NeedLacks};
 ghost use Rattle.norm_recovery.specs.RoundAsks.{RoundAsks};
 ghost use Rattle.norm_recovery.specs.RunsOut.{RunsOutLaws, TailRunsOut};
 ghost use Rattle.norm_recovery.specs.TailKeeps.{TailKeeps};
@@ -94,6 +95,12 @@ pub fn left_tells()
 /// closing leaves less, adds a want, and sets the count of flushes to 0. If a closing leaves no less, every member has also all that it adds.
 pub fn closings_help()
     ensures { ClosingsHelp }
+{}
+
+/// What a member needs it lacks. In `hold` mode, with no stream in the window, after a lawful run: of each need of a member that is in the current
+/// instance there is an info or a closed source symbol of the window that it does not have.
+pub fn need_lacks()
+    ensures { NeedLacks }
 {}
 
 /// If requests, as the sender reads them, ask for all of a need, the round that they join asks for each info and closed source symbol of the window that
