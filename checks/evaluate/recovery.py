@@ -27,6 +27,18 @@ use Rattle.norm_safety.specs.World.{is_of}
 use Rattle.norm_send_rules.specs.Wants.{want_before}
 use Rattle.norm_recovery.specs.Left.{has, will_have, in_window, left}
 use Rattle.norm_recovery.specs.LeftHeard.{brings}
+use Rattle.norm_recovery.specs.Asking.{asks, all_have, have_wanted, with_closed}
+use Rattle.norm_recovery.specs.RoundAsks.{asks_open}
+use Rattle.fec_plan.specs.Points.{same_point}
+use Rattle.norm_order.specs.Shapes.{is_source, has_info}
+use Rattle.norm_ext.specs.declared.refusal.Refusal.{Refusal}
+use Rattle.norm_receive_rules.specs.AllNeeds.{needs}
+use Rattle.norm_receive_rules.specs.HeardNeeds.{width_of}
+use Rattle.norm_receive_rules.specs.Holding.{Holding}
+use Rattle.norm_receive_rules.specs.Nack.{fitting}
+use Rattle.norm_receive_rules.specs.Needs.{Need}
+use Rattle.norm_receive_rules.specs.Needs as need
+use Rattle.norm_send_rules.specs.Hearing.{nack_counts}
 use Rattle.norm_safety.specs.Said.{first_index}
 use Rattle.norm_ext.specs.Message.{Message, Info, Data}
 use Rattle.norm_ext.specs.Written.{Written}
@@ -47,10 +59,17 @@ ASTRAY = {'tail-13': 'all_stand', 'tail-16': 'members_stand', 'tail-19': 'was_th
 COUNTS = {'left_of_all': 'tail-13', 'left_with_wanted': 'tail-05', 'left_now': 'tail-05', 'left_elsewhere': 'tail-19'}
 # and in this one it rises, if it is counted before the sender's datagram was delivered
 EARLY = 'tail-05'
+# in this one it falls
+FALLS = 'tail-13'
 # in this one not every member that a flush asks has handed up everything: not all of them are listed at once
 LATER = 'tail-04'
 # in this one something is enqueued while a watermark is open, which does not ask for that
 FURTHER = 'tail-07'
+
+
+# Wrong statements of closings, each refused by this tail: that a closing helps though what is wanted is on its way, that it adds only what every
+# member has, and that it helps whatever its round asks for. And in this tail a round asks for what a member lacks, if every member has all wanted.
+CLOSINGS = {'helps_anyway': 'tail-13', 'keeps_always': 'tail-01', 'helps_asked': 'tail-13', 'never_helps': 'tail-01'}
 
 
 class Recovery(evaluating.Workspace):
@@ -103,6 +122,18 @@ def left_case(name, run, count):
     return name, declared, 'take %d (%s) ≡ %s' % (len(run['left']), counted, terms.nums(run['left']))
 
 
+def turns_case(name, run, test):
+    """The test is true of the whole turns of the tail."""
+    p, declared, before, tail = tail_of(name, run)
+    return name, declared, '%s %d %s (run_from %s (world_opening %s) %s) %s ≡ true' % (test, len(run['left']), p, p, p, before, tail)
+
+
+def premise_case(name, run):
+    """What is left may rise in the tail."""
+    p, declared, before, _ = tail_of(name, run)
+    return name, declared, 'may_not_rise %s (run_from %s (world_opening %s) %s) ≡ false' % (p, p, p, before)
+
+
 def early_case(name, run):
     """What is left does not rise, counted also between the sender's tick and the delivery of what it gave."""
     p, declared, before, tail = tail_of(name, run)
@@ -133,27 +164,32 @@ def look(space, runs):
     wrong = {'%s, %s' % (name, w): (run, test % run['last'] if '%' in test else test) for name, run in runs for w, test in WRONG.items()}
     members = {'%s, members' % name: (run, 'members_keep') for name, run in runs if run['lawful']}
     astray = {'%s, %s' % (name, ASTRAY[name]): (run, ASTRAY[name]) for name, run in runs if name in ASTRAY}
+    closings = {'%s, %s' % (name, w): (run, w) for name, run in runs for w, tail in CLOSINGS.items() if name == tail}
     late = [late_case('%s, takes after ticks' % name, run) for name, run in sorted(runs, key=lambda r: len(r[1]['before'] + r[1]['tail']))
             if run['lawful'] and takes_late(run['tail']) != run['tail']][:1]
     far = ('32,769 objects', '', 'is_near most_objects 0 ≡ true')
     counted = [left_case('%s, left' % name, run, 'left') for name, run in runs if run['lawful']]
     amiss = [left_case('%s, %s' % (name, count), run, count) for count, tail in COUNTS.items() for name, run in runs if name == tail]
+    turns = [turns_case('%s, never rises' % name, run, 'never_rises') for name, run in runs if run['lawful']]
+    amiss += [turns_case('%s, never changes' % name, run, 'never_changes') for name, run in runs if name == FALLS]
+    premises = [premise_case('%s, a turn after which no more is left' % name, run) for name, run in runs if run['lawful']]
     reached = [flush_case('%s, reached' % name, run, 'is_reached_by_flush') for name, run in runs if run['lawful']]
     at_once = [flush_case('%s, listed at once' % name, run, 'is_listed_at_once') for name, run in runs if name == LATER]
     marks = [marks_case('%s, marks' % name, run, 'marks_end') for name, run in runs if run['lawful']]
     further = [marks_case('%s, marks of all' % name, run, 'marks_end_all') for name, run in runs if name == FURTHER]
     met = [flush_case('%s, a turn with a flush' % name, run, 'is_never_flushed') for name, run in runs if run['lawful'] and has_flush(run)]
     amiss += [early_case('%s, early' % name, run) for name, run in runs if name == EARLY]
-    said = space.evaluate([*(case(name, *of) for name, of in [*whole.items(), *flushed.items(), *wrong.items(), *members.items(), *astray.items()]),
-                           *late, far, *counted, *amiss, *reached, *at_once, *marks, *further, *met])
-    false = [name for name in [*whole, *members, *(name for name, _, _ in [*counted, *reached, *marks])] if said[name]]
+    said = space.evaluate([*(case(name, *of) for name, of in [*whole.items(), *flushed.items(), *wrong.items(), *members.items(), *astray.items(), *closings.items()]),
+                           *late, far, *counted, *turns, *premises, *amiss, *reached, *at_once, *marks, *further, *met])
+    false = [name for name in [*whole, *members, *(name for name, _, _ in [*counted, *turns, *reached, *marks])] if said[name]]
     empty = [name for name in [*flushed, *(name for name, _, _ in met)] if not is_refused(said[name])]
+    empty += [name for name, _, _ in premises if not laws.is_refused(said[name])]
     missed = [w for w in WRONG if not any(is_refused(said['%s, %s' % (name, w)]) for name, _ in runs)]
-    missed += [name for name in astray if not is_refused(said[name])] + [name for name, _, _ in [*late, far, *amiss, *at_once, *further] if not laws.is_refused(said[name])]
+    missed += [name for name in [*astray, *closings] if not is_refused(said[name])] + [name for name, _, _ in [*late, far, *amiss, *at_once, *further] if not laws.is_refused(said[name])]
     for name in false:
         print('%s: a law is false: %s' % (name, said[name][:1500]))
     for name in empty:
-        print('%s: no tick has to flush' % name)
+        print('%s: its premises are false' % name)
     for w in missed:
         print('%s: no tail refuses it' % w)
     return 'laws of recovery along %d tails' % len(runs), len(false + empty + missed)

@@ -51,11 +51,12 @@ use Rattle.norm_recovery.specs.TailOf.{ComesInTail}
 use Rattle.norm_recovery.proofs.FlushKnown.{after_run, flush_of, flush_command, FlushSays, flush_says, HearsIt, hears_it}
 use Rattle.norm_recovery.proofs.FlushListed.{flush_listed}
 use Rattle.norm_recovery.proofs.FlushOwed.{handed_there, owes_flush, Says, says_due, ack_reads, member_asked, ack_is_counted, names_due}
-use Rattle.norm_recovery.proofs.FlushTurn.{stays_in, same_id, Waits, calm_then, comes_lawfully, is_other, is_there, flush_passed}
+use Rattle.norm_recovery.proofs.FlushTurn.{gives_flush}
 use Rattle.norm_recovery.proofs.KeepsSender.{quiet_run_stays}
 use Rattle.norm_recovery.proofs.LawfulTail.{goes_on}
 use Rattle.norm_recovery.proofs.MarksEnd.{oldest_ends, marks_end}
 use Rattle.norm_recovery.proofs.MembersTail.{last_is_run}
+use Rattle.norm_recovery.proofs.PassTurn.{stays_in, same_id, Waits, calm_then, comes_lawfully, is_other, passed}
 use Rattle.norm_recovery.proofs.TailCourses.{IsCalm, comes_calm, draw_calm}
 use Rattle.norm_recovery.proofs.TailWalk.{HasOffered, Gift, no_receiver, all_are_taken, given_may_come, given_offered, offered_may_come, others_differ, copy_offered, copies_keep, tells_keep, all_served}
 
@@ -148,7 +149,7 @@ module _ (p : Settings) (range : InRange p) (events : List Event) (may : MayGoOn
 
       same_instance : (own : ReceiverEvent) → receiver_at (world_step p c.world e).0 node ≡ Some (receiver_step p h.r own).0
           → (receiver_step p h.r own).0.instance ≡ h.r.instance
-      same_instance own found = stays_in p range events may node other at (comes p e c) calm h.r (receiver_step p h.r own).0 own found refl h.inside
+      same_instance own found = stays_in p range events may node other (comes p e c) calm h.r (receiver_step p h.r own).0 own found refl h.inside
 
       by_node : (to : ℕ) (own : ReceiverEvent) → to_receiver e ≡ Some (to, own) → ((to == p.sender) ≡ false → is_senders p e ≡ false)
           → ((to == node) ≡ false → receiver_at (world_step p c.world e).0 node ≡ receiver_at c.world node)
@@ -242,7 +243,7 @@ module _ (p : Settings) (range : InRange p) (events : List Event) (may : MayGoOn
         let k = after_run p range (events ++ events_of c) on.again.lawful on.again.jobs in
         let there : receiver_at (run p (events ++ events_of c)) node ≡ Some h.r = ap (λ (v : World). receiver_at v node) on.leads ∙ h.found in
         let inside : h.r.instance ≡ Some (run p (events ++ events_of c)).sender.current.id =
-        h.inside ∙ ap (λ (n : ℕ). Some n) (sym (same_id p range events may node other at c h.calm)) in
+        h.inside ∙ ap (λ (n : ℕ). Some n) (sym (same_id p range events may node other c h.calm)) in
         let reads = ack_reads p range k.past k.accepted (run p (events ++ events_of c)) k.holds node h.r there inside due is in
         let stays = same_sender o calm in
         let was = same_sender c h.calm in
@@ -385,7 +386,7 @@ is_listed : (p : Settings) → InRange p → (events : List Event) → MayGoOn p
 is_listed p range events may draws now wm flush node r asked handed =
     (all_served_list p range events may node other wm.at asked draws now (receivers_of p p.receivers) there
     (passes_on p draws now (sender_ticks p now (course_from (run p events))) p.sender)
-    (flush_passed p range events may draws now wm flush node other r found (is_there p (run p events) (world_laws.nodes p events) node other r found) K hears
+    (passed p range events may draws now (flush_of p (run p events).sender wm) (gives_flush p (run p events).sender now wm flush) node other r found K hears
     (copies_spare p draws node K (owed_on p range events may node other wm.at) (owed_drawn p range events may node other wm.at) now p.sender octets))).listed
   where
     octets : List ℕ
@@ -406,14 +407,14 @@ is_listed p range events may draws now wm flush node r asked handed =
     says : FlushSays p (run p events).sender (flush_of p (run p events).sender wm).octets (flush_command p (run p events).sender wm) wm.at
     says = flush_says p range events may now wm flush
 
-    hears : (c : Course) → Waits p range events may node other wm.at (flush_of p (run p events).sender wm).octets r c
+    hears : (c : Course) → Waits p range events may node other (flush_of p (run p events).sender wm) r c
         → Owed p range events may node other wm.at (comes p (Delivered node (flush_of p (run p events).sender wm).octets now (draws c.used)) (record c { used = c.used + 1 }))
     hears c h = record {
       calm = calm;
       r = received p r octets now (draws c.used);
       found = moved_is;
       owed = owes_flush p range events may wm node r asked handed octets now (draws c.used) says.read it;
-      inside = stays_in p range events may node other wm.at next calm r (received p r octets now (draws c.used)) (receiver.Delivered octets now (draws c.used)) moved_is refl handed.inside
+      inside = stays_in p range events may node other next calm r (received p r octets now (draws c.used)) (receiver.Delivered octets now (draws c.used)) moved_is refl handed.inside
           ∙ handed.inside;
     }
       where
@@ -421,7 +422,7 @@ is_listed p range events may draws now wm flush node r asked handed =
         next = comes p (Delivered node (flush_of p (run p events).sender wm).octets now (draws c.used)) (record c { used = c.used + 1 })
 
         calm : IsCalm p (run p events) (comes p (Delivered node (flush_of p (run p events).sender wm).octets now (draws c.used)) (record c { used = c.used + 1 }))
-        calm = calm_then p range events may node other wm.at octets (flush_command p (run p events).sender wm) says draws now r c h
+        calm = calm_then p range events may node other (flush_of p (run p events).sender wm) draws now r c h
 
         to_is : (os : List ℕ) (n draw : ℕ) → to_receiver (Delivered node os n draw) ≡ Some (node, receiver.Delivered os n draw)
         to_is os n draw = refl
@@ -436,8 +437,8 @@ is_listed p range events may draws now wm flush node r asked handed =
         it : HearsIt p r (flush_command p (run p events).sender wm) wm.at
         it = hears_it p range (events ++ events_of c) on.again.lawful on.again.jobs on.again.few node other r
             (ap (λ (v : World). receiver_at v node) on.leads ∙ h.found) octets (flush_command p (run p events).sender wm) wm.at says.read
-            (sym (same_id p range events may node other wm.at c h.calm)) refl says.small
-            (comes_lawfully p range events may node other wm.at octets (flush_command p (run p events).sender wm) says draws now r c h)
+            (sym (same_id p range events may node other c h.calm)) refl says.small
+            (comes_lawfully p range events may node other (flush_of p (run p events).sender wm) draws now r c h)
 
 pub flush_confirmed : FlushConfirmed
 flush_confirmed p range events may draws now wm flush node r asked through =

@@ -46,11 +46,12 @@ use Rattle.norm_recovery.specs.TailKeeps.{Stays}
 use Rattle.norm_recovery.specs.TailLawful.{GoesOn}
 use Rattle.norm_recovery.proofs.FlushKnown.{after_run}
 use Rattle.norm_recovery.proofs.FlushNeeds.{flush_needs}
-use Rattle.norm_recovery.proofs.FlushTurn.{After, Still, Steps, Before, before, is_other, flush_comes}
+use Rattle.norm_recovery.proofs.FlushTurn.{flush_comes}
 use Rattle.norm_recovery.proofs.KeepsSender.{quiet_run_stays}
 use Rattle.norm_recovery.proofs.LawfulTail.{goes_on}
 use Rattle.norm_recovery.proofs.MarksEnd.{oldest_ends, marks_end}
 use Rattle.norm_recovery.proofs.MembersTail.{stands_in_run}
+use Rattle.norm_recovery.proofs.PassTurn.{After, Still, Steps, Before, before, is_other}
 use Rattle.norm_recovery.proofs.TailCourses.{IsCalm, comes_calm, begins_calm, draw_calm}
 use Rattle.norm_recovery.proofs.TailWalk.{turn_keeps}
 

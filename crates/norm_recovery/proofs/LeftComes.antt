@@ -67,9 +67,9 @@ use Rattle.norm_recovery.specs.MembersStand.{Stands}
 use Rattle.norm_recovery.specs.TailLawful.{MayGoOn}
 use Rattle.norm_recovery.proofs.FlushKnown.{HoldsIn, after_run, last_came, may_enter, near_by}
 use Rattle.norm_recovery.proofs.FlushLacks.{none_in_window}
-use Rattle.norm_recovery.proofs.FlushTurn.{After, Still, Steps, Before, before}
 use Rattle.norm_recovery.proofs.LeftHeard.{symbol_had, info_had}
 use Rattle.norm_recovery.proofs.MembersTail.{stands_in_run}
+use Rattle.norm_recovery.proofs.PassTurn.{After, Still, Steps, Before, before}
 use Rattle.norm_recovery.proofs.TailCourses.{run_joined}
 
 -- ---- the window fits along every run
@@ -148,7 +148,7 @@ holds_in_run p range events lawful are node r found inside =
           (current_order s k.holds.once.ids) stands;
     }
 
-inside_is : (r : ReceiverState) (id : ℕ) → r.instance ≡ Some id → is_in r id ≡ true
+pub inside_is : (r : ReceiverState) (id : ℕ) → r.instance ≡ Some id → is_in r id ≡ true
 inside_is r id e = ap (λ (o : Option ℕ). elim o as (λ _. Bool) [ Some current ↦ current == id | None ↦ false ]) e ∙ (Decides-eqb id id).1 refl
 
 -- two lists of small indices that an id was written for are the same

@@ -109,14 +109,14 @@ still_member q [] set e = e
 still_member q (x ∷ more) set e = still_member q more (with_member want_before x set) (joined_still q x set e)
 
 -- these wants are among those
-abbrev Among : List Want → List Want → Type 0
+abbrev pub Among : List Want → List Want → Type 0
 Among wants more = (q : Want) → is_member want_before q wants ≡ true → is_member want_before q more ≡ true
 
-there_among : (wants more : List Want) (h : Holding) (at : Position) → Among wants more → is_there wants h at ≡ true → is_there more h at ≡ true
+pub there_among : (wants more : List Want) (h : Holding) (at : Position) → Among wants more → is_there wants h at ≡ true → is_there more h at ≡ true
 there_among wants more h at among e =
     either (holds h at) (is_member want_before (Symbol at) wants) (holds h at) (is_member want_before (Symbol at) more) (λ f. f) (among (Symbol at)) e
 
-complete_among : (wants more : List Want) (h : Holding) (index block : ℕ) (found : Option Shape) → Among wants more → is_complete wants h index block found ≡ true
+pub complete_among : (wants more : List Want) (h : Holding) (index block : ℕ) (found : Option Shape) → Among wants more → is_complete wants h index block found ≡ true
     → is_complete more h index block found ≡ true
 complete_among wants more h index block None among e = e
 complete_among wants more h index block (Some shape) among e =
@@ -154,13 +154,15 @@ back false true false true f g e = absurd (clash e)
 back false true c false f g e = absurd (clash (g refl))
 back false false c d f g e = refl
 
--- no more is left once a round was closed
-pub closing_lowers : (p : Settings) (round : Round) (w : World) → left p (record w { sender = round_closed p round w.sender }) ≤ left p w
-closing_lowers p round w =
-    more_pass (λ y. not (is_member want_before y wants) && not (all_will_have p (record w { sender = round_closed p round w.sender }) y))
-    (λ y. not (is_member want_before y w.sender.wants) && not (all_will_have p w y)) (in_window p w.sender)
-    (λ y e. back (is_member want_before y w.sender.wants) (all_will_have p w y) (is_member want_before y wants)
-    (all_will_have p (record w { sender = round_closed p round w.sender }) y) (among y) (will y) e)
+-- an info or a symbol counts as left
+abbrev pub is_left : Settings → World → Want → Bool
+is_left p w y = not (is_member want_before y w.sender.wants) && not (all_will_have p w y)
+
+-- what is left once a round was closed was left before
+pub was_left : (p : Settings) (round : Round) (w : World) (y : Want) → is_left p (record w { sender = round_closed p round w.sender }) y ≡ true → is_left p w y ≡ true
+was_left p round w y e =
+    back (is_member want_before y w.sender.wants) (all_will_have p w y) (is_member want_before y wants)
+    (all_will_have p (record w { sender = round_closed p round w.sender }) y) (among y) (will y) e
   where
     wants : List Want
     wants = wants_after p w.sender round.asked
@@ -175,3 +177,8 @@ closing_lowers p round w =
         (λ r f. either (not (has_member r.node w.sender)) (will_have p w.sender r y) (not (has_member r.node w.sender))
         (will_have p (round_closed p round w.sender) r y) (λ g. g)
         (had_among w.sender.wants (wants_after p w.sender round.asked) p w.sender (held_for w.sender r) y among) f) e
+
+-- no more is left once a round was closed
+pub closing_lowers : (p : Settings) (round : Round) (w : World) → left p (record w { sender = round_closed p round w.sender }) ≤ left p w
+closing_lowers p round w =
+    more_pass (is_left p (record w { sender = round_closed p round w.sender })) (is_left p w) (in_window p w.sender) (was_left p round w)

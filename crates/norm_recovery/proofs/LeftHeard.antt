@@ -35,11 +35,11 @@ use Rattle.norm_laws.proofs.HeldLengths.{PlanIs, its_cut}
 use Rattle.norm_laws.proofs.HeldWords.{HasSymbol, HasInfo}
 use Rattle.norm_recovery.specs.Left.{is_there, is_complete, is_had}
 
-or_left : (a b : Bool) → a ≡ true → (a || b) ≡ true
+pub or_left : (a b : Bool) → a ≡ true → (a || b) ≡ true
 or_left true b e = refl
 or_left false b e = absurd (clash e)
 
-or_right : (a b : Bool) → b ≡ true → (a || b) ≡ true
+pub or_right : (a b : Bool) → b ≡ true → (a || b) ≡ true
 or_right true b e = refl
 or_right false b e = e
 

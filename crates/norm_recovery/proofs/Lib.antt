@@ -9,6 +9,14 @@ pub mod RunsOutTurns
 pub mod RunsOutTail
 pub mod FlushGoes
 pub mod FlushHeard
+pub mod ClosingLists
+pub mod ClosingHad
+pub mod ClosingFresh
+pub mod ClosingRepairs
+pub mod ClosingHelps
+pub mod RoundAsks
+pub mod NeedHeld
+pub mod NeedLacks
 pub mod TailWalk
 pub mod TailCourses
 pub mod KeepsSender
@@ -22,6 +30,7 @@ pub mod MembersOwn
 pub mod MembersEnter
 pub mod FlushKnown
 pub mod MarksEnd
+pub mod PassTurn
 pub mod FlushTurn
 pub mod FlushListed
 pub mod FlushOwed
@@ -35,3 +44,7 @@ pub mod LeftHeard
 pub mod LeftComes
 pub mod LeftFalls
 pub mod LeftTick
+pub mod LeftSent
+pub mod LeftTurn
+pub mod LeftNever
+pub mod NeedsRead

@@ -109,9 +109,9 @@ told_squelch s = go s.untold_nodes s.untold_marks
     go [] [] = refl
 
 -- the same is to be sent, in the same order, from the same moment on
-record Rests (s t : SenderState) : Type 0 where
-  current : t.current ≡ s.current
-  wants : t.wants ≡ s.wants
+pub record Rests (s t : SenderState) : Type 0 where
+  pub current : t.current ≡ s.current
+  pub wants : t.wants ≡ s.wants
   next : t.next ≡ s.next
   squelch : t.squelch_due ≡ s.squelch_due
   send : t.next_send ≡ s.next_send
@@ -148,7 +148,7 @@ same_to_send p s t h =
 same_window : (p : Settings) (s t : SenderState) → t.current ≡ s.current → repairable p t ≡ repairable p s
 same_window p s t e = ap (λ (i : Instance). repairable p (record t { current = i })) e
 
-quiet_rests : (p : Settings) (w : World) (e : Event) → Quiet p e → Rests w.sender (world_step p w e).0.sender
+pub quiet_rests : (p : Settings) (w : World) (e : Event) → Quiet p e → Rests w.sender (world_step p w e).0.sender
 quiet_rests p w e quiet = subst (Rests w.sender) (sym (sender_is p w e)) (after e quiet)
   where
     either : (b : Bool) (t : SenderState) → Rests w.sender t → Rests w.sender (elim b [ true ↦ t | false ↦ w.sender ])
@@ -305,7 +305,7 @@ closes p s now = go s.round refl
     go None e = CloseNone (ap (looked_at p now s) e)
     go (Some r) e = by r (nat_le r.closes now) e refl
 
-own_tick : (p : Settings) (w : World) (now : ℕ) → (world_step p w (Ticked p.sender now)).0.sender ≡ (ticked p w.sender now).0
+pub own_tick : (p : Settings) (w : World) (now : ℕ) → (world_step p w (Ticked p.sender now)).0.sender ≡ (ticked p w.sender now).0
 own_tick p w now =
     sender_is p w (Ticked p.sender now) ∙ ap (λ (b : Bool). if_own b (ticked p w.sender now).0 w.sender) ((Decides-eqb p.sender p.sender).1 refl)
 

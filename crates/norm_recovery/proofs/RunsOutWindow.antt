@@ -92,7 +92,7 @@ no_longer (w ∷ ws) xs rise sub =
 -- ---- an info or encoded symbol of the order is one of those that the window is counted by
 
 -- a block with an encoded symbol has a closed one
-some_closed : (s : Shape) (block : ℕ) → 0 < encoded_in s block → 0 < closed_in s block
+pub some_closed : (s : Shape) (block : ℕ) → 0 < encoded_in s block → 0 < closed_in s block
 some_closed s block lt = go (is_full s block) refl lt
   where
     none : (k m b : ℕ) → k ≡ 0 → k * m / b ≡ 0
@@ -107,11 +107,11 @@ some_closed s block lt = go (is_full s block) refl lt
     go false is less = less
 
 -- the object so many behind the first has this info or encoded symbol
-abbrev is_of_object : List Shape → ℕ → Want → Bool
+abbrev pub is_of_object : List Shape → ℕ → Want → Bool
 is_of_object shapes k (Info i) = at_index shapes k false (λ s. s.info)
 is_of_object shapes k (Symbol at) = at_index shapes k false (λ s. nat_lt at.symbol (encoded_in s at.block))
 
-encoded_get : (P : Want → Type 0) (p : Settings) → InRange p → (order : List Entry) (first k : ℕ) (w : Want) → want_index w ≡ first + k
+pub encoded_get : (P : Want → Type 0) (p : Settings) → InRange p → (order : List Entry) (first k : ℕ) (w : Want) → want_index w ≡ first + k
     → is_of_object (shapes_of p order) k w ≡ true → AllByRecursion P (encoded_from first (shapes_of p order)) → P w
 unfolding encoded_from
 encoded_get P p range [] first k (Info i) e is all = absurd (clash is)
@@ -167,7 +167,7 @@ once_encoded p s block parity = go (is_full s block)
     go true = omega arith
     go false = omega arith
 
-parity_at : (p : Settings) → Blocks p → (order : List Entry) (i : ℕ) (s : Shape) → slice_get (shapes_of p order) i ≡ Some s → HasParity s.cut
+pub parity_at : (p : Settings) → Blocks p → (order : List Entry) (i : ℕ) (s : Shape) → slice_get (shapes_of p order) i ≡ Some s → HasParity s.cut
 parity_at p blocks [] i s e = absurd (none_some e)
   where
     none_some : None ≡ Some s → ⊥

@@ -130,7 +130,7 @@ gift_of node (n, d) gifts e has = subst (λ (m : ℕ). Contains gifts (m, d)) e 
 -- what a node gave first is among what was given, and so is what an offer of its octets finds
 given_is_found : (node : ℕ) (gifts : List (ℕ × Written)) (d : Written)
     → option_map (λ (g : ℕ × Written). g.1) (find (λ (g : ℕ × Written). g.0 == node) gifts) ≡ Some d
-    → Gift node d.octets gifts × ((h : ℕ × Written) × (find (is_of node d.octets) gifts ≡ Some h) × (h.0 ≡ node) × (h.1.octets ≡ d.octets))
+    → Gift node d.octets gifts × ((h : ℕ × Written) × (find (is_of node d.octets) gifts ≡ Some h) × (h.0 ≡ node) × (h.1 ≡ d))
 given_is_found node [] d e = absurd (none_some d e)
 given_is_found node (g ∷ gifts) d e = go (g.0 == node) refl e (given_is_found node gifts d)
   where
@@ -138,7 +138,7 @@ given_is_found node (g ∷ gifts) d e = go (g.0 == node) refl e (given_is_found 
     FirstOf xs = option_map (λ (x : ℕ × Written). x.1) (find (λ (x : ℕ × Written). x.0 == node) xs) ≡ Some d
 
     FoundIn : List (ℕ × Written) → Type 0
-    FoundIn xs = Gift node d.octets xs × ((h : ℕ × Written) × (find (is_of node d.octets) xs ≡ Some h) × (h.0 ≡ node) × (h.1.octets ≡ d.octets))
+    FoundIn xs = Gift node d.octets xs × ((h : ℕ × Written) × (find (is_of node d.octets) xs ≡ Some h) × (h.0 ≡ node) × (h.1 ≡ d))
 
     finds : (b : Bool) → is_of node d.octets g ≡ b → find (is_of node d.octets) (g ∷ gifts) ≡ cond b (Some g) (find (is_of node d.octets) gifts)
     finds b is = ap (λ (c : Bool). cond c (Some g) (find (is_of node d.octets) gifts)) is
@@ -152,7 +152,7 @@ given_is_found node (g ∷ gifts) d e = go (g.0 == node) refl e (given_is_found 
         let octets_are : g.1.octets ≡ d.octets = ap (λ (x : Written). x.octets) is in
         let test : is_of node d.octets g ≡ true =
         of_both (g.0 == node) (same_octets g.1.octets d.octets) own (ap (same_octets g.1.octets) (sym octets_are) ∙ list_itself g.1.octets) in
-        ((g.1, gift_of node g (g ∷ gifts) node_is (first_here g gifts), octets_are), (g, finds true test, node_is, octets_are))
+        ((g.1, gift_of node g (g ∷ gifts) node_is (first_here g gifts), octets_are), (g, finds true test, node_is, is))
     go false other e found =
         let more = found e in
         let test : is_of node d.octets g ≡ false = ap (λ (b : Bool). b && same_octets g.1.octets d.octets) other in (
@@ -164,13 +164,17 @@ given_is_found node (g ∷ gifts) d e = go (g.0 == node) refl e (given_is_found 
 pub given_may_come : (w : World) (node : ℕ) (d : Written) → given_by w node ≡ Some d → WasGiven w node d.octets
 given_may_come w node d e = (given_is_found node w.given d e).0
 
+pub given_itself : (p : Settings) (w : World) (node : ℕ) (d : Written) → given_by w node ≡ Some d
+    → Contains (world_step p w (Offered node d.octets)).0.offered (node, d)
+given_itself p w node d e =
+    let found = (given_is_found node w.given d e).1 in
+    let O : Option (ℕ × Written) → Type 0 = λ o. Contains (offers o node w).offered (node, d) in
+    let C : Written → Type 0 = λ x. Contains (w.offered ++ found.0 ∷ []) (node, x) in
+    subst O (sym found.1) (subst C found.3 (gift_of node found.0 (w.offered ++ found.0 ∷ []) found.2 (Contains-push w.offered found.0)))
+
 pub given_offered : (p : Settings) (w : World) (node : ℕ) (d : Written) → given_by w node ≡ Some d
     → HasOffered node d.octets (world_step p w (Offered node d.octets)).0
-given_offered p w node d e =
-    let found = (given_is_found node w.given d e).1 in
-    let O : Option (ℕ × Written) → Type 0 = λ o. HasOffered node d.octets (offers o node w) in
-    subst O (sym found.1)
-    (found.0.1, gift_of node found.0 (w.offered ++ found.0 ∷ []) found.2 (Contains-push w.offered found.0), found.3)
+given_offered p w node d e = (d, given_itself p w node d e, refl)
 
 -- what was offered may be delivered to another node
 pub offered_may_come : (w : World) (from node : ℕ) (octets : List ℕ) → from ≢ node → HasOffered from octets w → WasOffered w node octets

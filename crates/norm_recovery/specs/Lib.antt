@@ -12,6 +12,11 @@ pub mod MarksEnd
 pub mod FlushConfirmed
 pub mod FlushNeeds
 pub mod Left
+pub mod Asking
+pub mod RoundAsks
+pub mod NeedLacks
 pub mod FlushLacks
 pub mod FlushReaches
 pub mod LeftHeard
+pub mod LeftNeverRises
+pub mod NeedsRead

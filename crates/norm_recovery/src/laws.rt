@@ -1,14 +1,19 @@
 //! Laws of bounded recovery. Each law is the contract of a function that does nothing. Begin with [`tail_is_lawful`].
 
+ghost use Rattle.norm_recovery.specs.Asking.{ClosingsHelp};
 ghost use Rattle.norm_recovery.specs.Flush.{FlushHeard};
 ghost use Rattle.norm_recovery.specs.FlushListed.{FlushListed};
 ghost use Rattle.norm_recovery.specs.FlushNeeds.{FlushNeeds};
 ghost use Rattle.norm_recovery.specs.FlushReaches.{FlushReaches};
 ghost use Rattle.norm_recovery.specs.Left.{LeftTells};
 ghost use Rattle.norm_recovery.specs.LeftHeard.{LeftHeard};
+ghost use Rattle.norm_recovery.specs.LeftNeverRises.{LeftNeverRises};
 ghost use Rattle.norm_recovery.specs.MarksEnd.{MarksEnd};
 ghost use Rattle.norm_recovery.specs.MembersEnter.{MembersEnter};
 ghost use Rattle.norm_recovery.specs.MembersStand.{MembersStand};
+ghost use Rattle.norm_recovery.specs.NeedsRead.{NeedsAreRead};
+ghost use Rattle.norm_recovery.specs.NeedLacks.{NeedLacks};
+ghost use Rattle.norm_recovery.specs.RoundAsks.{RoundAsks};
 ghost use Rattle.norm_recovery.specs.RunsOut.{RunsOutLaws, TailRunsOut};
 ghost use Rattle.norm_recovery.specs.TailKeeps.{TailKeeps};
 ghost use Rattle.norm_recovery.specs.TailLawful.{TailIsLawful};
@@ -86,6 +91,24 @@ pub fn left_tells()
     ensures { LeftTells }
 {}
 
+/// Let every member have everything that is wanted. If a round asks for something of the window that a member lacks, by name or by a count, its
+/// closing leaves less, adds a want, and sets the count of flushes to 0. If a closing leaves no less, every member has also all that it adds.
+pub fn closings_help()
+    ensures { ClosingsHelp }
+{}
+
+/// What a member needs it lacks. In `hold` mode, with no stream in the window, after a lawful run: of each need of a member that is in the current
+/// instance there is an info or a closed source symbol of the window that it does not have.
+pub fn need_lacks()
+    ensures { NeedLacks }
+{}
+
+/// If requests, as the sender reads them, ask for all of a need, the round that they join asks for each info and closed source symbol of the window that
+/// is of that need. What a round asks for it goes on to ask for, whatever joins it.
+pub fn round_asks()
+    ensures { RoundAsks }
+{}
+
 /// With the position of an open watermark a part of the order ends: it is the last source symbol of data or a file, or a closed segment of a
 /// stream ends with it. So it is after every lawful run, whatever was enqueued since. A restart leaves no watermark open.
 #[tactic(auto, using(crate::proofs::MarksEnd::marks_end))]
@@ -97,6 +120,18 @@ pub fn marks_end()
 /// of the current instance, and come after a lawful run of few objects.
 pub fn left_heard()
     ensures { LeftHeard }
+{}
+
+/// Over a turn no more is left: in `hold` mode, with no stream in the window, after a run that may go on, and whatever the draws. A closing only adds
+/// wants; what the sender's tick sends is heard by every member in that turn; and what a member has stays.
+pub fn left_never_rises()
+    ensures { LeftNeverRises }
+{}
+
+/// The requests of a NACK ask for all of each need that they were written for, as whoever takes them to whom its index is near: for an unknown object,
+/// for an info, for so many symbols of a block, and in a stream for a source symbol and for the rest.
+pub fn needs_are_read()
+    ensures { NeedsAreRead }
 {}
 
 /// A flush reaches every member. If nothing is to be sent, two round trips have passed since the last flush and fewer than 20 were counted, a due
