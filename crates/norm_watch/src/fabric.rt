@@ -15,7 +15,7 @@ use norm_ext::items::has_flag;
 use norm_ext::places::FLAGS_AT;
 use std::fmt;
 use std::time::{Clock, Duration};
-use udp_rules::{PassesOver, TellsGroup, Unsent};
+use udp_rules::{PassesOver, SecondMachine, TellsGroup, Unsent};
 
 /// At least this many seconds pass from one line of progress to the next.
 // Our own choice: as often as a person can read it.
@@ -342,20 +342,27 @@ impl<'a, R: Eprint + Clock, F: Fabric + PassesOver + TellsGroup> WatchedFabric<'
         self.unsent = unsent;
     }
 
+    /// Says once that a group passes over a machine.
+    fn look_second(&mut self, second: Option<SecondMachine>)
+        ensures { watched_by self.new ≡ watched_by self.old }
+    {
+        if self.has_said_second {
+            return;
+        }
+        if let Some(second) = second {
+            self.say(&second);
+            self.has_said_second = true;
+        }
+    }
+
     /// Says what a group reports: a machine that is passed over once, and each time that sending begins or ends to fail.
     fn look_group(&mut self)
         ensures { watched_by self.new ≡ watched_by self.old }
     {
-        let Some(news) = self.fabric.group_news() else {
-            return;
-        };
-        if let Some(second) = news.second {
-            if !self.has_said_second {
-                self.say(&second);
-            }
-            self.has_said_second = true;
+        if let Some(news) = self.fabric.group_news() {
+            self.look_second(news.second);
+            self.look_unsent(news.unsent);
         }
-        self.look_unsent(news.unsent);
     }
 
     /// If a watermark expired and nothing ever came, says so, unless it was said already that nothing comes.
