@@ -1,8 +1,8 @@
 #!/usr/bin/env python3
 """Evaluates the definitions of the protocol (crates/*/specs) on recorded runs.
 
-    checks/definitions.py [--runs DIR] [--count N] [--safe] [--laws] [--cases] [--damaged] [--journals] [--tails] [--relays] [--gathers] [--manifests]
-                          [--errors] [--rules [--write]] [--gate] [NAME ..]
+    checks/definitions.py [--runs DIR] [--count N] [--safe] [--laws] [--cases] [--damaged] [--journals] [--steady] [--tails] [--relays] [--gathers]
+                          [--manifests] [--errors] [--rules [--write]] [--gate] [NAME ..]
 
 A recorded run is a list of events with what each gave, and where the nodes stood at its end (checks/runs). For each run
 antt computes the defined steps, event by event, and compares each answer and the end state with the record: the proof of
@@ -14,8 +14,9 @@ small runs and values of checks/cases, `--damaged` the tests of safety on damage
 each deliberate error of checks/errors in a definition is noticed by the case that it names. `--rules` compares the rows of
 docs/protocol.md with what stands here, and with `--write` prints them again. `--journals` judges each recorded journal, which has to be
 accepted event by event, to end as recorded and to print the recorded text, and damaged ones, which have to be refused (with
-`--count N` those of the N shortest). `--tails` compares each recorded tail (checks/runs/tails) with the defined one, and damages of the
-shortest, which have to be refused. `--relays` compares each recorded relay (checks/runs/relays), and lists of calls made by hand. `--gathers` compares
+`--count N` those of the N shortest). `--steady` says of each recorded journal over a direct network, and of rows made by hand, whether
+its number of turns can be told from its script, and that it ended whole by then. `--tails` compares each recorded tail
+(checks/runs/tails) with the defined one, and damages of the shortest, which have to be refused. `--relays` compares each recorded relay (checks/runs/relays), and lists of calls made by hand. `--gathers` compares
 what is printed of each recorded input of `gather` (checks/runs/gathers), and of the shortest two damages. `--manifests` compares rows of manifests and
 of checks made by hand. `--gate` compares the rows, ten runs, the four shortest tails, the relays and manifests made by hand and the shortest inputs of
 `gather`, and evaluates the cases, the damaged runs, all journals and the damaged ones of the ten shortest. NAME is a part of a run's name, or with
@@ -90,7 +91,7 @@ def main():
     a.add_argument('--runs', default=os.path.join(HERE, 'runs'))
     a.add_argument('--count', type=int, default=0)
     a.add_argument('--work')
-    for flag in ('safe', 'laws', 'cases', 'damaged', 'journals', 'tails', 'relays', 'gathers', 'manifests', 'errors', 'rules', 'write', 'gate'):
+    for flag in ('safe', 'laws', 'cases', 'damaged', 'journals', 'steady', 'tails', 'relays', 'gathers', 'manifests', 'errors', 'rules', 'write', 'gate'):
         a.add_argument('--' + flag, action='store_true')
     a = a.parse_args()
     runs = list(runs_of(a.runs, [] if a.errors else a.names, 0 if a.gate else a.count))
@@ -104,6 +105,9 @@ def main():
                 said, differ = errors.look(space, runs, a.names)
             elif a.journals:
                 said, differ = judge(a)
+            elif a.steady:
+                from evaluate import journals, steady
+                said, differ = steady.look(steady.Steady(tempfile.mkdtemp(dir=scratch)), journals.runs_of(a.runs, a.names))
             elif a.tails:
                 from evaluate import tails
                 said, differ = tails.look(space, tails.runs_of(a.runs, a.names, a.count))

@@ -8,6 +8,7 @@ pub mod RunsOutLaws
 pub mod RunsOutTurns
 pub mod RunsOutTail
 pub mod FlushGoes
+pub mod DirectTakes
 pub mod FlushHeard
 pub mod ClosingLists
 pub mod ClosingHad
@@ -29,6 +30,10 @@ pub mod MembersTail
 pub mod MembersOwn
 pub mod MembersEnter
 pub mod FlushKnown
+pub mod DirectPasses
+pub mod DirectHands
+pub mod SteadyNeeds
+pub mod SteadySent
 pub mod MarksEnd
 pub mod PassTurn
 pub mod FlushTurn

@@ -20,3 +20,8 @@ pub mod FlushReaches
 pub mod LeftHeard
 pub mod LeftNeverRises
 pub mod NeedsRead
+pub mod Steady
+pub mod SteadyTakes
+pub mod SteadyPasses
+pub mod SteadyNeeds
+pub mod SteadySent

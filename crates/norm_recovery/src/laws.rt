@@ -15,6 +15,10 @@ ghost use Rattle.norm_recovery.specs.NeedsRead.{NeedsAreRead};
 ghost use Rattle.norm_recovery.specs.NeedLacks.{NeedLacks};
 ghost use Rattle.norm_recovery.specs.RoundAsks.{RoundAsks};
 ghost use Rattle.norm_recovery.specs.RunsOut.{RunsOutLaws, TailRunsOut};
+ghost use Rattle.norm_recovery.specs.SteadyNeeds.{HadIsNotNeeded};
+ghost use Rattle.norm_recovery.specs.SteadyPasses.{DirectPasses};
+ghost use Rattle.norm_recovery.specs.SteadySent.{IsSentBeforeNext};
+ghost use Rattle.norm_recovery.specs.SteadyTakes.{DirectTakesAll};
 ghost use Rattle.norm_recovery.specs.TailKeeps.{TailKeeps};
 ghost use Rattle.norm_recovery.specs.TailLawful.{TailIsLawful};
 ghost use Rattle.norm_recovery.specs.Timely.{RunsAreTimely};
@@ -142,4 +146,27 @@ pub fn needs_are_read()
 ///    which is in the window.
 pub fn flush_reaches()
     ensures { FlushReaches }
+{}
+
+/// Over a direct network each turn takes all that the nodes offered: at most 272 copies wait, no turn takes 512, and the last take of each turn
+/// finds none.
+pub fn takes_all()
+    ensures { DirectTakesAll }
+{}
+
+/// A direct network is honest, and over one a session passes each datagram of its sender on, to every receiver, before the sender's next tick. So if
+/// it ends whole, every receiver was handed everything of the current instance's order, and nothing else of it.
+pub fn direct_passes()
+    ensures { DirectPasses }
+{}
+
+/// A receiver of data and files that is in the current instance needs nothing, if it has each source symbol and info before what it saw of the
+/// sender, and of all objects up to that of the flush that it knows. The order must have no stream.
+pub fn had_is_not_needed()
+    ensures { HadIsNotNeeded }
+{}
+
+/// What lies before a sender's next place was sent in the current instance, dropped or not: each closed source symbol and each info.
+pub fn sent_before_next()
+    ensures { IsSentBeforeNext }
 {}
