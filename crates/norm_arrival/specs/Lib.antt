@@ -1,0 +1,4 @@
+pub mod FolderScript
+pub mod FolderCanRun
+pub mod HandedBy
+pub mod FolderArrives
