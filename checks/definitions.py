@@ -2,7 +2,7 @@
 """Evaluates the definitions of the protocol (crates/*/specs) on recorded runs.
 
     checks/definitions.py [--runs DIR] [--count N] [--safe] [--laws] [--cases] [--damaged] [--journals] [--steady] [--tails] [--relays] [--gathers]
-                          [--manifests] [--errors] [--rules [--write]] [--gate] [NAME ..]
+                          [--manifests] [--folders] [--errors] [--rules [--write]] [--gate] [NAME ..]
 
 A recorded run is a list of events with what each gave, and where the nodes stood at its end (checks/runs). For each run
 antt computes the defined steps, event by event, and compares each answer and the end state with the record: the proof of
@@ -18,8 +18,9 @@ accepted event by event, to end as recorded and to print the recorded text, and 
 its number of turns can be told from its script, and that it ended whole by then. `--tails` compares each recorded tail
 (checks/runs/tails) with the defined one, and damages of the shortest, which have to be refused. `--relays` compares each recorded relay (checks/runs/relays), and lists of calls made by hand. `--gathers` compares
 what is printed of each recorded input of `gather` (checks/runs/gathers), and of the shortest two damages. `--manifests` compares rows of manifests and
-of checks made by hand. `--gate` compares the rows, ten runs, the four shortest tails, the relays and manifests made by hand and the shortest inputs of
-`gather`, and evaluates the cases, the damaged runs, all journals and the damaged ones of the ten shortest. NAME is a part of a run's name, or with
+of checks made by hand, and `--folders` the scripts of folders; it makes runs of them, in which the folder has to arrive. `--gate` compares the rows, ten
+runs, the four shortest tails, the relays, manifests and folders made by hand and the shortest inputs of `gather`, and evaluates the cases, the damaged
+runs, all journals and the damaged ones of the ten shortest. NAME is a part of a run's name, or with
 `--errors` of an error's words, and `--count N` takes N runs evenly (with `--tails` and `--gathers` the N shortest).
 Exit status: 0 where all is as expected, 1 where something differs, 2 where the evaluation failed.
 """
@@ -91,7 +92,8 @@ def main():
     a.add_argument('--runs', default=os.path.join(HERE, 'runs'))
     a.add_argument('--count', type=int, default=0)
     a.add_argument('--work')
-    for flag in ('safe', 'laws', 'cases', 'damaged', 'journals', 'steady', 'tails', 'relays', 'gathers', 'manifests', 'errors', 'rules', 'write', 'gate'):
+    for flag in ('safe', 'laws', 'cases', 'damaged', 'journals', 'steady', 'tails', 'relays', 'gathers', 'manifests', 'folders', 'errors', 'rules', 'write',
+                 'gate'):
         a.add_argument('--' + flag, action='store_true')
     a = a.parse_args()
     runs = list(runs_of(a.runs, [] if a.errors else a.names, 0 if a.gate else a.count))
@@ -117,6 +119,9 @@ def main():
             elif a.manifests:
                 from evaluate import manifests
                 said, differ = manifests.look(manifests.Manifests(tempfile.mkdtemp(dir=scratch)))
+            elif a.folders:
+                from evaluate import folders
+                said, differ = folders.look(folders.Folders(tempfile.mkdtemp(dir=scratch)))
             elif a.gathers:
                 from evaluate import gathers
                 said, differ = gathers.look(gathers.Gathers(tempfile.mkdtemp(dir=scratch)), gathers.runs_of(a.runs, a.names, a.count))
@@ -139,14 +144,15 @@ def main():
                 more += [tails.case(*t) for t in tails.runs_of(a.runs, (), GATE_TAILS)] if a.gate else []
                 said, differ = compare(space, [runs[i * len(runs) // 10] for i in range(10)] if a.gate else [], more)
                 if a.gate:
-                    from evaluate import gathers, manifests, relays, rules
+                    from evaluate import folders, gathers, manifests, relays, rules
                     judged, refused = judge(a, 10)
                     relayed, parted = relays.look(relays.Relays(tempfile.mkdtemp(dir=scratch)), [])
                     heard, misheard = gathers.look(gathers.Gathers(tempfile.mkdtemp(dir=scratch)), gathers.runs_of(a.runs, (), GATE_GATHERS))
                     spelt, other = manifests.look(manifests.Manifests(tempfile.mkdtemp(dir=scratch)))
+                    arrived, lost = folders.look(folders.Folders(tempfile.mkdtemp(dir=scratch)))
                     there, astray = rules.look()
-                    said = '%s, %s, %s, %s, %s, %s' % (said, judged, relayed, heard, spelt, there)
-                    differ += refused + parted + misheard + other + astray
+                    said = '%s, %s, %s, %s, %s, %s, %s' % (said, judged, relayed, heard, spelt, arrived, there)
+                    differ += refused + parted + misheard + other + lost + astray
             else:
                 said, differ = compare(space, runs)
         except Failed as e:

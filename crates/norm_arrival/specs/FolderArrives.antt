@@ -36,8 +36,8 @@ pub record IsClean (journal : List Event) : Type 0 where
   pub refused : count_by is_refused journal ≡ 0
   pub expired : count_by is_expired journal ≡ 0
 
--- A whole run of a folder's script that is safe, as each is over an honest network, hands the folder up at each receiver: unless something was refused
--- or expired, and if the files were what its manifest says.
+-- A whole run of a folder's script that is safe, as each is over an honest network, hands the folder up at each receiver, if nothing was
+-- refused or expired and the files were what the manifest says.
 abbrev pub FolderArrives : Type 0
 FolderArrives = (p : Settings) → InRange p → (entries : List Entry) (files : List (List ℕ × List ℕ)) → AreEntriesOf files entries
     → let script = folder_script p entries in let nodes = receivers_of p p.receivers in
