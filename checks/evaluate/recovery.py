@@ -39,6 +39,11 @@ use Rattle.norm_receive_rules.specs.Nack.{fitting}
 use Rattle.norm_receive_rules.specs.Needs.{Need}
 use Rattle.norm_receive_rules.specs.Needs as need
 use Rattle.norm_send_rules.specs.Hearing.{nack_counts}
+use Rattle.norm_ext.specs.Asking.{named}
+use Rattle.norm_ext.specs.Message.{Nack, NackMessage}
+use Rattle.norm_receive_rules.specs.Heard.{heard_all}
+use Rattle.norm_receive_rules.specs.HeardNeeds.{is_heard}
+use Rattle.norm_send_rules.specs.InWindow.{last_index}
 use Rattle.norm_safety.specs.Said.{first_index}
 use Rattle.norm_ext.specs.Message.{Message, Info, Data}
 use Rattle.norm_ext.specs.Written.{Written}
@@ -54,6 +59,8 @@ WRONG = {'a hold-off of K': 'timely_for (λ q. q.k)', 'a flush after 2G - 1': 'g
 # wrong statements of members, each refused by this tail: that struck nodes stand as members do, that members stand where a datagram came
 # that nobody offered, that whoever hears the sender was in its instance before, and that a member had what it hears of the window before
 ASTRAY = {'tail-13': 'all_stand', 'tail-16': 'members_stand', 'tail-19': 'was_there', 'tail-05': 'had_before'}
+# in this one a NACK is not read so by whoever knows indices far past those of the sender
+FAR = ('tail-05', 'needs_read_by 40000')
 # wrong counts of what is left, each of which differs from the record of this tail: of struck nodes too, of what is wanted too, of what a member
 # lacks now, and of what a member holds in another instance
 COUNTS = {'left_of_all': 'tail-13', 'left_with_wanted': 'tail-05', 'left_now': 'tail-05', 'left_elsewhere': 'tail-19'}
@@ -165,6 +172,7 @@ def look(space, runs):
     members = {'%s, members' % name: (run, 'members_keep') for name, run in runs if run['lawful']}
     astray = {'%s, %s' % (name, ASTRAY[name]): (run, ASTRAY[name]) for name, run in runs if name in ASTRAY}
     closings = {'%s, %s' % (name, w): (run, w) for name, run in runs for w, tail in CLOSINGS.items() if name == tail}
+    astray.update({'%s, %s' % FAR: (run, FAR[1]) for name, run in runs if name == FAR[0]})
     late = [late_case('%s, takes after ticks' % name, run) for name, run in sorted(runs, key=lambda r: len(r[1]['before'] + r[1]['tail']))
             if run['lawful'] and takes_late(run['tail']) != run['tail']][:1]
     far = ('32,769 objects', '', 'is_near most_objects 0 ≡ true')

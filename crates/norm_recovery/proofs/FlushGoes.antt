@@ -1,19 +1,19 @@
 -- A flush goes if nothing else does.
 use Rattle.std.proofs.Math.Nat.{min-le_left}
-use Rattle.std.proofs.Common.{◌≡◌, ℕ, zero, suc, ◌+◌, ◌*◌, ◌<◌, ◌≤◌, List, [], ◌∷◌, length, Bool, true, false, Option, None, Some, refl, sym, ap, ◌∙◌, arith}
-use Rattle.std.specs.Prelude.{nat_lt, nat_le, IfSome}
+use Rattle.std.proofs.Common.{◌≡◌, ℕ, ◌+◌, ◌*◌, ◌≤◌, List, [], ◌∷◌, length, Bool, true, false, Option, None, Some, refl, ap, ◌∙◌, arith}
+use Rattle.std.specs.Prelude.{nat_le, IfSome}
 use Rattle.std.proofs.lemmas.Bool.{le-ltb}
 use Rattle.std.proofs.lemmas.Bool.Decides.{Decides-ltb, leb_tells}
 use Rattle.norm_base.specs.Settings.{Settings}
 use Rattle.norm_ext.specs.Written.{Written, writes}
 use Rattle.norm_order.specs.Moments.{moment_after}
-use Rattle.norm_send_rules.specs.Flushing.{most_flushes, may_flush, flushes_for, flushes_no_more, flushed, flushes_in_turn, flushes}
+use Rattle.norm_send_rules.specs.Flushing.{most_flushes, flushes_for, flushes_no_more, flushed, flushes_in_turn, flushes}
 use Rattle.norm_send_rules.specs.Messages.{squelch_message}
 use Rattle.norm_send_rules.specs.SenderState.{SenderState, Watermark}
 use Rattle.norm_send_rules.specs.Sending.{sends, next_new, behind, sends_new, repairs_next}
-use Rattle.norm_send_rules.specs.Ticking.{sends_further, sends_wanted, sends_first, sends_in_time, ticked}
+use Rattle.norm_send_rules.specs.Ticking.{sends_further, sends_wanted, sends_first, sends_in_time}
 use Rattle.norm_send_rules.specs.declared.want.Want.{Want}
-use Rattle.norm_recovery.specs.Flush.{MayFlush, FlushGoes}
+use Rattle.norm_recovery.specs.Flush.{FlushGoes}
 use Rattle.norm_recovery.specs.RunsOut.{all_new, one_if}
 use Rattle.norm_recovery.proofs.RunsOutNew.{fewer_new}
 

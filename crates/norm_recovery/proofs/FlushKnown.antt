@@ -1,6 +1,6 @@
 -- What a receiver makes of a flush that comes to it after a lawful run.
-use Rattle.std.proofs.Common.{◌≡◌, ℕ, ◌+◌, ◌%◌, ◌<◌, ◌≤◌, List, [], ◌∷◌, ◌++◌, length, Bool, true, false, Option, None, Some, Result, Ok, Err, refl, sym, ap, ◌∙◌, subst, append_assoc, arith, ◌⊎◌, inl, inr}
-use Rattle.std.specs.Prelude.{◌==◌, ◌&&◌, nat_le, nat_lt, Contains, IsTrue, option_and_then}
+use Rattle.std.proofs.Common.{◌≡◌, ℕ, ◌+◌, ◌≤◌, List, [], ◌∷◌, ◌++◌, Bool, true, false, Option, None, Some, Result, Ok, refl, sym, ap, ◌∙◌, subst, arith, ◌⊎◌, inl, inr}
+use Rattle.std.specs.Prelude.{◌==◌, ◌&&◌, nat_le, nat_lt, IsTrue, option_and_then}
 use Rattle.std.specs.Option.{option_map}
 use Rattle.std.proofs.lemmas.Bool.Decides.{Decides-eqb, leb_tells}
 use Rattle.std.proofs.lemmas.Option.{slice_get_within}
@@ -18,20 +18,18 @@ use Rattle.norm_order.specs.Shapes.{closed_in}
 use Rattle.norm_receive_rules.specs.Leaving.{is_in, goes_to, enters, entered}
 use Rattle.norm_receive_rules.specs.ReceiverState.{ReceiverState}
 use Rattle.norm_receive_rules.specs.Receiving.{received}
-use Rattle.norm_send_rules.specs.Flushing.{flushes_for}
 use Rattle.norm_send_rules.specs.Messages.{command_head, flush_message}
 use Rattle.norm_send_rules.specs.Restarting.{instances, first_id}
-use Rattle.norm_send_rules.specs.SenderState.{SenderState, Instance, Watermark}
-use Rattle.norm_send_rules.specs.Ticking.{ticked}
+use Rattle.norm_send_rules.specs.SenderState.{SenderState, Watermark}
 use Rattle.norm_send_rules.specs.Watermarks.{pending}
-use Rattle.norm_safety.specs.Events.{Event, Delivered}
+use Rattle.norm_safety.specs.Events.{Event}
 use Rattle.norm_safety.specs.History.{Happening, happens}
 use Rattle.norm_safety.specs.InTime.{FewObjects}
 use Rattle.norm_safety.specs.InOrder.{came_to}
 use Rattle.norm_safety.specs.Jobs.{AreEvents}
 use Rattle.norm_safety.specs.Lawful.{most_apart, is_near, are_near, sender_knows, receiver_knows, comes_in_time, accepted_with, MayCome, LawfulDelivery, LawfulFrom, Lawful}
 use Rattle.norm_safety.specs.OnceEach.{order_of}
-use Rattle.norm_safety.specs.Said.{about, first_index}
+use Rattle.norm_safety.specs.Said.{first_index}
 use Rattle.norm_safety.specs.World.{World, world_opening, receiver_at}
 use Rattle.norm_safety.specs.WorldStep.{world_step, run_from, run}
 use Rattle.norm_safety.proofs.Feedback.{SaysNothing}

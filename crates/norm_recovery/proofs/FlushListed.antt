@@ -1,5 +1,5 @@
 -- A member that confirms a position is listed past it from then on.
-use Rattle.std.proofs.Common.{◌≡◌, ℕ, ◌+◌, List, [], ◌∷◌, length, map, Bool, true, false, Option, None, Some, Result, Ok, refl, sym, ap, ◌∙◌}
+use Rattle.std.proofs.Common.{◌≡◌, ℕ, List, [], ◌∷◌, length, map, Bool, true, false, Option, None, Some, Result, Ok, refl, sym, ap, ◌∙◌}
 use Rattle.std.specs.Prelude.{◌==◌, ◌&&◌, ◌||◌, not, nat_lt}
 use Rattle.std.specs.List.{list_any}
 use Rattle.norm_base.specs.Settings.{Settings}
@@ -14,7 +14,7 @@ use Rattle.norm_order.specs.Sets.{with_member}
 use Rattle.norm_order.specs.Shapes.{is_source}
 use Rattle.norm_send_rules.specs.Hearing.{nack_counts, ack_counts, joined_round, listed_past, rises, credited, credited_by, message_heard, heard}
 use Rattle.norm_send_rules.specs.InWindow.{last_index, current_shapes}
-use Rattle.norm_send_rules.specs.SenderState.{SenderState, Listing, Watermark}
+use Rattle.norm_send_rules.specs.SenderState.{SenderState, Listing}
 use Rattle.norm_send_rules.specs.SenderStep.{SenderEvent, Commanded, Delivered, Ticked, NewsAsked, sender_step}
 use Rattle.norm_send_rules.specs.Sending.{noted}
 use Rattle.norm_send_rules.specs.Telling.{told, past_news, done_news, listing_of}

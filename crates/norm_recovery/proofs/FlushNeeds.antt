@@ -1,27 +1,24 @@
 -- If nothing is missing up to a flush, the object at the hand-up point is whole, and would be handed up.
 use Rattle.std.proofs.Common.{◌≡◌, ℕ, zero, suc, ◌+◌, ◌<◌, ◌≤◌, ◌⊎◌, inl, inr, List, [], ◌∷◌, Bool, true, false, Option, None, Some, refl, sym, ap, ◌∙◌, arith}
-use Rattle.std.specs.Prelude.{◌==◌, ◌&&◌, ◌||◌, cond, find, max, nat_le, nat_lt, IfSome}
+use Rattle.std.specs.Prelude.{◌==◌, ◌&&◌, ◌||◌, cond, find, nat_le, nat_lt, IfSome}
 use Rattle.std.specs.List.{list_all, range_with_len}
 use Rattle.std.proofs.lemmas.Bool.Decides.{Decides-eqb, leb_tells}
-use Rattle.norm_base.specs.Settings.{Settings}
 use Rattle.fec_plan.specs.Partition.{blocks}
-use Rattle.fec_plan.specs.Points.{Point, point, point_of, point_before, reached_by, reaches}
+use Rattle.fec_plan.specs.Points.{point, point_of, reached_by}
 use Rattle.fec_plan.specs.declared.position.Position.{Position}
 use Rattle.fec_plan.proofs.PointLemmas.{not_before}
 use Rattle.fec_plan.proofs.PositionLemmas.{Behind, behind}
 use Rattle.norm_order.specs.declared.up.Up.TheVariants as up
-use Rattle.norm_receive_rules.specs.AllNeeds.{last_known, needs_nothing}
-use Rattle.norm_receive_rules.specs.HandingUp.{is_whole, handed, after_object, kind_of, told_info, object_octets, hands_next, hands_object, hands_one}
+use Rattle.norm_receive_rules.specs.HandingUp.{is_whole, handed, after_object, kind_of, told_info, object_octets, hands_next, hands_object}
 use Rattle.norm_receive_rules.specs.Holding.{Holding, Plan}
 use Rattle.norm_receive_rules.specs.Laws.{needs_nothing_first}
 use Rattle.norm_receive_rules.specs.Needs.{farthest_index, is_covered}
-use Rattle.norm_receive_rules.specs.NothingMissing.{IsThereByPlan, ObjectIsThere, NothingIsMissing}
+use Rattle.norm_receive_rules.specs.NothingMissing.{ObjectIsThere}
 use Rattle.norm_receive_rules.specs.Plans.{plan_of, is_done, has_its_info, says_stream, cut_of_plan}
-use Rattle.norm_receive_rules.specs.ReceiverState.{ReceiverState}
 use Rattle.norm_receive_rules.proofs.FrontLemmas.{front_laws}
 use Rattle.norm_receive_rules.proofs.NeedLemmas.{exactly}
 use Rattle.norm_laws.proofs.NewOrder.{clash}
-use Rattle.norm_recovery.specs.FlushNeeds.{StandsBefore, FlushNeeds}
+use Rattle.norm_recovery.specs.FlushNeeds.{FlushNeeds}
 
 both_true : (a b : Bool) → a ≡ true → b ≡ true → (a && b) ≡ true
 both_true true b e f = f

@@ -1,6 +1,6 @@
 -- What a member that is asked says, and what the sender makes of it.
-use Rattle.std.proofs.Common.{◌≡◌, ℕ, ◌+◌, ◌<◌, ◌≤◌, List, [], ◌∷◌, ◌++◌, length, map, filter, Bool, true, false, Option, None, Some, Ok, refl, sym, ap, ◌∙◌, subst, arith}
-use Rattle.std.specs.Prelude.{◌==◌, ◌&&◌, ◌||◌, not, cond, nat_lt, unwrap_or, IfSome}
+use Rattle.std.proofs.Common.{◌≡◌, ℕ, ◌<◌, ◌≤◌, List, [], ◌∷◌, ◌++◌, length, map, filter, Bool, true, false, Option, None, Some, Ok, refl, sym, ap, ◌∙◌, subst, arith}
+use Rattle.std.specs.Prelude.{◌==◌, ◌&&◌, ◌||◌, not, cond, nat_lt, unwrap_or}
 use Rattle.std.specs.List.{list_any}
 use Rattle.std.proofs.lemmas.Bool.Decides.{Decides-eqb}
 use Rattle.std.proofs.lemmas.Option.{slice_get_within}
@@ -8,8 +8,7 @@ use Rattle.norm_base.specs.Settings.{Settings, InRange}
 use Rattle.norm_base.specs.declared.node.Origin.{Origin}
 use Rattle.fec_plan.specs.Points.{position, reaches}
 use Rattle.fec_plan.specs.declared.position.Position.{Position}
-use Rattle.norm_ext.specs.Asking.{item_named}
-use Rattle.norm_ext.specs.Message.{Message, Flush, Ack, AckMessage}
+use Rattle.norm_ext.specs.Message.{Flush, Ack}
 use Rattle.norm_ext.specs.ObjectIds.{object_id, index_named}
 use Rattle.norm_ext.specs.Octets.{octets_of}
 use Rattle.norm_ext.specs.Reading.{decoded}
@@ -17,9 +16,8 @@ use Rattle.norm_ext.specs.Written.{Written, writes}
 use Rattle.norm_ext.proofs.LawsHold.{read_again_law}
 use Rattle.norm_order.specs.Entries.{Entry}
 use Rattle.norm_order.specs.Shapes.{closed_in, shapes_of, is_source}
-use Rattle.norm_order.specs.declared.up.Up.{Up}
 use Rattle.norm_receive_rules.specs.Leaving.{is_in, goes_to, enters, entered}
-use Rattle.norm_receive_rules.specs.Nack.{instance_id, item_of, ack_message}
+use Rattle.norm_receive_rules.specs.Nack.{instance_id, ack_message}
 use Rattle.norm_receive_rules.specs.ReceiverState.{ReceiverState}
 use Rattle.norm_receive_rules.specs.Receiving.{received}
 use Rattle.norm_receive_rules.specs.Ticking.{sends, ends_back_off, ticked}
@@ -32,7 +30,6 @@ use Rattle.norm_safety.specs.CreditsMembers.{confirmed}
 use Rattle.norm_safety.specs.Events.{Event}
 use Rattle.norm_safety.specs.Hands.{hands}
 use Rattle.norm_safety.specs.History.{Happening, history}
-use Rattle.norm_safety.specs.InTime.{FewObjects}
 use Rattle.norm_safety.specs.OnceEach.{order_of}
 use Rattle.norm_safety.specs.World.{World, world_opening, receiver_at}
 use Rattle.norm_safety.specs.WorldStep.{run}

@@ -1,14 +1,12 @@
 -- A tail leaves orders, drop points, members, struck nodes, and watermarks as they were made.
-use Rattle.std.proofs.Common.{◌≡◌, List, ◌++◌, sym, subst}
+use Rattle.std.proofs.Common.{sym, subst}
 use Rattle.std.specs.List.{AllByRecursion}
-use Rattle.norm_base.specs.Settings.{Settings}
-use Rattle.norm_safety.specs.Events.{Event}
-use Rattle.norm_safety.specs.Tail.{Course, events_of}
+use Rattle.norm_safety.specs.Tail.{events_of}
 use Rattle.norm_safety.specs.World.{World}
-use Rattle.norm_safety.specs.WorldStep.{run_from, run}
+use Rattle.norm_safety.specs.WorldStep.{run}
 use Rattle.norm_safety.proofs.WorldMoves.{all_front}
 use Rattle.norm_recovery.specs.TailKeeps.{Stays, TailKeeps}
-use Rattle.norm_recovery.specs.TailOf.{IsTail, IsQuiet, IsMoment}
+use Rattle.norm_recovery.specs.TailOf.{IsQuiet}
 use Rattle.norm_recovery.proofs.KeepsSender.{quiet_run_stays}
 use Rattle.norm_recovery.proofs.TailCourses.{run_tail_calm}
 

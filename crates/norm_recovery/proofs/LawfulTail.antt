@@ -1,5 +1,5 @@
 -- A lawful run of few objects is lawful with its tail.
-use Rattle.std.proofs.Common.{◌≡◌, ℕ, List, [], ◌∷◌, ◌++◌, length, Option, None, Some, refl, sym, ap, ◌∙◌, subst, arith}
+use Rattle.std.proofs.Common.{◌≡◌, ℕ, List, [], ◌∷◌, ◌++◌, length, None, Some, sym, ap, ◌∙◌, subst, arith}
 use Rattle.std.specs.Prelude.{find, ◌==◌}
 use Rattle.norm_base.specs.Settings.{Settings, InRange}
 use Rattle.norm_order.specs.Entries.{Entry}
@@ -16,7 +16,6 @@ use Rattle.norm_safety.proofs.InTime.{time_laws}
 use Rattle.norm_safety.proofs.OnceRun.{lawful_honest}
 use Rattle.norm_recovery.specs.TailKeeps.{Stays}
 use Rattle.norm_recovery.specs.TailLawful.{MayGoOn, GoesOn, TailIsLawful}
-use Rattle.norm_recovery.specs.TailOf.{IsTail}
 use Rattle.norm_recovery.proofs.KeepsSender.{quiet_run_stays}
 use Rattle.norm_recovery.proofs.TailCourses.{run_joined, honest_joined, quiet_events, IsCalm, run_tail_calm}
 

@@ -1,5 +1,5 @@
 -- What is left counts at most what may need repair, if it is nothing every member has everything, and no closing raises it.
-use Rattle.std.proofs.Common.{◌≡◌, ℕ, zero, suc, ◌<◌, ◌≤◌, cond, List, [], ◌∷◌, length, filter, Bool, true, false, not, refl, sym, ap, ◌∙◌, subst, arith}
+use Rattle.std.proofs.Common.{◌≡◌, zero, suc, ◌≤◌, cond, List, [], ◌∷◌, length, filter, Bool, true, false, not, refl, sym, ap, ◌∙◌, arith}
 use Rattle.std.specs.Prelude.{Contains, ◌&&◌, ◌||◌}
 use Rattle.std.specs.List.{list_all}
 use Rattle.norm_base.specs.Settings.{Settings}

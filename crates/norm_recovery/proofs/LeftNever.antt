@@ -1,18 +1,17 @@
 -- Over a turn no more is left: a closing only adds wants, and what the tick sends every member has at the turn's end.
-use Rattle.std.proofs.Common.{◌≡◌, ℕ, ◌≤◌, List, [], ◌∷◌, length, Bool, true, false, Option, None, Some, refl, sym, ap, ◌∙◌, subst, arith, ◌⊎◌, inl, inr}
+use Rattle.std.proofs.Common.{◌≡◌, ℕ, ◌≤◌, List, [], ◌∷◌, length, Bool, true, false, Option, None, Some, refl, sym, ap, ◌∙◌, subst, arith}
 use Rattle.std.specs.Prelude.{◌==◌, ◌&&◌, ◌||◌, not, filter, find, nat_le}
 use Rattle.std.specs.List.{AllByRecursion, list_all}
 use Rattle.norm_base.specs.Members.{receivers_of}
 use Rattle.norm_base.specs.Settings.{Settings, InRange}
 use Rattle.norm_base.specs.declared.kinds.Mode.TheVariants.{Hold}
-use Rattle.norm_ext.specs.Written.{Written}
 use Rattle.norm_order.specs.Sets.{is_member}
 use Rattle.norm_receive_rules.specs.ReceiverState.{ReceiverState}
 use Rattle.norm_send_rules.specs.Closing.{round_closed}
 use Rattle.norm_send_rules.specs.InWindow.{stands_behind}
 use Rattle.norm_send_rules.specs.Laws.{WantsHold, AreInWindow}
 use Rattle.norm_send_rules.specs.Repairable.{streams}
-use Rattle.norm_send_rules.specs.SenderState.{SenderState, Instance, Round, Listing}
+use Rattle.norm_send_rules.specs.SenderState.{SenderState, Instance, Round}
 use Rattle.norm_send_rules.specs.Ticking.{closed_where_due, ticked}
 use Rattle.norm_send_rules.specs.Wants.{want_before}
 use Rattle.norm_send_rules.specs.Watermarks.{has_member}
@@ -20,7 +19,6 @@ use Rattle.norm_send_rules.specs.declared.want.Want.{Want}
 use Rattle.norm_send_rules.proofs.ShapeLemmas.{blocks_of}
 use Rattle.norm_send_rules.proofs.StepLemmas.{due_holds}
 use Rattle.norm_safety.specs.Events.{Event, Ticked}
-use Rattle.norm_safety.specs.Said.{first_index}
 use Rattle.norm_safety.specs.Tail.{Course, course_from, events_of, comes, sender_ticks, tail_turn}
 use Rattle.norm_safety.specs.World.{World, receiver_at}
 use Rattle.norm_safety.specs.WorldLaws.{nodes_of}
@@ -32,7 +30,6 @@ use Rattle.norm_safety.proofs.WantRunLemmas.{wants_hold_in_runs}
 use Rattle.norm_safety.proofs.WorldLemmas.{world_laws}
 use Rattle.norm_laws.proofs.LaterTailLemmas.{Quiet}
 use Rattle.norm_recovery.specs.Left.{held_for, is_had, will_have, all_will_have, in_window, left}
-use Rattle.norm_recovery.specs.LeftHeard.{brings}
 use Rattle.norm_recovery.specs.LeftNeverRises.{LeftNeverRises}
 use Rattle.norm_recovery.specs.TailKeeps.{Stays}
 use Rattle.norm_recovery.specs.TailLawful.{MayGoOn}
@@ -41,11 +38,11 @@ use Rattle.norm_recovery.proofs.LeftHeard.{or_right}
 use Rattle.norm_recovery.proofs.LeftSent.{wanted_had}
 use Rattle.norm_recovery.proofs.LeftStays.{more_pass}
 use Rattle.norm_recovery.proofs.LeftTick.{due_lowers, Goes, Leaves, Brings, tick_goes}
-use Rattle.norm_recovery.proofs.LeftTurn.{same_members, Had, turn_had, turn_sends}
+use Rattle.norm_recovery.proofs.LeftTurn.{same_members, turn_had, turn_sends}
 use Rattle.norm_recovery.proofs.MembersEnter.{members_enter}
 use Rattle.norm_recovery.proofs.MembersRun.{no_node}
 use Rattle.norm_recovery.proofs.PassTurn.{is_other}
-use Rattle.norm_recovery.proofs.RunsOutTail.{Rests, own_tick, quiet_rests}
+use Rattle.norm_recovery.proofs.RunsOutTail.{own_tick, quiet_rests}
 use Rattle.norm_recovery.proofs.RunsOutTurns.{tells_keep, round_keeps}
 use Rattle.norm_recovery.proofs.TailCourses.{IsCalm, comes_calm, begins_calm, draw_calm}
 use Rattle.norm_recovery.proofs.TailWalk.{no_receiver, turn_keeps}

@@ -1,17 +1,16 @@
 -- What a receiver has of the window it goes on to have.
-use Rattle.std.proofs.Common.{◌≡◌, ℕ, zero, suc, ◌<◌, ◌≤◌, cond, List, [], ◌∷◌, length, filter, Bool, true, false, Option, None, Some, refl, sym, ap, ◌∙◌, subst, arith, ◌⊎◌, inl, inr}
-use Rattle.std.specs.Prelude.{◌||◌, find, slice_get, nat_le, is_some}
+use Rattle.std.proofs.Common.{◌≡◌, ℕ, zero, suc, ◌<◌, ◌≤◌, cond, List, [], ◌∷◌, length, filter, Bool, true, false, Option, None, Some, refl, sym, ap, ◌∙◌, arith, ◌⊎◌, inl, inr}
+use Rattle.std.specs.Prelude.{◌||◌, slice_get, nat_le, is_some}
 use Rattle.std.proofs.lemmas.Bool.Decides.{leb_tells}
 use Rattle.norm_base.specs.Settings.{Settings}
 use Rattle.fec_plan.specs.Partition.{source_symbols}
-use Rattle.fec_plan.specs.Points.{reaches}
 use Rattle.fec_plan.specs.declared.position.Position.{Position}
 use Rattle.fec_plan.proofs.PositionLemmas.{reached}
 use Rattle.norm_order.specs.Sets.{is_member}
 use Rattle.norm_order.specs.Shapes.{Shape, symbols_of, encoded_in}
 use Rattle.norm_receive_rules.specs.Holding.{Holding, Plan, holding_nothing}
 use Rattle.norm_receive_rules.specs.Leaving.{is_in}
-use Rattle.norm_receive_rules.specs.Plans.{is_over, holds, info_of, plan_of}
+use Rattle.norm_receive_rules.specs.Plans.{is_over, holds, info_of}
 use Rattle.norm_receive_rules.specs.ReceiverState.{ReceiverState}
 use Rattle.norm_receive_rules.specs.ReceiverStep.{ReceiverEvent, receiver_step}
 use Rattle.norm_send_rules.specs.InWindow.{current_shapes}

@@ -1,5 +1,5 @@
 -- Over a turn a member goes on to have what it will have, without the want that the sender's tick sends.
-use Rattle.std.proofs.Common.{◌≡◌, ℕ, ◌+◌, List, [], ◌∷◌, ◌++◌, map, Bool, true, false, Option, None, Some, refl, sym, ap, ◌∙◌, subst}
+use Rattle.std.proofs.Common.{◌≡◌, ℕ, ◌+◌, List, [], ◌∷◌, ◌++◌, map, Bool, true, false, Some, refl, sym, ap, ◌∙◌, subst}
 use Rattle.std.specs.Prelude.{◌==◌, ◌||◌, Contains}
 use Rattle.std.specs.List.{list_any}
 use Rattle.norm_base.specs.Members.{receivers_of}
@@ -22,7 +22,7 @@ use Rattle.norm_safety.specs.Said.{first_index}
 use Rattle.norm_safety.specs.Tail.{Course, course_from, events_of, comes, passes_on, sender_ticks, tail_turn}
 use Rattle.norm_safety.specs.World.{World, receiver_at}
 use Rattle.norm_safety.specs.WorldLaws.{nodes_of}
-use Rattle.norm_safety.specs.WorldStep.{run_from, run}
+use Rattle.norm_safety.specs.WorldStep.{run}
 use Rattle.norm_safety.proofs.ReceiverMoves.{in_instance_is}
 use Rattle.norm_safety.proofs.WorldLemmas.{world_laws}
 use Rattle.norm_recovery.specs.Left.{held_for, is_had}

@@ -1,12 +1,12 @@
 -- Whoever hears a datagram of the sender's current instance is in that instance then.
-use Rattle.std.proofs.Common.{◌≡◌, ℕ, ◌≤◌, List, [], ◌∷◌, ◌++◌, Bool, true, false, Option, None, Some, Result, Ok, Err, refl, sym, ap, ◌∙◌, subst, arith, ◌⊎◌, inl, inr}
+use Rattle.std.proofs.Common.{◌≡◌, ℕ, ◌≤◌, List, [], ◌∷◌, Bool, true, false, Option, None, Some, Result, Ok, refl, sym, ap, ◌∙◌, subst, arith, ◌⊎◌, inl, inr}
 use Rattle.std.specs.Prelude.{Contains, ◌==◌, unwrap_or, option_and_then}
 use Rattle.std.proofs.lemmas.Bool.Decides.{Decides-eqb}
 use Rattle.norm_base.specs.Settings.{Settings, InRange}
 use Rattle.norm_base.specs.declared.node.Origin.{Origin}
 use Rattle.norm_ext.specs.InstanceIds.{rise, is_above}
 use Rattle.norm_ext.specs.Message.{Message, Info, Data, Flush, Eot, Squelch, RepairAdv, AckReq, Opaque, Nack, Ack, Report}
-use Rattle.norm_ext.specs.ObjectIds.{object_id, index_named}
+use Rattle.norm_ext.specs.ObjectIds.{index_named}
 use Rattle.norm_ext.specs.Written.{Written}
 use Rattle.norm_ext.specs.declared.refusal.Refusal.{Refusal}
 use Rattle.norm_receive_rules.specs.BackingOff.{may_need}
@@ -14,7 +14,6 @@ use Rattle.norm_receive_rules.specs.Leaving.{is_in, goes_to, enters, entered}
 use Rattle.norm_receive_rules.specs.ReceiverState.{ReceiverState}
 use Rattle.norm_receive_rules.specs.Receiving.{info_received, data_received, flush_received, squelch_received, takes_in, in_instance, message_received, received}
 use Rattle.norm_send_rules.specs.Restarting.{instances, first_id}
-use Rattle.norm_send_rules.specs.SenderState.{SenderState}
 use Rattle.norm_send_rules.specs.Ticking.{ticked}
 use Rattle.norm_safety.specs.Events.{Event}
 use Rattle.norm_safety.specs.History.{Happening, happens}
@@ -30,16 +29,15 @@ use Rattle.norm_safety.proofs.LowNeeds.{AreUpTo}
 use Rattle.norm_safety.proofs.OrderRun.{run_of}
 use Rattle.norm_safety.proofs.ReceiverMoves.{need_same, knowing, near_named}
 use Rattle.norm_safety.proofs.SenderHolds.{orders_hold}
-use Rattle.norm_safety.proofs.Spoken.{IsBegun, Speaks, IsTrueOf, SaysTrue, IsSpoken, SpeaksTrue, current_begun}
+use Rattle.norm_safety.proofs.Spoken.{Speaks, IsTrueOf, SaysTrue, IsSpoken, SpeaksTrue, current_begun}
 use Rattle.norm_safety.proofs.TickTrue.{SentTrue, tick_true}
 use Rattle.norm_safety.proofs.WorldHolds.{CameTo, AtNode, AtReceiver, WorldHolds, all_contains}
 use Rattle.norm_laws.proofs.PassingWords.{same_or_above}
 use Rattle.norm_recovery.specs.MembersEnter.{IsOwnMessage, IsOwn, MembersEnter}
-use Rattle.norm_recovery.specs.TailKeeps.{Stays}
 use Rattle.norm_recovery.proofs.KeepsTail.{tail_keeps}
-use Rattle.norm_recovery.proofs.LawfulTail.{few_still, tail_is_lawful}
+use Rattle.norm_recovery.proofs.LawfulTail.{few_still}
 use Rattle.norm_recovery.proofs.MembersOwn.{GivesOwn, tick_own}
-use Rattle.norm_recovery.proofs.MembersRun.{HasInstance, IsOfSender, Follows, FollowsAt, follows_in_run}
+use Rattle.norm_recovery.proofs.MembersRun.{IsOfSender, Follows, FollowsAt, follows_in_run}
 use Rattle.norm_recovery.proofs.MembersTail.{last_is_run, found_holds, LedTo, at_moment}
 
 -- ---- a message

@@ -1,5 +1,5 @@
 -- What a receiver lost in its instance it handed up as lost.
-use Rattle.std.proofs.Common.{◌≡◌, ℕ, zero, suc, ◌-◌, cond, List, [], ◌∷◌, ◌++◌, length, Bool, true, false, Option, None, Some, Result, Ok, Err, refl, sym, ap, ◌∙◌, subst, append_assoc, ◌⊎◌, inl, inr}
+use Rattle.std.proofs.Common.{◌≡◌, ℕ, zero, suc, ◌-◌, List, [], ◌∷◌, ◌++◌, length, Bool, true, false, Option, None, Some, Result, Ok, Err, refl, sym, ap, ◌∙◌, subst, append_assoc}
 use Rattle.std.specs.Prelude.{◌==◌, ◌&&◌, ◌||◌, not, nat_lt, unwrap_or, option_and_then}
 use Rattle.std.specs.List.{list_any}
 use Rattle.std.proofs.lemmas.List.{append-nil}
@@ -9,7 +9,6 @@ use Rattle.fec_plan.specs.declared.position.Position.{Position}
 use Rattle.norm_ext.specs.Extensions.{Extension, fti_of}
 use Rattle.norm_ext.specs.Message.{Message, Info, Data, Flush, Eot, Squelch, RepairAdv, AckReq, Opaque, Nack, Ack, Report}
 use Rattle.norm_ext.specs.ObjectIds.{index_named}
-use Rattle.norm_ext.specs.Requests.{Request}
 use Rattle.norm_ext.specs.declared.fti.Fti.{Fti}
 use Rattle.norm_ext.specs.declared.refusal.Refusal.{Refusal}
 use Rattle.norm_order.specs.declared.up.Up.{Up}
@@ -18,7 +17,7 @@ use Rattle.norm_receive_rules.specs.BackingOff.{may_need}
 use Rattle.norm_receive_rules.specs.Fitting.{fit_of, fitted, lets_put}
 use Rattle.norm_receive_rules.specs.HandingUp.{after_object, handed, is_whole, next_segment, hands_object, hands_segment, hands_next, hands_one, hands_most, handed_up}
 use Rattle.norm_receive_rules.specs.Holding.{Holding, Plan}
-use Rattle.norm_receive_rules.specs.Leaving.{is_in, goes_to, enters, entered}
+use Rattle.norm_receive_rules.specs.Leaving.{is_in, goes_to, enters}
 use Rattle.norm_receive_rules.specs.Losing.{loses_one, loses_before, is_cut_off, loses_at, squelched}
 use Rattle.norm_receive_rules.specs.Overhearing.{overheard, adv_overheard}
 use Rattle.norm_receive_rules.specs.Plans.{says_stream, plan_of, has_its_info}

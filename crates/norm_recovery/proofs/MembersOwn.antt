@@ -1,5 +1,5 @@
 -- What a tick of the sender gives is of its current instance.
-use Rattle.std.proofs.Common.{◌≡◌, ℕ, List, [], ◌∷◌, length, Bool, true, false, Option, None, Some, refl, ap, ◌∙◌}
+use Rattle.std.proofs.Common.{◌≡◌, ℕ, List, [], ◌∷◌, length, Bool, true, false, Option, None, Some, refl}
 use Rattle.std.specs.Prelude.{⊤, ◌==◌, nat_lt, nat_le}
 use Rattle.norm_base.specs.Settings.{Settings}
 use Rattle.norm_ext.specs.Written.{Written, writes}
@@ -7,11 +7,10 @@ use Rattle.norm_order.specs.Entries.{Object, Whole, Stream}
 use Rattle.norm_send_rules.specs.Closing.{round_closed}
 use Rattle.norm_send_rules.specs.Flushing.{most_flushes, may_flush, flushes_for, expired, flushes_oldest, flushes_no_more, flushed, flushes_in_turn, flushes}
 use Rattle.norm_send_rules.specs.Messages.{squelch_message}
-use Rattle.norm_send_rules.specs.SenderState.{SenderState, Instance, Watermark, Round}
+use Rattle.norm_send_rules.specs.SenderState.{SenderState, Watermark, Round}
 use Rattle.norm_send_rules.specs.Sending.{next_new, behind, noted, sends, repair_flags, object_of, message_of, sends_want, repairs_next, sends_new}
 use Rattle.norm_send_rules.specs.Ticking.{closed_where_due, sends_further, sends_wanted, sends_first, ticked}
-use Rattle.norm_send_rules.specs.Wants.{want_index}
-use Rattle.norm_send_rules.specs.Watermarks.{oldest, pending, keeps_oldest, counted_anew, end_where}
+use Rattle.norm_send_rules.specs.Watermarks.{oldest, pending, keeps_oldest, end_where}
 use Rattle.norm_send_rules.specs.declared.news.Outcome.TheVariants.{Expired}
 use Rattle.norm_send_rules.specs.declared.want.Want.{Want}
 use Rattle.norm_send_rules.specs.declared.want.Want.TheVariants.{Info, Symbol}

@@ -1,27 +1,25 @@
 -- Where members stand after a lawful run in `hold` mode, and so at every moment of its tails.
 use Rattle.std.proofs.Common.{◌≡◌, ℕ, ◌<◌, ◌≤◌, List, [], ◌∷◌, ◌++◌, map, cond, Bool, true, false, Option, None, Some, refl, sym, ap, ◌∙◌, subst, append_assoc, arith}
-use Rattle.std.specs.Prelude.{find, ◌==◌, nat_eq}
-use Rattle.std.specs.List.{AllByRecursion, list_any, IsDistinct}
+use Rattle.std.specs.Prelude.{◌==◌}
+use Rattle.std.specs.List.{AllByRecursion}
 use Rattle.std.proofs.lemmas.Bool.Decides.{Decides-eqb}
 use Rattle.norm_base.specs.Settings.{Settings, InRange}
 use Rattle.norm_base.specs.declared.kinds.Mode.TheVariants.{Hold}
 use Rattle.norm_base.specs.declared.node.Origin.{Origin}
-use Rattle.fec_plan.specs.Points.{Point, point, point_of, point_before}
+use Rattle.fec_plan.specs.Points.{point, point_of, point_before}
 use Rattle.norm_ext.specs.InstanceIds.{rise}
 use Rattle.norm_order.specs.declared.up.Up.{Up}
 use Rattle.norm_receive_rules.specs.Leaving.{is_in}
 use Rattle.norm_receive_rules.specs.ReceiverState.{ReceiverState}
 use Rattle.norm_send_rules.specs.Restarting.{instances, first_id}
-use Rattle.norm_send_rules.specs.SenderState.{SenderState, Instance}
+use Rattle.norm_send_rules.specs.SenderState.{Instance}
 use Rattle.norm_safety.specs.Events.{Event}
 use Rattle.norm_safety.specs.Fronts.{IsFront}
 use Rattle.norm_safety.specs.Hands.{hands}
 use Rattle.norm_safety.specs.History.{Happening, happens, last_world}
-use Rattle.norm_safety.specs.InOrder.{came_to, drop_of}
+use Rattle.norm_safety.specs.InOrder.{came_to}
 use Rattle.norm_safety.specs.Jobs.{AreEvents}
 use Rattle.norm_safety.specs.Lawful.{Lawful}
-use Rattle.norm_safety.specs.LosesNothing.{is_loss}
-use Rattle.norm_safety.specs.OnceEach.{order_of, instance_ids}
 use Rattle.norm_safety.specs.Tail.{Course, events_of}
 use Rattle.norm_safety.specs.World.{World, world_opening, receiver_at}
 use Rattle.norm_safety.specs.WorldStep.{world_step, run_from, run}
@@ -44,7 +42,7 @@ use Rattle.norm_recovery.specs.TailLawful.{MayGoOn}
 use Rattle.norm_recovery.specs.TailOf.{IsTail, IsMoment}
 use Rattle.norm_recovery.proofs.LawfulTail.{tail_is_lawful}
 use Rattle.norm_recovery.proofs.MembersPoint.{none_lost, not_behind, nothing_dropped}
-use Rattle.norm_recovery.proofs.MembersRun.{HasInstance, IsOfSender, Follows, FollowsAt, follows_in_run}
+use Rattle.norm_recovery.proofs.MembersRun.{IsOfSender, Follows, FollowsAt, follows_in_run}
 use Rattle.norm_recovery.proofs.TailCourses.{run_joined}
 
 pub last_is_run : (p : Settings) (w : World) (events : List Event) → last_world w (happens p w events) ≡ run_from p w events

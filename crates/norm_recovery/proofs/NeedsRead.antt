@@ -1,14 +1,14 @@
 -- The requests of a NACK ask for all of each need that they were written for.
-use Rattle.std.proofs.Common.{◌≡◌, ℕ, zero, suc, ◌+◌, ◌-◌, ◌<◌, ◌≤◌, cond, List, [], ◌∷◌, ◌++◌, map, filter, Bool, true, false, Option, None, Some, refl, sym, ap, ◌∙◌, subst, arith, ◌⊎◌, inl, inr}
-use Rattle.std.specs.Prelude.{Contains, ◌==◌, ◌&&◌, ◌||◌, not, flat_map, nat_le}
+use Rattle.std.proofs.Common.{◌≡◌, ℕ, ◌-◌, ◌<◌, ◌≤◌, cond, List, [], ◌∷◌, ◌++◌, map, filter, Bool, true, false, Option, None, Some, refl, sym, ap, ◌∙◌, subst, arith, ◌⊎◌, inl, inr}
+use Rattle.std.specs.Prelude.{◌==◌, ◌&&◌, ◌||◌, flat_map, nat_le}
 use Rattle.std.specs.List.{AllByRecursion, list_any}
 use Rattle.std.proofs.lemmas.Bool.{cases_lt}
 use Rattle.std.proofs.lemmas.Bool.Decides.{Decides-eqb, leb_tells}
 use Rattle.norm_base.specs.Settings.{Settings}
-use Rattle.fec_plan.specs.Points.{Point, point, point_of, position, position_before, same_point, reaches}
+use Rattle.fec_plan.specs.Points.{point, point_of, position, same_point, reaches}
 use Rattle.fec_plan.specs.declared.position.Position.{Position}
 use Rattle.fec_plan.proofs.PositionLemmas.{Behind, behind, reached}
-use Rattle.norm_ext.specs.Asked.{Asked, asked_items, written_item, request_alone, asked_before, requests_asked}
+use Rattle.norm_ext.specs.Asked.{asked_items, written_item, request_alone, asked_before, requests_asked}
 use Rattle.norm_ext.specs.Asking.{Span, span, Named, named, named_by, spans_of, pairs, pair_span, item_span, is_proper, block_span, object_span, asked_spans, asks_info, lies_in, Count, asked_counts}
 use Rattle.norm_ext.specs.Requests.{Request, RequestItem}
 use Rattle.norm_ext.specs.declared.kinds.Form.{Form}
@@ -18,7 +18,7 @@ use Rattle.norm_ext.proofs.IdLemmas.{named_again_law}
 use Rattle.norm_receive_rules.specs.HeardNeeds.{is_asked}
 use Rattle.norm_receive_rules.specs.Holding.{Holding}
 use Rattle.norm_receive_rules.specs.Nack.{item_of, asked_of, indices_of}
-use Rattle.norm_receive_rules.specs.NackLaws.{BlocksAreAsked, InfoIsAsked, width_at, IsAskedFor, NamesBlocks}
+use Rattle.norm_receive_rules.specs.NackLaws.{InfoIsAsked, width_at, IsAskedFor, NamesBlocks}
 use Rattle.norm_receive_rules.specs.Needs.{Need, Object as Unknown, ObjectInfo, Symbols, Source, Rest}
 use Rattle.norm_safety.proofs.EntryLemmas.{clash}
 use Rattle.norm_safety.proofs.PleaKept.{IsIn, in_of, in_front, in_behind, in_map}

@@ -14,7 +14,7 @@ use Rattle.norm_receive_rules.specs.ReceiverState.{ReceiverState}
 use Rattle.norm_receive_rules.specs.ReceiverStep.{ReceiverEvent, receiver_step}
 use Rattle.norm_receive_rules.specs.ReceiverStep as receiver
 use Rattle.norm_receive_rules.proofs.StepLemmas.{step_laws}
-use Rattle.norm_send_rules.specs.SenderState.{SenderState, Instance}
+use Rattle.norm_send_rules.specs.SenderState.{Instance}
 use Rattle.norm_send_rules.specs.SenderStep as sender
 use Rattle.norm_send_rules.specs.Ticking.{ticked}
 use Rattle.norm_safety.specs.Events.{Event, Commanded, Delivered, Ticked, Offered, UpTaken, NewsAsked, Sent}

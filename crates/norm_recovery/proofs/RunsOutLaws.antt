@@ -1,5 +1,5 @@
 -- What one sender has to send runs out.
-use Rattle.std.proofs.Common.{◌≡◌, ℕ, ◌+◌, ◌*◌, ◌<◌, ◌≤◌, length, Bool, true, false, arith}
+use Rattle.std.proofs.Common.{◌+◌, ◌*◌, ◌≤◌, Bool, true, false, arith}
 use Rattle.norm_base.specs.Settings.{Settings, InRange}
 use Rattle.norm_send_rules.specs.Laws.{WantsHold}
 use Rattle.norm_send_rules.specs.Repairable.{repairable}

@@ -1,5 +1,5 @@
 -- What is new: if there is any, the first of it is next, and once that was sent there is less.
-use Rattle.std.proofs.Common.{◌≡◌, ℕ, zero, suc, ◌+◌, ◌<◌, ◌≤◌, cond, List, [], ◌∷◌, ◌++◌, length, take, drop, Bool, true, false, Option, None, Some, refl, sym, ap, ◌∙◌, subst, arith, ◌⊎◌, inl, inr}
+use Rattle.std.proofs.Common.{◌≡◌, ℕ, zero, suc, ◌+◌, ◌<◌, ◌≤◌, cond, List, [], ◌∷◌, ◌++◌, length, take, drop, Bool, true, false, None, Some, refl, sym, ap, ◌∙◌, subst, arith, inl, inr}
 use Rattle.std.specs.Prelude.{filter, find, not, ◌&&◌}
 use Rattle.std.specs.List.{AllByRecursion}
 use Rattle.std.proofs.lemmas.Bool.{ltb-false, leb-false}
@@ -15,7 +15,7 @@ use Rattle.norm_send_rules.specs.Sending.{new_from, next_new, behind}
 use Rattle.norm_send_rules.specs.Wants.{want_before, want_index}
 use Rattle.norm_send_rules.specs.declared.want.Want.{Want}
 use Rattle.norm_send_rules.specs.declared.want.Want.TheVariants.{Info, Symbol}
-use Rattle.norm_laws.proofs.NewOrder.{clash, all_implied, all_append, Earlier, earlier_decides, lower_first, IsAmong, new_among, new_split, none_found, shapes_drop}
+use Rattle.norm_laws.proofs.NewOrder.{clash, all_implied, Earlier, earlier_decides, lower_first, IsAmong, new_among, new_split, none_found, shapes_drop}
 use Rattle.norm_recovery.specs.RunsOut.{all_new}
 
 -- the want is new

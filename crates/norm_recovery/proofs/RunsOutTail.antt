@@ -1,8 +1,7 @@
 -- In a tail all that is to be sent runs out.
 use Rattle.std.proofs.Math.Nat.{min-le_left, mul-le-mul_right}
-use Rattle.std.proofs.Common.{◌≡◌, ℕ, zero, suc, ◌+◌, ◌*◌, ◌<◌, ◌≤◌, cond, List, [], ◌∷◌, ◌++◌, length, Bool, true, false, Option, None, Some, Result, Ok, Err, refl, sym, ap, ◌∙◌, subst, arith, ◌⊎◌, inl, inr}
-use Rattle.std.specs.Prelude.{◌==◌, filter, map, nat_le, nat_lt}
-use Rattle.std.specs.List.{AllByRecursion}
+use Rattle.std.proofs.Common.{◌≡◌, ℕ, zero, suc, ◌+◌, ◌*◌, ◌≤◌, List, [], ◌∷◌, ◌++◌, length, Bool, true, false, Option, None, Some, Result, Ok, refl, sym, ap, ◌∙◌, subst, arith, ◌⊎◌, inl, inr}
+use Rattle.std.specs.Prelude.{◌==◌, map, nat_le, nat_lt}
 use Rattle.std.proofs.lemmas.Bool.Decides.{Decides-eqb}
 use Rattle.norm_base.specs.Settings.{Settings, InRange}
 use Rattle.fec_plan.specs.declared.position.Position.{Position}
@@ -17,7 +16,7 @@ use Rattle.norm_order.specs.Shapes.{is_source}
 use Rattle.norm_send_rules.specs.Closing.{round_closed}
 use Rattle.norm_send_rules.specs.Flushing.{expired}
 use Rattle.norm_send_rules.specs.Hearing.{nack_counts, ack_counts, joined_round, listed_past, rises, credited, credited_by, message_heard, heard}
-use Rattle.norm_send_rules.specs.InWindow.{current_shapes, last_index, stands_behind}
+use Rattle.norm_send_rules.specs.InWindow.{current_shapes, last_index}
 use Rattle.norm_send_rules.specs.Laws.{WantsHold}
 use Rattle.norm_send_rules.specs.Repairable.{repairable}
 use Rattle.norm_send_rules.specs.SenderState.{SenderState, Instance, Round}
@@ -37,8 +36,7 @@ use Rattle.norm_send_rules.proofs.TickLemmas.{tick_keeps}
 use Rattle.norm_send_rules.proofs.WantLemmas.{hold_same}
 use Rattle.norm_safety.specs.Events.{Event, Commanded, Delivered, Ticked, Offered, UpTaken, NewsAsked}
 use Rattle.norm_safety.specs.History.{Happening}
-use Rattle.norm_safety.specs.Recovery.{ComesBy}
-use Rattle.norm_safety.specs.Tail.{Course, course_from, comes, sender_ticks, sent_twice, tail_turn, tail_turns}
+use Rattle.norm_safety.specs.Tail.{Course, course_from, comes, sender_ticks, tail_turn, tail_turns}
 use Rattle.norm_safety.specs.World.{World}
 use Rattle.norm_safety.specs.WorldStep.{world_step, run}
 use Rattle.norm_safety.proofs.SenderKeeps.{ticked_keeps}
@@ -46,7 +44,7 @@ use Rattle.norm_safety.proofs.WantRunLemmas.{wants_hold_in_runs}
 use Rattle.norm_laws.proofs.CountSender.{sender_after, sender_is}
 use Rattle.norm_laws.proofs.LaterTailLemmas.{Quiet, if_own}
 use Rattle.norm_laws.proofs.SentRests.{heard_leaves, told_leaves}
-use Rattle.norm_recovery.specs.RunsOut.{all_new, one_if, to_send, RunsOut, ClosesNone, closed_at, last_closing, RunsOutIn, TailRunsOut}
+use Rattle.norm_recovery.specs.RunsOut.{all_new, one_if, to_send, RunsOut, ClosesNone, closed_at, last_closing, TailRunsOut}
 use Rattle.norm_recovery.proofs.RunsOutLaws.{few}
 use Rattle.norm_recovery.proofs.RunsOutTick.{closed_rests, begins, goes_on, is_out, longer}
 use Rattle.norm_recovery.proofs.RunsOutTurns.{tells_keep, round_keeps}

@@ -1,6 +1,6 @@
 -- A tick of one sender, and what is to be sent.
 use Rattle.std.proofs.Math.Nat.{min-le_left, le-min, suc-mul, mul-le-mul_right}
-use Rattle.std.proofs.Common.{◌≡◌, ℕ, zero, suc, ◌+◌, ◌*◌, ◌<◌, ◌≤◌, ◌⊎◌, inl, inr, List, [], ◌∷◌, length, Bool, true, false, cond, Option, None, Some, refl, sym, ap, subst, ◌∙◌, arith}
+use Rattle.std.proofs.Common.{◌≡◌, ℕ, zero, suc, ◌+◌, ◌*◌, ◌<◌, ◌≤◌, ◌⊎◌, inl, inr, List, [], ◌∷◌, length, Bool, true, false, Option, None, Some, refl, sym, ap, subst, ◌∙◌, arith}
 use Rattle.std.specs.Prelude.{nat_lt, nat_le, ◌==◌}
 use Rattle.std.proofs.lemmas.Bool.{cases_lt}
 use Rattle.std.proofs.lemmas.Bool.Decides.{Decides-ltb}
@@ -12,14 +12,14 @@ use Rattle.norm_send_rules.specs.Closing.{round_closed}
 use Rattle.norm_send_rules.specs.Flushing.{most_flushes, may_flush, flushes_for, expired, flushes_oldest, flushes_no_more, flushed, flushes_in_turn, flushes}
 use Rattle.norm_send_rules.specs.Messages.{squelch_message}
 use Rattle.norm_send_rules.specs.SenderState.{SenderState, Watermark, Round}
-use Rattle.norm_send_rules.specs.Sending.{next_new, behind, noted, sends, repair_flags, sends_want, repairs_next, sends_new}
+use Rattle.norm_send_rules.specs.Sending.{next_new, behind, sends, repair_flags, sends_want, repairs_next, sends_new}
 use Rattle.norm_send_rules.specs.Ticking.{closed_where_due, sends_further, sends_wanted, sends_first, sends_in_time, ticked}
 use Rattle.norm_send_rules.specs.Watermarks.{oldest, keeps_oldest, counted_anew, end_where, pending}
 use Rattle.norm_send_rules.specs.declared.news.Outcome.TheVariants.{Expired}
 use Rattle.norm_send_rules.specs.declared.want.Want.{Want}
 use Rattle.norm_send_rules.specs.declared.want.Want.TheVariants.{Info, Symbol}
 use Rattle.norm_laws.proofs.NewOrder.{clash}
-use Rattle.norm_recovery.specs.RunsOut.{all_new, one_if, to_send, RunsOut, ClosesNone}
+use Rattle.norm_recovery.specs.RunsOut.{one_if, to_send, RunsOut, ClosesNone}
 use Rattle.norm_recovery.proofs.RunsOutNew.{none_new, fewer_new}
 
 not_zero : (n : ℕ) → 0 ≡ suc n → ⊥

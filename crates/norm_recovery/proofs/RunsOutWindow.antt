@@ -1,13 +1,12 @@
 -- The wants are no more than the infos and encoded symbols of the window, and nor is what is new.
 use Rattle.std.proofs.Math.Nat.{zero-div}
-use Rattle.std.proofs.Common.{◌≡◌, ℕ, zero, suc, ◌+◌, ◌*◌, ◌/◌, ◌<◌, ◌≤◌, cond, List, [], ◌∷◌, ◌++◌, length, drop, Bool, true, false, Option, None, Some, refl, sym, ap, ◌∙◌, subst, arith, ◌⊎◌, inl, inr}
-use Rattle.std.specs.Prelude.{filter, not, ◌==◌, ◌&&◌, nat_lt, min, slice_get}
+use Rattle.std.proofs.Common.{◌≡◌, ℕ, zero, suc, ◌+◌, ◌*◌, ◌/◌, ◌<◌, ◌≤◌, cond, List, [], ◌∷◌, ◌++◌, length, Bool, true, false, Option, None, Some, refl, sym, ap, ◌∙◌, subst, arith, ◌⊎◌, inl, inr}
+use Rattle.std.specs.Prelude.{filter, not, ◌&&◌, nat_lt, min, slice_get}
 use Rattle.std.specs.List.{AllByRecursion}
 use Rattle.std.proofs.lemmas.Bool.Decides.{Decides-eqb, Decides-ltb}
 use Rattle.norm_base.specs.Settings.{Settings, InRange}
 use Rattle.fec_plan.specs.Partition.{source_symbols, encoding_symbols}
 use Rattle.fec_plan.specs.Points.{position}
-use Rattle.fec_plan.specs.declared.position.Position.{Position}
 use Rattle.norm_order.specs.Entries.{Entry}
 use Rattle.norm_order.specs.Shapes.{Shape, shape_of, shapes_of, closed_in, encoded_in, is_full, closed_blocks, at_index}
 use Rattle.norm_send_rules.specs.InWindow.{current_shapes, stands_behind}
@@ -21,7 +20,7 @@ use Rattle.norm_send_rules.specs.declared.want.Want.TheVariants.{Info, Symbol}
 use Rattle.norm_send_rules.proofs.ShapeLemmas.{Blocks, blocks_of, HasParity, shape_parity}
 use Rattle.norm_laws.proofs.GoneSent.{block_there}
 use Rattle.norm_laws.proofs.NewOrder.{clash, all_implied, Earlier, earlier_decides, new_rises}
-use Rattle.norm_laws.proofs.StreamNew.{IsNewOf, IsNew, new_of_all, all_parts, rows_get}
+use Rattle.norm_laws.proofs.StreamNew.{IsNew, new_of_all, all_parts, rows_get}
 use Rattle.norm_recovery.specs.RunsOut.{all_new}
 
 -- ---- a rising list of wants that are all in another one is no longer

@@ -1,6 +1,6 @@
 -- What each event of a tail keeps, the whole tail keeps.
 use Rattle.std.proofs.Common.{◌≡◌, ℕ, zero, suc, ◌+◌, ◌<◌, cond, List, [], ◌∷◌, ◌++◌, length, map, filter, Bool, true, false, not, Option, None, Some, refl, sym, ap, ◌∙◌, subst, arith}
-use Rattle.std.specs.Prelude.{⊤, Contains, find, fold, ◌==◌, ◌≢◌, ◌&&◌}
+use Rattle.std.specs.Prelude.{Contains, find, fold, ◌==◌, ◌≢◌, ◌&&◌}
 use Rattle.std.specs.Fn.{iterate}
 use Rattle.std.specs.List.{AllByRecursion}
 use Rattle.std.specs.Option.{option_map, option_map_or}
@@ -14,7 +14,7 @@ use Rattle.norm_receive_rules.specs.Holding.{Holding}
 use Rattle.norm_receive_rules.specs.ReceiverState.{ReceiverState}
 use Rattle.norm_receive_rules.specs.ReceiverStep as receiver
 use Rattle.norm_receive_rules.specs.Taking.{took}
-use Rattle.norm_safety.specs.Events.{Event, Commanded, Delivered, Ticked, Offered, UpTaken, NewsAsked}
+use Rattle.norm_safety.specs.Events.{Event, Delivered, Ticked, Offered, UpTaken, NewsAsked}
 use Rattle.norm_safety.specs.InTime.{WasOffered}
 use Rattle.norm_safety.specs.Lawful.{AllTaken, WasGiven}
 use Rattle.norm_safety.specs.Tail.{Course, comes, untold, tells, untaken, takes, copy_comes, others_than, given_by, passes_on, sender_ticks, receiver_ticks, serves, goes_round, tail_turn, tail_turns, is_open_mark, cut_turn, Tail, turn_more, tail_until}
@@ -22,7 +22,7 @@ use Rattle.norm_safety.specs.World.{World, receiver_at, same_octets, is_of, offe
 use Rattle.norm_safety.specs.WorldLaws.{nodes_of}
 use Rattle.norm_safety.specs.WorldStep.{world_step}
 use Rattle.norm_safety.proofs.EntryLemmas.{clash}
-use Rattle.norm_safety.proofs.FrontLemmas.{both, of_both, same_list, list_itself}
+use Rattle.norm_safety.proofs.FrontLemmas.{of_both, list_itself}
 use Rattle.norm_safety.proofs.WorldLemmas.{world_laws}
 use Rattle.norm_recovery.specs.TailOf.{ComesInTail}
 

@@ -1,6 +1,6 @@
 -- Each step of a sender leaves it timely.
 use Rattle.std.proofs.Math.Nat.{min-le_left}
-use Rattle.std.proofs.Common.{◌≡◌, ℕ, zero, suc, ◌+◌, ◌*◌, ◌<◌, ◌≤◌, List, [], ◌∷◌, ◌++◌, length, map, Bool, true, false, Option, None, Some, Result, Ok, Err, refl, sym, subst, ◌∙◌, arith}
+use Rattle.std.proofs.Common.{ℕ, zero, suc, ◌+◌, ◌*◌, ◌≤◌, List, [], ◌∷◌, ◌++◌, length, map, Bool, true, false, Option, None, Some, Result, Ok, Err, arith}
 use Rattle.std.specs.Prelude.{nat_lt, nat_le, ◌==◌, IfSome, ⊤}
 use Rattle.norm_base.specs.Settings.{Settings}
 use Rattle.norm_base.specs.declared.kinds.Kind.TheVariants as kind
@@ -20,7 +20,7 @@ use Rattle.norm_send_rules.specs.Closing.{round_closed}
 use Rattle.norm_send_rules.specs.Commanding.{commanded}
 use Rattle.norm_send_rules.specs.Enqueuing.{object_fault, joined}
 use Rattle.norm_send_rules.specs.Flushing.{most_flushes, may_flush, flushes_for, expired, flushes_oldest, flushes_no_more, flushed, flushes_in_turn, flushes}
-use Rattle.norm_send_rules.specs.Hearing.{nack_counts, ack_counts, joined_round, round_at, listed_past, rises, credited, credited_by, message_heard, asked_now}
+use Rattle.norm_send_rules.specs.Hearing.{nack_counts, ack_counts, joined_round, listed_past, rises, credited, credited_by, message_heard}
 use Rattle.norm_send_rules.specs.InWindow.{last_index, current_shapes}
 use Rattle.norm_send_rules.specs.Marking.{is_no_quorum, most_open, watermark_at, with_watermark, cut_and_marked}
 use Rattle.norm_send_rules.specs.Messages.{squelch_message}

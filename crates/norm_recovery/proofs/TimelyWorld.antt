@@ -1,6 +1,6 @@
 -- Each event leaves all nodes timely, and so each run does.
-use Rattle.std.proofs.Common.{◌≡◌, ℕ, ◌+◌, ◌*◌, ◌≤◌, List, [], ◌∷◌, Bool, true, false, Option, None, Some, refl, arith}
-use Rattle.std.specs.Prelude.{◌==◌, find, map, ⊤}
+use Rattle.std.proofs.Common.{◌≡◌, ℕ, List, [], ◌∷◌, Bool, true, false, Option, None, Some, refl, arith}
+use Rattle.std.specs.Prelude.{◌==◌, find, map}
 use Rattle.std.specs.List.{AllByRecursion}
 use Rattle.norm_base.specs.Members.{receivers_of}
 use Rattle.norm_base.specs.Settings.{Settings}

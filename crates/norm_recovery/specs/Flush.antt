@@ -1,5 +1,5 @@
 -- A flush goes as soon as nothing else is to be sent, and who hears it knows its position (RFC 5740 section 5.5.3).
-use Rattle.std.specs.Prelude.{◌≡◌, ℕ, ◌+◌, ◌*◌, ◌<◌, ◌≤◌, List, Option, Some, Ok, IfSome, true}
+use Rattle.std.specs.Prelude.{◌≡◌, ℕ, ◌+◌, ◌*◌, ◌<◌, ◌≤◌, List, Some, Ok, IfSome, true}
 use Rattle.norm_base.specs.Settings.{Settings}
 use Rattle.fec_plan.specs.Points.{position, reached_by}
 use Rattle.fec_plan.specs.declared.position.Position.{Position}

@@ -9,7 +9,7 @@ use Rattle.norm_order.specs.Shapes.{is_source}
 use Rattle.norm_send_rules.specs.Hearing.{ack_counts, heard}
 use Rattle.norm_send_rules.specs.InWindow.{current_shapes}
 use Rattle.norm_send_rules.specs.SenderState.{SenderState}
-use Rattle.norm_send_rules.specs.SenderStep.{SenderEvent, Commanded, Delivered, Ticked, NewsAsked, sender_step}
+use Rattle.norm_send_rules.specs.SenderStep.{SenderEvent, Commanded, sender_step}
 use Rattle.norm_safety.specs.CreditsMembers.{is_listed_past, confirmed}
 
 -- an event of a sender is no command

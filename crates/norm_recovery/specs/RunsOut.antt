@@ -5,7 +5,7 @@ use Rattle.norm_base.specs.Settings.{Settings, InRange}
 use Rattle.norm_send_rules.specs.InWindow.{current_shapes, stands_behind}
 use Rattle.norm_send_rules.specs.Laws.{WantsHold}
 use Rattle.norm_send_rules.specs.Repairable.{repairable}
-use Rattle.norm_send_rules.specs.SenderState.{SenderState, Round}
+use Rattle.norm_send_rules.specs.SenderState.{SenderState}
 use Rattle.norm_send_rules.specs.Sending.{new_from}
 use Rattle.norm_send_rules.specs.Ticking.{closed_where_due, ticked}
 use Rattle.norm_send_rules.specs.Wants.{want_before}
