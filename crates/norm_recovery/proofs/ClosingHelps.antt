@@ -87,7 +87,7 @@ of_encoded index (s ∷ shapes) y h = go y (in_either y (encoded_of index s) (en
     go y (inr there) more = further y (more there)
 
 -- what the window has is of the order, and stands behind the drop point
-of_window : (p : Settings) (s : SenderState) (y : Want) → In y (in_window p s)
+pub of_window : (p : Settings) (s : SenderState) (y : Want) → In y (in_window p s)
     → (is_of_order (current_shapes p s) y ≡ true) × (stands_behind s.current.drop y ≡ true)
 of_window p s y h =
     let kept = of_kept (stands_behind s.current.drop) y (encoded_from 0 (current_shapes p s)) h in

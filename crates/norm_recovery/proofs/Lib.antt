@@ -18,6 +18,7 @@ pub mod ClosingHelps
 pub mod RoundAsks
 pub mod NeedHeld
 pub mod NeedLacks
+pub mod NackAsks
 pub mod TailWalk
 pub mod TailCourses
 pub mod KeepsSender

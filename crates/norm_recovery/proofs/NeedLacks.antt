@@ -508,7 +508,7 @@ module _ (p : Settings) (range : InRange p) (s : SenderState) (h : Holding) (k :
 -- ---- after a lawful run
 
 -- each receiver saw what is of its instance's order
-seen_from : (p : Settings) → InRange p → (past : List Happening) (accepted : List Origin) (w : World) (events : List Event) → LawfulFrom p w accepted events
+pub seen_from : (p : Settings) → InRange p → (past : List Happening) (accepted : List Origin) (w : World) (events : List Event) → LawfulFrom p w accepted events
     → AreEvents events → WorldHolds p past accepted w → SeenWorld p w → SeenWorld p (run_from p w events)
 seen_from p range past accepted w [] lawful are holds seen = seen
 seen_from p range past accepted w (e ∷ events) lawful are holds seen =

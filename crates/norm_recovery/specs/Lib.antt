@@ -15,6 +15,7 @@ pub mod Left
 pub mod Asking
 pub mod RoundAsks
 pub mod NeedLacks
+pub mod NackAsks
 pub mod FlushLacks
 pub mod FlushReaches
 pub mod LeftHeard

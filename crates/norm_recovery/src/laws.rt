@@ -11,8 +11,9 @@ ghost use Rattle.norm_recovery.specs.LeftNeverRises.{LeftNeverRises};
 ghost use Rattle.norm_recovery.specs.MarksEnd.{MarksEnd};
 ghost use Rattle.norm_recovery.specs.MembersEnter.{MembersEnter};
 ghost use Rattle.norm_recovery.specs.MembersStand.{MembersStand};
-ghost use Rattle.norm_recovery.specs.NeedsRead.{NeedsAreRead};
+ghost use Rattle.norm_recovery.specs.NackAsks.{NackAsks};
 ghost use Rattle.norm_recovery.specs.NeedLacks.{NeedLacks};
+ghost use Rattle.norm_recovery.specs.NeedsRead.{NeedsAreRead};
 ghost use Rattle.norm_recovery.specs.RoundAsks.{RoundAsks};
 ghost use Rattle.norm_recovery.specs.RunsOut.{RunsOutLaws, TailRunsOut};
 ghost use Rattle.norm_recovery.specs.SteadyNeeds.{HadIsNotNeeded};
@@ -111,6 +112,12 @@ pub fn need_lacks()
 /// is of that need. What a round asks for it goes on to ask for, whatever joins it.
 pub fn round_asks()
     ensures { RoundAsks }
+{}
+
+/// In `hold` mode, with no stream in the window, after a run that may go on: if the tick of a member in the current instance gives a NACK, and the sender
+/// hears that, its open round asks then for something of the window that the member lacks.
+pub fn nack_asks()
+    ensures { NackAsks }
 {}
 
 /// With the position of an open watermark a part of the order ends: it is the last source symbol of data or a file, or a closed segment of a
