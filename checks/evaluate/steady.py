@@ -69,7 +69,7 @@ TWO = (PULLED + sent(1, DATA) + [took(2, DATA), took(3, DATA), 'empty', UP] + se
           *sent(2, None), *sent(3, None)])
 # and with a round trip of half a turn: the flush goes again before its acknowledgement is taken
 AGAIN, SECOND_ACK = FLUSH[:7] + '2' + FLUSH[8:], ACK[:7] + '1' + ACK[8:]
-SOON = (FIRST + ASKED + [{'turn': 3, 'now': 3000}, *sent(1, AGAIN), took(1, ACK), *LISTED[2:4], took(2, AGAIN), 'empty', *sent(2, SECOND_ACK)])
+SOON = (FIRST + ASKED + [{'turn': 3, 'now': 3000}, *sent(1, AGAIN), took(1, ACK), *LISTED[3:5], took(2, AGAIN), 'empty', *sent(2, SECOND_ACK)])
 ROWS = [('row 2', row(SCRIPT, FIRST)), ('row 3', row(SCRIPT + '1 mark\n', FIRST + ASKED + LISTED)),
         ('row 3 with two receivers', row(SCRIPT.replace('set b 4', 'set b 4\nset receivers 2') + '1 mark\n', TWO)),
         ('row 3 with a short round trip', row(SCRIPT.replace('set b 4', 'set b 4\nset grtt 500') + '1 mark\n', SOON, grtt=500))]
