@@ -18,9 +18,9 @@ accepted event by event, to end as recorded and to print the recorded text, and 
 its number of turns can be told from its script, and that it ended whole by then. `--tails` compares each recorded tail
 (checks/runs/tails) with the defined one, and damages of the shortest, which have to be refused. `--relays` compares each recorded relay (checks/runs/relays), and lists of calls made by hand. `--gathers` compares
 what is printed of each recorded input of `gather` (checks/runs/gathers), and of the shortest two damages. `--manifests` compares rows of manifests and
-of checks made by hand, and `--folders` the scripts of folders; it makes runs of them, in which the folder has to arrive. `--gate` compares the rows, ten
-runs, the four shortest tails, the relays, manifests and folders made by hand and the shortest inputs of `gather`, and evaluates the cases, the damaged
-runs, all journals and the damaged ones of the ten shortest. NAME is a part of a run's name, or with
+of checks made by hand, and `--folders` scripts of folders; it makes runs of them, in which the folder has to arrive. `--gate` compares the rows, ten
+runs, the four shortest tails, the relays, manifests and scripts of folders made by hand, one run of a folder and the shortest inputs of `gather`, and
+evaluates the cases, the damaged runs, all journals and the damaged ones of the ten shortest. NAME is a part of a run's name, or with
 `--errors` of an error's words, and `--count N` takes N runs evenly (with `--tails` and `--gathers` the N shortest).
 Exit status: 0 where all is as expected, 1 where something differs, 2 where the evaluation failed.
 """
@@ -149,7 +149,7 @@ def main():
                     relayed, parted = relays.look(relays.Relays(tempfile.mkdtemp(dir=scratch)), [])
                     heard, misheard = gathers.look(gathers.Gathers(tempfile.mkdtemp(dir=scratch)), gathers.runs_of(a.runs, (), GATE_GATHERS))
                     spelt, other = manifests.look(manifests.Manifests(tempfile.mkdtemp(dir=scratch)))
-                    arrived, lost = folders.look(folders.Folders(tempfile.mkdtemp(dir=scratch)))
+                    arrived, lost = folders.look(folders.Folders(tempfile.mkdtemp(dir=scratch)), ['a run'])
                     there, astray = rules.look()
                     said = '%s, %s, %s, %s, %s, %s, %s' % (said, judged, relayed, heard, spelt, arrived, there)
                     differ += refused + parted + misheard + other + lost + astray
