@@ -1,7 +1,7 @@
 -- Who the members of a sender are, and what its watermarks ask for, along its steps; and that each watermark that ended was satisfied,
 -- with all members listed past it, or expired, which is still to be told.
-use Rattle.std.proofs.Common.{◌≡◌, ℕ, zero, suc, ◌+◌, ◌<◌, ◌≤◌, cond, List, [], ◌∷◌, ◌++◌, length, map, Bool, true, false, Option, None, Some, Result, Ok, Err, refl, sym, ap, ◌∙◌, subst, arith, ◌⊎◌, inl, inr}
-use Rattle.std.specs.Prelude.{filter, find, not, nat_lt, nat_le, ◌==◌, ◌&&◌, ◌||◌, ⊤}
+use Rattle.std.proofs.Common.{◌≡◌, ℕ, suc, ◌+◌, ◌<◌, ◌≤◌, cond, List, [], ◌∷◌, ◌++◌, length, map, Bool, true, false, Option, None, Some, Result, Ok, refl, sym, ap, ◌∙◌, subst, arith, ◌⊎◌, inl, inr}
+use Rattle.std.specs.Prelude.{filter, find, not, nat_lt, nat_le, ◌==◌, ◌&&◌, ⊤}
 use Rattle.std.specs.List.{AllByRecursion, list_all, range_with_len}
 use Rattle.std.proofs.lemmas.Bool.Decides.{Decides-eqb, Decides-not, leb_tells}
 use Rattle.std.proofs.lemmas.Option.{none-some, same_Some}
@@ -17,8 +17,8 @@ use Rattle.norm_order.specs.Sets.{with_member}
 use Rattle.norm_order.specs.Shapes.{is_source}
 use Rattle.norm_send_rules.specs.SenderState.{SenderState, Listing, Watermark}
 use Rattle.norm_send_rules.specs.InWindow.{last_index, current_shapes}
-use Rattle.norm_send_rules.specs.Watermarks.{is_past, is_open, is_met, needed, count_past, open_watermarks, watermark_of, outcome_of, keeps_oldest, counted_anew, ended_with, end_where, told_later, settled, pending}
-use Rattle.norm_send_rules.specs.Marking.{most_open, with_watermark}
+use Rattle.norm_send_rules.specs.Watermarks.{is_past, is_open, is_met, needed, count_past, watermark_of, outcome_of, keeps_oldest, counted_anew, ended_with, end_where, told_later, settled, pending}
+use Rattle.norm_send_rules.specs.Marking.{with_watermark}
 use Rattle.norm_send_rules.specs.Hearing.{listed_past, rises, credited_at, credited_by, joined_round, nack_counts, ack_counts, message_heard}
 use Rattle.norm_send_rules.specs.Reached.{marks_of}
 use Rattle.norm_send_rules.specs.Sending.{noted}
@@ -26,7 +26,7 @@ use Rattle.norm_send_rules.specs.Flushing.{expired}
 use Rattle.norm_send_rules.specs.Telling.{listing_of, past_news, done_news, told}
 use Rattle.norm_send_rules.specs.Ticking.{ticked}
 use Rattle.norm_send_rules.specs.declared.news.News.{News}
-use Rattle.norm_send_rules.specs.declared.news.News.TheVariants.{Past, Done}
+use Rattle.norm_send_rules.specs.declared.news.News.TheVariants.{Done}
 use Rattle.norm_send_rules.specs.declared.news.Outcome.{Outcome}
 use Rattle.norm_send_rules.specs.declared.news.Outcome.TheVariants.{Open, Satisfied, Expired, Cut}
 use Rattle.norm_send_rules.specs.declared.want.Want.{Want}

@@ -1,6 +1,6 @@
 -- The script of a folder can be run: its manifest is ASCII text, and its commands are few and numbered.
-use Rattle.std.proofs.Common.{◌≡◌, ℕ, zero, suc, ◌+◌, ◌*◌, ◌<◌, ◌≤◌, cond, List, [], ◌∷◌, ◌++◌, length, map, Bool, true, false, None, refl, sym, ap, ◌∙◌, subst, arith, nat_le, slice_index, decimal}
-use Rattle.std.specs.Prelude.{◌==◌, ◌&&◌, not, count_by, ⊤}
+use Rattle.std.proofs.Common.{◌≡◌, ℕ, zero, suc, ◌+◌, ◌<◌, ◌≤◌, cond, List, [], ◌∷◌, ◌++◌, length, map, Bool, true, None, refl, ap, arith, nat_le, slice_index, decimal}
+use Rattle.std.specs.Prelude.{◌==◌, ◌&&◌, not, count_by}
 use Rattle.std.specs.List.{AllByRecursion, list_all}
 use Rattle.std.specs.Str.{IsAscii}
 use Rattle.std.proofs.lemmas.Fmt.{IsAscii-decimal}
@@ -8,7 +8,6 @@ use Rattle.std.proofs.lemmas.List.Sums.{list_all-from_AllPass, sum_by_push}
 use Rattle.hex.specs.Hex.{encode_lower, is_hex_digit}
 use Rattle.hex.proofs.HexLemmas.{decode_of-ok, decode_of-encode_lower}
 use Rattle.norm_base.specs.Octets.{AreOctets}
-use Rattle.norm_base.specs.Settings.{Settings, InRange}
 use Rattle.norm_script.specs.Scripts.{CanOffer, CanSubmit, AreNumbered}
 use Rattle.norm_script.specs.Words.{is_name_octet, is_name, is_numbered}
 use Rattle.norm_script.specs.Written.{ended}

@@ -1,12 +1,11 @@
 -- A folder arrives: what its script brings is its manifest and its files, and that is what each receiver handed up.
-use Rattle.std.proofs.Common.{◌≡◌, ℕ, zero, suc, ◌+◌, ◌<◌, ◌≤◌, List, [], ◌∷◌, ◌++◌, length, map, Bool, true, false, Option, None, Some, refl, sym, ap, ◌∙◌, subst, append_assoc, arith}
-use Rattle.std.specs.Prelude.{◌==◌, Contains, fold, count_by, unwrap_or, ⊤}
+use Rattle.std.proofs.Common.{◌≡◌, ℕ, ◌+◌, List, [], ◌∷◌, ◌++◌, map, Option, None, Some, refl, sym, ap, ◌∙◌, subst, append_assoc}
+use Rattle.std.specs.Prelude.{fold, unwrap_or, ⊤}
 use Rattle.std.specs.List.{AllByRecursion}
 use Rattle.std.proofs.lemmas.List.{append-nil}
-use Rattle.sha2.specs.Sha256.{sha256}
 use Rattle.norm_base.specs.Contents.{content_of}
 use Rattle.norm_base.specs.Members.{receivers_of}
-use Rattle.norm_base.specs.Settings.{Settings, InRange}
+use Rattle.norm_base.specs.Settings.{Settings}
 use Rattle.norm_base.specs.declared.kinds.Kind.TheVariants as kind
 use Rattle.norm_order.specs.Entries.{Object, Whole, Stream, Entry as OrderEntry}
 use Rattle.norm_order.specs.Upto.{parts_of, all_parts}
@@ -18,27 +17,22 @@ use Rattle.norm_script.specs.declared.script.Verb.{Verb}
 use Rattle.norm_script.specs.declared.script.Verb.TheVariants as verb
 use Rattle.norm_send_rules.specs.SenderState.{SenderState}
 use Rattle.norm_safety.specs.Events.{Event as WorldEvent}
-use Rattle.norm_safety.specs.Hands.{hands}
 use Rattle.norm_safety.specs.History.{History, history, happens, last_world}
-use Rattle.norm_safety.specs.Safe.{Safe}
 use Rattle.norm_safety.specs.World.{World}
 use Rattle.norm_safety.specs.WorldStep.{world_step, run_from}
-use Rattle.norm_journal.specs.declared.event.Event.{Event}
-use Rattle.norm_journal.specs.Handed.{ups_in}
 use Rattle.norm_journal.specs.Judged.{Judged, judged_opening}
-use Rattle.norm_journal.specs.SessionRun.{SessionRun, Whole as EndedWhole}
 use Rattle.norm_journal.specs.WorldEvents.{world_events}
 use Rattle.norm_journal.proofs.HandedLemmas.{says_the_hands}
 use Rattle.norm_journal.proofs.WorldLemmas.{moves_world}
 use Rattle.norm_record.specs.HandedUp.{handed_up}
-use Rattle.norm_mirror.specs.Folder.{IsFileOf, AreFilesOf, IsFolder}
+use Rattle.norm_mirror.specs.Folder.{AreFilesOf, IsFolder}
 use Rattle.norm_mirror.specs.Manifest.{manifest_text}
 use Rattle.norm_mirror.specs.declared.entry.Entry.{Entry}
 use Rattle.norm_laws.proofs.WholeOrders.{IsWhole, AreWhole}
-use Rattle.norm_arrival.specs.FolderArrives.{IsEntryOf, AreEntriesOf, IsClean, FolderArrives}
+use Rattle.norm_arrival.specs.FolderArrives.{IsEntryOf, AreEntriesOf, FolderArrives}
 use Rattle.norm_arrival.specs.FolderScript.{folder_objects, command, with_marks, folder_script}
 use Rattle.norm_arrival.specs.HandedBy.{ups_of}
-use Rattle.norm_arrival.proofs.SenderSteps.{ObjectsWhole, Orderly, objects_in, order_is_whole}
+use Rattle.norm_arrival.proofs.SenderSteps.{Orderly, objects_in, order_is_whole}
 use Rattle.norm_arrival.proofs.ScriptRun.{Contents, IsPlainLine, ArePlain, Plan, plan_with, no_plan, planned, planned_whole, Finished, whole_finished}
 use Rattle.norm_arrival.proofs.LastMark.{AllPast, all_past, all_handed, none_elsewhere}
 use Rattle.norm_arrival.proofs.HandedNode.{OnlyIn, node_ups}

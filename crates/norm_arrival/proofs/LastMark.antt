@@ -1,6 +1,6 @@
 -- Where a script ends in a mark, all that it brought was handed up by every member.
 use Rattle.std.proofs.Common.{◌≡◌, ℕ, zero, suc, ◌+◌, ◌<◌, ◌≤◌, cond, List, [], ◌∷◌, ◌++◌, length, Bool, true, false, Option, None, Some, refl, sym, ap, ◌∙◌, subst, append_assoc, arith, ◌*◌, map, ◌⊎◌, inl, inr}
-use Rattle.std.specs.Prelude.{filter, find, ◌==◌, ◌&&◌, Contains, IfSome, slice_index_or, take}
+use Rattle.std.specs.Prelude.{filter, find, ◌==◌, Contains, IfSome, slice_index_or, take}
 use Rattle.std.specs.List.{AllByRecursion, list_all}
 use Rattle.std.specs.Int.{div_ceil}
 use Rattle.std.proofs.lemmas.Bool.{cases_lt}
@@ -28,7 +28,7 @@ use Rattle.norm_send_rules.specs.InWindow.{current_shapes}
 use Rattle.norm_send_rules.specs.Reached.{FitsProfile}
 use Rattle.norm_send_rules.specs.SenderState.{SenderState, Instance, Listing, Watermark}
 use Rattle.norm_send_rules.specs.Telling.{listing_of, past_news, done_news, told}
-use Rattle.norm_send_rules.specs.Watermarks.{is_past, is_open, open_watermarks, watermark_of}
+use Rattle.norm_send_rules.specs.Watermarks.{is_past, is_open, watermark_of}
 use Rattle.norm_send_rules.specs.declared.news.News.{News}
 use Rattle.norm_send_rules.specs.declared.news.Outcome.{Outcome}
 use Rattle.norm_send_rules.specs.declared.news.Outcome.TheVariants.{Open, Satisfied, Expired, Cut}

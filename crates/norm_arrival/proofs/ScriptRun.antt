@@ -1,13 +1,12 @@
 -- A run of a script of objects and marks: what was done of it so far is what the sender's order has, and what is asked for.
-use Rattle.std.proofs.Common.{◌≡◌, ℕ, zero, suc, ◌+◌, ◌<◌, cond, List, [], ◌∷◌, ◌++◌, length, map, Bool, true, false, Option, None, Some, Result, Ok, Err, refl, sym, ap, ◌∙◌, subst, append_assoc, arith, ◌⊎◌, inl, inr}
-use Rattle.std.specs.Prelude.{◌≢◌, ◌==◌, not, fold, count_by, option_and_then, unwrap_or, All, ⊤}
+use Rattle.std.proofs.Common.{◌≡◌, ℕ, ◌+◌, cond, List, [], ◌∷◌, ◌++◌, map, Bool, true, false, Option, None, Some, Result, Ok, Err, refl, sym, ap, ◌∙◌, subst, append_assoc, arith, ◌⊎◌, inl, inr}
+use Rattle.std.specs.Prelude.{◌≢◌, ◌==◌, not, fold, count_by, unwrap_or, All, ⊤}
 use Rattle.std.specs.List.{AllByRecursion}
 use Rattle.std.specs.Option.{option_to_list}
 use Rattle.std.proofs.lemmas.List.{append-nil}
 use Rattle.std.proofs.lemmas.List.Sums.{fold-append, sum_by-cons}
 use Rattle.std.proofs.lemmas.Option.{none-some, same_Some, option_and_then_some}
 use Rattle.norm_base.specs.Contents.{content_of}
-use Rattle.norm_base.specs.Members.{receivers_of}
 use Rattle.norm_base.specs.Settings.{Settings, InRange}
 use Rattle.norm_base.specs.declared.kinds.Kind.TheVariants as kind
 use Rattle.norm_base.specs.declared.kinds.Sent.{Sent}
@@ -41,21 +40,18 @@ use Rattle.rand_pcg.specs.Lcg.{Lcg}
 use Rattle.norm_journal.specs.declared.event.Event.{Event}
 use Rattle.norm_journal.specs.declared.event.Event.TheVariants as event
 use Rattle.norm_journal.specs.declared.totals.Totals.{Totals}
-use Rattle.norm_journal.specs.Accepting.{accepts, judged_from, told_of}
-use Rattle.norm_journal.specs.Commands.{telling, repeating, waiting_after, offered}
+use Rattle.norm_journal.specs.Accepting.{accepts, judged_from}
+use Rattle.norm_journal.specs.Commands.{telling, waiting_after, offered}
 use Rattle.norm_journal.specs.Counts.{is_expired}
 use Rattle.norm_journal.specs.Draws.{next_draw, draws_after}
 use Rattle.norm_journal.specs.Follows.{Follows, NetworkStarts, TurnBegins, IsFirstLeft, CommandPulled, IsJobOf, OfferedAndTold, OfferedAgain, CommandOffered, FileRefused, SendersTick, ReceiversTick, NodeTicks, DatagramOffered, DatagramTaken, NoneReady, HandedUp, ChangeTold, SummaryMade}
-use Rattle.norm_journal.specs.InWorld.{world_after, answer_to, at}
+use Rattle.norm_journal.specs.InWorld.{world_after, at}
 use Rattle.norm_journal.specs.Jobs.{Told, job_of, may_be_absent, file_of_length}
 use Rattle.norm_journal.specs.Judged.{Judged, judged_opening, news_due}
 use Rattle.norm_journal.specs.Places.{Place, Starting, Between, Pulling, Giving, Again, Sending, Offering, Taking, Handing, Over, handing, after_tick, command_due}
-use Rattle.norm_journal.specs.Pulling.{origin_of}
 use Rattle.norm_journal.specs.SessionRun.{Whole as EndedWhole, Absent, Ending, absent_of, ends_in, ending_of}
-use Rattle.norm_journal.specs.Takes.{most_takes, receivers_due, after_take, is_receiver, delivered}
-use Rattle.norm_journal.specs.Ticks.{handed}
-use Rattle.norm_journal.specs.Totals.{with_gave, with_up, with_news}
-use Rattle.norm_journal.specs.Turns.{in_turn}
+use Rattle.norm_journal.specs.Takes.{most_takes, receivers_due, after_take, is_receiver}
+use Rattle.norm_journal.specs.Totals.{with_up, with_news}
 use Rattle.norm_journal.proofs.FollowLemmas.{judges_what_follows}
 use Rattle.norm_journal.proofs.FrontLemmas.{whole_done}
 use Rattle.norm_journal.proofs.OfferLemmas.{told_at, repeated_at}
