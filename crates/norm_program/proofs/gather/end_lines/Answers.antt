@@ -22,8 +22,8 @@ returns-in-Ok-Some g c =
     c.in-Ok-Some.field-0-is c.in-Ok-Some.ensures.goes)
     (ap (λ (k : Counted). k.output) (c.in-Ok-Some.ensures.cause 0 0)) c.refuse_line.ensures
 
-pub returns : goal.returns
-returns g c =
+pub returns-in-Err : goal.returns-in-Err
+returns-in-Err g c =
     lines_broken c.take_lines.result c.in-Err.fault c.stop_session.result (gathered c.args.run c.args.text.now) (g.K.Sink.pieces c.args.output.now)
     (g.K.Sink.pieces c.take_lines.new.output) (g.K.Sink.pieces c.stop_session.new.output) (g.K.Sink.fault_count c.args.output.now)
     (g.K.Sink.fault_count c.take_lines.new.output) (g.K.Sink.fault_count c.stop_session.new.output) c.in-Err.is

@@ -5,8 +5,8 @@ use Rattle.norm_program.specs.Gathering.{IsLinesEnding}
 use Rattle.norm_program.proofs.GatherEndLemmas.{among_memory, members_end, read_end, lines_end}
 use Rattle.norm_program.proofs.gather.gather.Goals as goal
 
-pub returns-then-members-gt-MOST_SENDERS : goal.returns-then-members-gt-MOST_SENDERS
-returns-then-members-gt-MOST_SENDERS g c called =
+pub returns-then-len-gt-MOST_SENDERS : goal.returns-then-len-gt-MOST_SENDERS
+returns-then-len-gt-MOST_SENDERS g c called =
     among_memory c.args.members.items (g.S.Source.left c.args.input.now) (g.S.Source.left c.args.input.now) (g.K.Sink.pieces c.args.output.now)
     (g.K.Sink.pieces c.args.output.now) (g.S.Source.fault_count c.args.input.now) (g.S.Source.fault_count c.args.input.now) (g.K.Sink.fault_count c.args.output.now)
     (g.K.Sink.fault_count c.args.output.now) called refl refl refl
@@ -20,7 +20,7 @@ returns-in-Err g c called =
 pub returns-in-Ok-read_input : goal.returns-in-Ok-read_input
 returns-in-Ok-read_input g c called =
     let text = c.in-Ok-read_input.text.items in
-    let whole = subst (λ t. IsLinesEnding c.end_lines.result (gathered c.in-Ok.run t) (g.K.Sink.pieces c.read_input.new.output) (g.K.Sink.pieces c.end_lines.new.output)
+    let whole = subst (λ t. IsLinesEnding c.end_lines.result (gathered c.in-Ok.run' t) (g.K.Sink.pieces c.read_input.new.output) (g.K.Sink.pieces c.end_lines.new.output)
     (g.K.Sink.fault_count c.read_input.new.output) (g.K.Sink.fault_count c.end_lines.new.output)) c.deref.ensures.value c.end_lines.ensures in
     let ends = subst (λ (list : List (Settings × ℕ)). IsLinesEnding c.end_lines.result (gathered list text) (g.K.Sink.pieces c.read_input.new.output) (g.K.Sink.pieces c.end_lines.new.output)
     (g.K.Sink.fault_count c.read_input.new.output) (g.K.Sink.fault_count c.end_lines.new.output)) c.in-Ok.ensures.begun whole in

@@ -12,8 +12,8 @@ returns-in-Ok g c =
     (g.K.Sink.fault_count c.say_end.new.output) c.in-Ok.ensures.goes
     (ap (λ (k : Counted). k.output) (c.in-Ok.ensures.cause 0 0)) refl c.say_end.ensures
 
-pub returns : goal.returns
-returns g c =
+pub returns-in-Err : goal.returns-in-Err
+returns-in-Err g c =
     lines_broken c.take_lines.result c.in-Err.fault c.stop_session.result c.args.patience
     (relayed c.args.run.up c.args.run.node c.args.run.down c.args.text.now) (g.K.Sink.pieces c.args.output.now) (g.K.Sink.pieces c.take_lines.new.output)
     (g.K.Sink.pieces c.stop_session.new.output) (g.K.Sink.fault_count c.args.output.now) (g.K.Sink.fault_count c.take_lines.new.output)

@@ -13,7 +13,7 @@ returns-in-Err g c called =
 pub returns-in-Ok-read_input : goal.returns-in-Ok-read_input
 returns-in-Ok-read_input g c called =
     let text = c.in-Ok-read_input.text.items in
-    let whole = subst (λ t. IsPrintedEnding c.end_lines.result c.patience_of.result (relayed c.in-Ok.run.up c.in-Ok.run.node c.in-Ok.run.down t)
+    let whole = subst (λ t. IsPrintedEnding c.end_lines.result c.patience_of.result (relayed c.in-Ok.run'.up c.in-Ok.run'.node c.in-Ok.run'.down t)
     (g.K.Sink.pieces c.read_input.new.output) (g.K.Sink.pieces c.end_lines.new.output) (g.K.Sink.fault_count c.read_input.new.output)
     (g.K.Sink.fault_count c.end_lines.new.output)) c.deref.ensures.value c.end_lines.ensures in
     let begun = subst (λ (r : Joined). IsPrintedEnding c.end_lines.result c.patience_of.result (relayed r.up r.node r.down text)
