@@ -74,9 +74,11 @@ LATER = 'tail-04'
 FURTHER = 'tail-07'
 
 
-# Wrong statements of closings, each refused by this tail: that a closing helps though what is wanted is on its way, that it adds only what every
-# member has, and that it helps whatever its round asks for. And in this tail a round asks for what a member lacks, if every member has all wanted.
-CLOSINGS = {'helps_anyway': 'tail-13', 'keeps_always': 'tail-01', 'helps_asked': 'tail-13', 'never_helps': 'tail-01'}
+# Wrong statements of asking and closings, each refused by this tail: that a closing helps though what is wanted is on its way, that it adds only what
+# every member has, that it helps whatever its round asks for, that a round asked for what a NACK asks for before that came, and that a member lacks
+# all of what it needs. And in this tail a round asks for what a member lacks, if every member has all that is wanted.
+ASKING = {'helps_anyway': 'tail-13', 'keeps_always': 'tail-01', 'helps_asked': 'tail-13', 'asked_before': 'tail-05', 'need_lacks_all': 'tail-15',
+          'never_helps': 'tail-01'}
 
 
 class Recovery(evaluating.Workspace):
@@ -171,7 +173,7 @@ def look(space, runs):
     wrong = {'%s, %s' % (name, w): (run, test % run['last'] if '%' in test else test) for name, run in runs for w, test in WRONG.items()}
     members = {'%s, members' % name: (run, 'members_keep') for name, run in runs if run['lawful']}
     astray = {'%s, %s' % (name, ASTRAY[name]): (run, ASTRAY[name]) for name, run in runs if name in ASTRAY}
-    closings = {'%s, %s' % (name, w): (run, w) for name, run in runs for w, tail in CLOSINGS.items() if name == tail}
+    asking = {'%s, %s' % (name, w): (run, w) for name, run in runs for w, tail in ASKING.items() if name == tail}
     astray.update({'%s, %s' % FAR: (run, FAR[1]) for name, run in runs if name == FAR[0]})
     late = [late_case('%s, takes after ticks' % name, run) for name, run in sorted(runs, key=lambda r: len(r[1]['before'] + r[1]['tail']))
             if run['lawful'] and takes_late(run['tail']) != run['tail']][:1]
@@ -187,13 +189,13 @@ def look(space, runs):
     further = [marks_case('%s, marks of all' % name, run, 'marks_end_all') for name, run in runs if name == FURTHER]
     met = [flush_case('%s, a turn with a flush' % name, run, 'is_never_flushed') for name, run in runs if run['lawful'] and has_flush(run)]
     amiss += [early_case('%s, early' % name, run) for name, run in runs if name == EARLY]
-    said = space.evaluate([*(case(name, *of) for name, of in [*whole.items(), *flushed.items(), *wrong.items(), *members.items(), *astray.items(), *closings.items()]),
+    said = space.evaluate([*(case(name, *of) for name, of in [*whole.items(), *flushed.items(), *wrong.items(), *members.items(), *astray.items(), *asking.items()]),
                            *late, far, *counted, *turns, *premises, *amiss, *reached, *at_once, *marks, *further, *met])
     false = [name for name in [*whole, *members, *(name for name, _, _ in [*counted, *turns, *reached, *marks])] if said[name]]
     empty = [name for name in [*flushed, *(name for name, _, _ in met)] if not is_refused(said[name])]
     empty += [name for name, _, _ in premises if not laws.is_refused(said[name])]
     missed = [w for w in WRONG if not any(is_refused(said['%s, %s' % (name, w)]) for name, _ in runs)]
-    missed += [name for name in [*astray, *closings] if not is_refused(said[name])] + [name for name, _, _ in [*late, far, *amiss, *at_once, *further] if not laws.is_refused(said[name])]
+    missed += [name for name in [*astray, *asking] if not is_refused(said[name])] + [name for name, _, _ in [*late, far, *amiss, *at_once, *further] if not laws.is_refused(said[name])]
     for name in false:
         print('%s: a law is false: %s' % (name, said[name][:1500]))
     for name in empty:
