@@ -60,18 +60,18 @@ impl Clock for Seen {
     }
 }
 
-/// A network that gives the datagram in `next` once, and drops what is offered. It reports that it ignored `passed` datagrams, and `news` of a
+/// A network that gives the datagram in `next` once, and drops what is offered. It reports that it ignored `passed` datagrams, and news of a
 /// group.
 #[derive(Drop)]
 struct Laid<'a> {
     next: &'a Cell<&'static [u8]>,
     passed: &'a Cell<u64>,
-    news: &'a Cell<Option<GroupNews>>,
+    group: &'a Cell<Option<Group>>,
 }
 
 impl TellsGroup for Laid<'_> {
     fn group_news(&self) -> Option<GroupNews> {
-        self.news.get()
+        self.group.get().map(news_of)
     }
 }
 
@@ -91,27 +91,57 @@ fn address_at(last: u8, port: u16) -> SocketAddr {
     SocketAddr::V4(SocketAddrV4::new(Ipv4Addr::new(192, 0, 2, last), port))
 }
 
-/// Returns what a group at port 7000 of the documents' subnet reports. The second machine stays reported.
-fn news_of(news: News, before: Option<GroupNews>) -> GroupNews {
-    let second = match news {
-        News::Second => NodeId::of(3).map(|node| SecondMachine {
-            node,
-            address: Ipv4Addr::new(192, 0, 2, 15),
-            kept: Ipv4Addr::new(192, 0, 2, 14),
-        }),
-        News::Joined | News::Unsent => before.and_then(|before| before.second),
+/// What a group reports so far: whether a second machine sends as member 3, and whether nothing can be sent now.
+#[derive(Clone, Copy)]
+struct Group {
+    has_second: bool,
+    is_unsent: bool,
+}
+
+/// Returns what a group reports after this. A second machine stays reported.
+fn group_after(news: News, before: Option<Group>) -> Group {
+    let had_second = match before {
+        Some(before) => before.has_second,
+        None => false,
     };
-    let unsent = match news {
-        News::Unsent => Some(Unsent {
-            address: address_at(255, 7_000),
-            code: 101,
-        }),
-        News::Joined | News::Second => None,
-    };
+    match news {
+        News::Joined => Group {
+            has_second: had_second,
+            is_unsent: false,
+        },
+        News::Second => Group {
+            has_second: true,
+            is_unsent: false,
+        },
+        News::Unsent => Group {
+            has_second: had_second,
+            is_unsent: true,
+        },
+    }
+}
+
+/// Returns the machine that sends as member 3 too.
+fn second() -> Option<SecondMachine> {
+    Some(SecondMachine {
+        node: NodeId::of(3)?,
+        address: Ipv4Addr::new(192, 0, 2, 15),
+        kept: Ipv4Addr::new(192, 0, 2, 14),
+    })
+}
+
+/// Returns the news of a group at port 7000 of the documents' subnet.
+fn news_of(group: Group) -> GroupNews {
     GroupNews {
         hears_at: address_at(255, 7_001),
-        second,
-        unsent,
+        second: if group.has_second { second() } else { None },
+        unsent: if group.is_unsent {
+            Some(Unsent {
+                address: address_at(255, 7_000),
+                code: 101,
+            })
+        } else {
+            None
+        },
     }
 }
 
@@ -645,7 +675,7 @@ struct Watched<'a> {
     seen: &'a Seen,
     next: &'a Cell<&'static [u8]>,
     passed: &'a Cell<u64>,
-    news: &'a Cell<Option<GroupNews>>,
+    group: &'a Cell<Option<Group>>,
     tally: &'a Tally,
     fabric: WatchedFabric<'a, &'a Seen, Laid<'a>>,
     sink: WatchedSink<'a, &'a Seen, MemSink, Noted<'a>>,
@@ -695,7 +725,7 @@ impl Watched<'_> {
                 self.takes()?;
             }
             Step::Tells(news) => {
-                self.news.set(Some(news_of(*news, self.news.get())));
+                self.group.set(Some(group_after(*news, self.group.get())));
                 self.takes()?;
             }
             Step::Offers(octets) => self.offers(*octets)?,
@@ -718,19 +748,19 @@ fn said_by(alloc: Global, row: &Row) -> Result<String, Fail> {
     };
     let next: Cell<&'static [u8]> = Cell::new(b"");
     let passed = Cell::new(0);
-    let news: Cell<Option<GroupNews>> = Cell::new(None);
+    let group: Cell<Option<Group>> = Cell::new(None);
     let tally = Tally::new();
     let sink = MemSink::of(Vec::new(alloc), Vec::new(alloc));
     let laid = Laid {
         next: &next,
         passed: &passed,
-        news: &news,
+        group: &group,
     };
     let mut watched = Watched {
         seen: &seen,
         next: &next,
         passed: &passed,
-        news: &news,
+        group: &group,
         tally: &tally,
         fabric: WatchedFabric::of(&seen, laid, row.says, &tally),
         sink: WatchedSink::of(&seen, sink, row.says, &tally, Noted { seen: &seen }),
