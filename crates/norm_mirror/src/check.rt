@@ -259,6 +259,20 @@ impl Check {
         }
     }
 
+    /// Why a hand-up was refused. `None` if none was.
+    pub fn refused(&self) -> Option<CheckFault>
+        ensures { result ≡ self.now.refused }
+    {
+        self.refused
+    }
+
+    /// Returns the entry of the file that is due next. `None` if the manifest was not read yet, or if all its files were taken.
+    pub fn due(&self) -> Option<&Entry>
+        ensures { option_map (λ e. e.now) result ≡ file_at self.now self.now.files }
+    {
+        self.entry(self.files)
+    }
+
     /// Returns the entry of a file, counted from 0 in order of name. `None` if the manifest has no such entry, or was not read yet.
     pub fn file(&self, i: u32) -> Option<&Entry>
         ensures { option_map (λ e. e.now) result ≡ file_at self.now i }
