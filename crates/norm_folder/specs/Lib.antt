@@ -1,0 +1,5 @@
+pub mod Entries
+pub mod Reading
+pub mod Checks
+pub mod Copies
+pub mod Asking
