@@ -1,9 +1,8 @@
 //! The journal of a session: its events, and the judge that says which journals a session may have.
 //!
 //! An [`Event`] is one thing that a session did, with what it gave. A journal is the list of all of them in order. The judge is a definition
-//! (`specs/Accepting`): it goes through the events and gives the state after each one that may come. `norm_session`, `norm_node` and
-//! `norm_turns` call the functions that make a session's lines ([`gave_line`] and others). `norm_session` and `norm_program` count with
-//! [`Totals`].
+//! (`specs/Accepting`): it goes through the events and gives the state after each one that may come. Whatever prints a run calls the
+//! functions that make its lines ([`gave_line`] and others), and counts with [`Totals`].
 #![tactic(auto)]
 
 mod event;

@@ -398,7 +398,7 @@ pub fn up_line(
 
 /// Makes the line of a hand-up for a node that hears several senders: `of`, the sender, and the words of [`up_line`]. `sender` sent what is
 /// handed up.
-// `gather` of `norm_program` calls it.
+// `driven_nodes` calls it for `gather`.
 pub fn of_line(
     text: &mut Line,
     sender: NodeId,

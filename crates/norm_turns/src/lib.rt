@@ -1,6 +1,6 @@
 //! What the runs of a session and of one node have in common (RFC 5740 section 5): why they stop ([`SessionFault`]), their draws, the moments
 //! of their turns, the most takes of a turn ([`MOST_TAKES`]), the lines that they print, and what those say to a sink that counts.
-//! `norm_session`, `norm_node` and `norm_program` use it, and `norm_tail` for its draws.
+//! `norm_session`, `norm_node`, `norm_tail`, `driven_nodes` and `norm_program` use it.
 #![tactic(auto)]
 
 mod draws;
