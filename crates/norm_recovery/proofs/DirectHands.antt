@@ -37,11 +37,12 @@ use Rattle.norm_journal.proofs.OctetLemmas.{commands_are_events}
 use Rattle.norm_journal.proofs.ScriptLemmas.{scripts_named}
 use Rattle.norm_journal.proofs.TimeLemmas.{begins_lawfully}
 use Rattle.norm_journal.proofs.WorldLemmas.{event_moves, moves_world}
-use Rattle.norm_laws.specs.HandedUp.{has_heard, everything, PassesOn}
+use Rattle.norm_laws.specs.HandedUp.{has_heard, is_passed_on, everything, PassesOn}
 use Rattle.norm_laws.proofs.AllHanded.{all_is_handed_up}
 use Rattle.norm_recovery.specs.SteadyPasses.{IsBeforeTick, session_opening, RunsDirectly, DirectPasses}
 use Rattle.norm_recovery.proofs.DirectTakes.{begins_waiting}
-use Rattle.norm_recovery.proofs.DirectPasses.{Rests, Rested, Comes, Walks, walk_passes}
+use Rattle.norm_recovery.proofs.DirectKept.{Rests, Rested}
+use Rattle.norm_recovery.proofs.DirectPasses.{Comes, Walks, passes_on_to, walk_passes, calm_passed}
 
 -- ---- a direct network is honest
 
@@ -151,7 +152,7 @@ rested_opening p = record { heard = each (receivers_of p p.receivers); taken = r
     receivers [] = tt
     receivers (n ∷ nodes) = (inr refl, receivers nodes)
 
-begins_walking : (script : Commands) (files : Told) → InRange script.profile → Walks [] [] 0 (record { last = None; heard = [] }) (session_opening script files)
+pub begins_walking : (script : Commands) (files : Told) → InRange script.profile → Walks [] [] 0 (record { last = None; heard = [] }) (session_opening script files)
 begins_walking script files range = record {
   range = range;
   waits = begins_waiting script files;
@@ -160,11 +161,11 @@ begins_walking script files range = record {
   at = rested_opening script.profile;
 }
 
-begun_is : (script : Commands) (files : Told) (events : List Event) (last : Judged) (o : Option Judged) → o ≡ Some last → IsSome o
+pub begun_is : (script : Commands) (files : Told) (events : List Event) (last : Judged) (o : Option Judged) → o ≡ Some last → IsSome o
 begun_is script files events last None e = absurd (none-some last e)
 begun_is script files events last (Some j) e = refl
 
-coming : (script : Commands) (files : Told) (events : List Event) (last : Judged) → RunsDirectly script files events last
+pub coming : (script : Commands) (files : Told) (events : List Event) (last : Judged) → RunsDirectly script files events last
     → Comes script.profile (world_opening script.profile) [] (world_events (session_opening script files) events)
 coming script files events last runs =
     let nodes : List ℕ = receivers_of script.profile script.profile.receivers in
@@ -181,8 +182,10 @@ coming script files events last runs =
 passes : (script : Commands) (files : Told) (events : List Event) (last : Judged) → RunsDirectly script files events last → IsBeforeTick last.place
     → PassesOn script.profile (world_events (session_opening script files) events)
 passes script files events last runs calm =
-    walk_passes events 0 (session_opening script files) last runs.leads runs.direct calm [] [] (record { last = None; heard = [] }) (coming script files events last runs)
-    (begins_walking script files runs.can_run.range)
+    passes_on_to script.profile (world_opening script.profile) (record { last = None; heard = [] }) (world_events (session_opening script files) events)
+    (walk_passes (λ w x. is_passed_on w x ≡ true) events 0 (session_opening script files) last runs.leads runs.direct
+    (λ past accepted taken x k. calm_passed past accepted taken x last calm k) [] [] (record { last = None; heard = [] }) (coming script files events last runs)
+    (begins_walking script files runs.can_run.range))
 
 -- ---- the end
 

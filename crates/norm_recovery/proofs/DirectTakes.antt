@@ -28,7 +28,7 @@ use Rattle.norm_journal.specs.Commands.{telling}
 use Rattle.norm_journal.specs.Jobs.{Told, job_of, file_of_length}
 use Rattle.norm_journal.specs.Judged.{Judged, judged_opening}
 use Rattle.norm_journal.specs.Laws.{octets_given}
-use Rattle.norm_journal.specs.Places.{Place, Starting, Between, Pulling, Giving, Again, Offering, Taking, Handing, Over, handing, after_tick, command_due}
+use Rattle.norm_journal.specs.Places.{Place, Starting, Between, Pulling, Giving, Again, Offering, Taking, Handing, handing, after_tick, command_due}
 use Rattle.norm_journal.specs.Takes.{is_receiver, after_take, delivered}
 use Rattle.norm_journal.specs.WorldEvents.{TakesDirectly, taken_after}
 use Rattle.norm_journal.proofs.FollowLemmas.{judges_what_follows}

@@ -31,6 +31,9 @@ pub mod MembersTail
 pub mod MembersOwn
 pub mod MembersEnter
 pub mod FlushKnown
+pub mod DirectComes
+pub mod DirectKept
+pub mod DirectEvents
 pub mod DirectPasses
 pub mod DirectHands
 pub mod SteadyNeeds
