@@ -8,6 +8,8 @@ from evaluate.journal_terms import event, journal_of, octets
 HERE = os.path.dirname(os.path.abspath(__file__))
 USES = '''use Rattle.norm_script.specs.declared.script.Line.{Line}
 use Rattle.norm_journal.specs.Places.{Place, Taking}
+use Rattle.norm_receive_rules.specs.Leaving.{is_in}
+use Rattle.norm_safety.specs.Said.{said}
 use Rattle.norm_recovery.specs.Steady.{is_plain, refuses_object, enough_turns, marks_of, fresh_of}
 use Rattle.norm_recovery.specs.SteadyTakes.{copies_of, most_waiting}
 '''
@@ -16,8 +18,9 @@ STEADY = open(os.path.join(HERE, 'Steady.txt'), encoding='utf-8').read()
 REFUSALS = ('empty', 'too-big', 'info-too-big', 'stream-open', 'ids-spent', 'window-full')
 # the law at each state of a journal, and statements that some journal refuses: fewer copies ever wait
 LAWS, WRONG = ('takes_all_at',), ('takes_one_each', 'takes_at_once')
-# what holds at each state of a steady one, and what some steady one refuses: a watermark is flushed once
-STEADY_LAWS, STEADY_WRONG = ('nothing_is_needed', '(asked_at_most 2)'), ('(asked_at_most 1)',)
+# what holds at each state of a steady one, and what some steady one refuses: a watermark is flushed once, each receiver is in the sender's instance, and no
+# acknowledgement is due
+STEADY_LAWS, STEADY_WRONG = ('nothing_is_needed', '(asked_at_most 2)'), ('(asked_at_most 1)', 'all_entered', 'nothing_is_due')
 
 
 class Steady(evaluating.Workspace):

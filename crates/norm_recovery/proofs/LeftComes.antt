@@ -74,14 +74,14 @@ use Rattle.norm_recovery.proofs.TailCourses.{run_joined}
 
 -- ---- the window fits along every run
 
-record Fit (p : Settings) (s : SenderState) : Type 0 where
-  drops : DropHolds s
-  fits : FitsNow p s
+pub record Fit (p : Settings) (s : SenderState) : Type 0 where
+  pub drops : DropHolds s
+  pub fits : FitsNow p s
 
 step_fits : (p : Settings) → InRange p → (s : SenderState) (event : SenderEvent) → Fit p s → Fit p (sender_step p s event).0
 step_fits p range s event h = record { drops = drop_laws.always p s event h.drops; fits = fits_step p range s event h.drops h.fits }
 
-event_fits : (p : Settings) → InRange p → (w : World) (e : Event) → Fit p w.sender → Fit p (world_step p w e).0.sender
+pub event_fits : (p : Settings) → InRange p → (w : World) (e : Event) → Fit p w.sender → Fit p (world_step p w e).0.sender
 event_fits p range w e h = subst (Fit p) (sym (sender_is p w e)) (after e)
   where
     either : (b : Bool) (t : SenderState) → Fit p t → Fit p (elim b [ true ↦ t | false ↦ w.sender ])

@@ -57,3 +57,9 @@ pub mod LeftSent
 pub mod LeftTurn
 pub mod LeftNever
 pub mod NeedsRead
+pub mod SteadyJobs
+pub mod SteadyBefore
+pub mod SteadyTells
+pub mod SteadySees
+pub mod SteadyCalm
+pub mod SteadyNothing

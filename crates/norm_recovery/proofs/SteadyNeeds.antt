@@ -1,7 +1,7 @@
 -- A receiver of data and files that has all before what it saw needs nothing.
 use Rattle.std.proofs.Common.{◌≡◌, ℕ, zero, suc, ◌+◌, ◌-◌, ◌*◌, ◌/◌, ◌<◌, ◌≤◌, List, [], ◌∷◌, length, Bool, true, false, Option, None, Some, refl, sym, ap, subst, ◌∙◌, arith, inl, inr}
-use Rattle.std.specs.Prelude.{◌||◌, ◌⊎◌, not, min, nat_lt, nat_le, slice_get, is_some, IfSome, IsSomeAnd}
-use Rattle.std.specs.List.{AllByRecursion}
+use Rattle.std.specs.Prelude.{◌||◌, ◌⊎◌, min, nat_eq, nat_lt, nat_le, slice_get, is_some, IfSome, IsSomeAnd}
+use Rattle.std.specs.List.{AllByRecursion, IsDistinct}
 use Rattle.std.proofs.lemmas.Bool.Decides.{Decides-ltb, leb_tells}
 use Rattle.norm_base.specs.Settings.{Settings, InRange}
 use Rattle.fec_plan.specs.Partition.{Cut, source_symbols, blocks, blocks_in, symbols_in, symbols_before, block_size}
@@ -14,17 +14,21 @@ use Rattle.norm_order.specs.Shapes.{Shape, shape_of, shapes_of, closed_in, at_in
 use Rattle.norm_receive_rules.specs.Holding.{Holding, Plan}
 use Rattle.norm_receive_rules.specs.Needs.{is_covered, farthest_index}
 use Rattle.norm_receive_rules.specs.NothingMissing.{BlocksAreThere, IsThereByPlan, ObjectIsThere}
+use Rattle.norm_receive_rules.specs.AllNeeds.{needs_nothing}
 use Rattle.norm_receive_rules.specs.Plans.{cut_of_plan, says_stream, says_info, plan_of, is_over, holds, is_done, has_its_info, info_of}
+use Rattle.norm_receive_rules.specs.ReceiverState.{ReceiverState}
 use Rattle.norm_receive_rules.proofs.NeedLemmas.{needs_laws}
 use Rattle.norm_send_rules.specs.Messages.{fti_of_object, object_flags}
 use Rattle.norm_send_rules.specs.SenderState.{SenderState}
 use Rattle.norm_safety.specs.Hands.{hands}
+use Rattle.norm_safety.specs.History.{Happening}
 use Rattle.norm_safety.specs.InOrder.{drop_of, is_stream_object}
+use Rattle.norm_safety.specs.OnceEach.{instance_ids}
 use Rattle.norm_safety.specs.WorldStep.{run}
 use Rattle.norm_safety.proofs.EntryLemmas.{clash}
 use Rattle.norm_safety.proofs.Holding.{HoldsOf, IsPlanOf, flags_say, found_plan}
 use Rattle.norm_safety.proofs.ReceiverMoves.{StandingIn}
-use Rattle.norm_safety.proofs.SenderHolds.{current_sized}
+use Rattle.norm_safety.proofs.SenderHolds.{SenderHolds, current_sized}
 use Rattle.norm_safety.proofs.SizedOrders.{IsSized, AreSized}
 use Rattle.norm_safety.proofs.Spoken.{sized_at, current_order}
 use Rattle.norm_safety.proofs.WorldHolds.{AtReceiver, AtNode}
@@ -33,18 +37,18 @@ use Rattle.norm_laws.proofs.HeldFits.{plan_is}
 use Rattle.norm_laws.proofs.HeldLengths.{PlanIs, says_its, its_cut}
 use Rattle.norm_laws.proofs.HeldWhole.{block_there}
 use Rattle.norm_laws.proofs.PassingTicks.{first_closed}
-use Rattle.norm_recovery.specs.SteadyNeeds.{IsHad, InfoIsHad, HadBefore, HadIsNotNeeded}
+use Rattle.norm_recovery.specs.SteadyNeeds.{IsHad, InfoIsHad, HadBefore, HadSeen, HadIsNotNeeded}
 use Rattle.norm_recovery.proofs.FlushKnown.{after_run}
 
 -- ---- entries of an order
 
-entry_within : (order : List Entry) (i : ℕ) → i < length order → (x : Entry) × (slice_get order i ≡ Some x)
+pub entry_within : (order : List Entry) (i : ℕ) → i < length order → (x : Entry) × (slice_get order i ≡ Some x)
 entry_within [] i lt = absurd (omega (arith, lt))
 entry_within (x ∷ order) zero lt = (x, refl)
 entry_within (x ∷ order) (suc i) lt = entry_within order i (omega (arith, lt))
 
 -- a test of an entry is one of its shape in the order
-shape_at : (p : Settings) (order : List Entry) (i : ℕ) (x : Entry) (test : Shape → Bool) → slice_get order i ≡ Some x → test (shape_of p x.object) ≡ true
+pub shape_at : (p : Settings) (order : List Entry) (i : ℕ) (x : Entry) (test : Shape → Bool) → slice_get order i ≡ Some x → test (shape_of p x.object) ≡ true
     → at_index (shapes_of p order) i false test ≡ true
 shape_at p [] i x test found e = absurd (none found)
   where
@@ -236,13 +240,20 @@ module _ (p : Settings) (range : InRange p) (order : List Entry) (sized : AreSiz
       go true e = absurd (none_covered index le none e)
       go false e = e
 
+-- A receiver of a sender's instance that has all before what it saw needs nothing.
+pub needs_none : (p : Settings) → InRange p → (s : SenderState) (past : List Happening) (node : ℕ) (r : ReceiverState) → SenderHolds p s
+    → IsDistinct nat_eq (instance_ids s) → AllByRecursion (λ (x : Entry). is_stream_object x.object ≡ false) s.current.order → AtReceiver p s past node r
+    → r.instance ≡ Some s.current.id → HadSeen p s.current.order r → needs_nothing p r ≡ true
+needs_none p range s past node r sender ids whole here inside had =
+    let S : Option ℕ → Type 0 = λ instance. StandingIn p s (hands past node) r instance in
+    let H : List Entry → Type 0 = λ order. HoldsOf p order (drop_of s s.current.id) (hands past node s.current.id) r.knows.due r.holding in
+    let holds = subst H (current_order s ids) (subst S inside here.stands) in
+    (needs_laws.exact p r).1 (λ index le lt. is_there p range s.current.order (current_sized p s sender) whole r.holding holds.plans r.knows.farthest r.knows.flush
+    had.farthest had.flush index le (plan_of r.holding index) refl)
+
 pub had_is_not_needed : HadIsNotNeeded
 had_is_not_needed p range events lawful are whole node r found inside had =
     let s : SenderState = (run p events).sender in
     let k = after_run p range events lawful are in
     let here : AtReceiver p s k.past node r = subst (AtNode p s k.past node) found (k.holds.nodes node) in
-    let S : Option ℕ → Type 0 = λ instance. StandingIn p s (hands k.past node) r instance in
-    let H : List Entry → Type 0 = λ order. HoldsOf p order (drop_of s s.current.id) (hands k.past node s.current.id) r.knows.due r.holding in
-    let holds = subst H (current_order s k.holds.once.ids) (subst S inside here.stands) in
-    (needs_laws.exact p r).1 (λ index le lt. is_there p range s.current.order (current_sized p s k.holds.sender) whole r.holding holds.plans r.knows.farthest r.knows.flush
-    had.farthest had.flush index le (plan_of r.holding index) refl)
+    needs_none p range s k.past node r k.holds.sender k.holds.once.ids whole here inside had

@@ -122,7 +122,7 @@ module _ (p : Settings) (range : InRange p) (s : SenderState) (so : SentSoFar p 
           let I : ℕ → Type 0 = λ i. Done (Info i) in
           (subst I (let z : 0 + index ≡ index = omega arith in z) (first (shape_of p x.object).info is _ own)) earlier (ap not e)
 
-  before_next : SentBeforeNext p s
+  pub before_next : SentBeforeNext p s
   before_next = record {
     symbols = λ at e earlier. (
         let x = entry_of p s.current.order at.index (λ (y : Shape). nat_lt at.symbol (closed_in y at.block)) e in

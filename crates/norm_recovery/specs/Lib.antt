@@ -26,3 +26,4 @@ pub mod SteadyTakes
 pub mod SteadyPasses
 pub mod SteadyNeeds
 pub mod SteadySent
+pub mod SteadyNothing

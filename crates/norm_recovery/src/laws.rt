@@ -17,6 +17,7 @@ ghost use Rattle.norm_recovery.specs.NeedsRead.{NeedsAreRead};
 ghost use Rattle.norm_recovery.specs.RoundAsks.{RoundAsks};
 ghost use Rattle.norm_recovery.specs.RunsOut.{RunsOutLaws, TailRunsOut};
 ghost use Rattle.norm_recovery.specs.SteadyNeeds.{HadIsNotNeeded};
+ghost use Rattle.norm_recovery.specs.SteadyNothing.{NothingIsNeeded};
 ghost use Rattle.norm_recovery.specs.SteadyPasses.{DirectPasses};
 ghost use Rattle.norm_recovery.specs.SteadySent.{IsSentBeforeNext};
 ghost use Rattle.norm_recovery.specs.SteadyTakes.{DirectTakesAll};
@@ -176,4 +177,10 @@ pub fn had_is_not_needed()
 /// What lies before a sender's next place was sent in the current instance, dropped or not: each closed source symbol and each info.
 pub fn sent_before_next()
     ensures { IsSentBeforeNext }
+{}
+
+/// In a steady session over a direct network nothing is needed, at any moment: no receiver needs anything or backs off, no NACK was ever given, no
+/// round is open, nothing is wanted, and no squelch is due.
+pub fn nothing_is_needed()
+    ensures { NothingIsNeeded }
 {}
