@@ -66,22 +66,22 @@ none_some x e = cc
 -- ---- a walk along a turn without the node's own tick
 
 -- the event is no tick of the node
-abbrev Spares : ℕ → Event → Type 0
+abbrev pub Spares : ℕ → Event → Type 0
 Spares node (Ticked to now) = (to == node) ≡ false
 Spares node _ = ⊤
 
 module _ (p : Settings) (draws : ℕ → ℕ) (node : ℕ) (Kept : Course → Type 0)
     (each : (e : Event) (c : Course) → Spares node e → ComesInTail c.world e → Kept c → Kept (comes p e c))
     (drawn : (c : Course) (n : ℕ) → Kept c → Kept (record c { used = n })) where
-  news_spare : (n : ℕ) (c : Course) → Kept c → Kept (iterate (comes p NewsAsked) n c)
+  pub news_spare : (n : ℕ) (c : Course) → Kept c → Kept (iterate (comes p NewsAsked) n c)
   news_spare zero c h = h
   news_spare (suc n) c h = news_spare n (comes p NewsAsked c) (each NewsAsked c tt tt h)
 
-  takes_spare : (to n : ℕ) (c : Course) → Kept c → Kept (iterate (comes p (UpTaken to)) n c)
+  pub takes_spare : (to n : ℕ) (c : Course) → Kept c → Kept (iterate (comes p (UpTaken to)) n c)
   takes_spare to zero c h = h
   takes_spare to (suc n) c h = takes_spare to n (comes p (UpTaken to) c) (each (UpTaken to) c tt tt h)
 
-  copy_spare : (now from : ℕ) (octets : List ℕ) (c : Course) (to : ℕ) → from ≢ to → HasOffered from octets c.world → Kept c
+  pub copy_spare : (now from : ℕ) (octets : List ℕ) (c : Course) (to : ℕ) → from ≢ to → HasOffered from octets c.world → Kept c
       → Kept (copy_comes p draws now octets c to)
   copy_spare now from octets c to apart has h = go (to == p.sender)
     where
@@ -96,14 +96,14 @@ module _ (p : Settings) (draws : ℕ → ℕ) (node : ℕ) (Kept : Course → Ty
           each (Delivered to octets now (draws c.used)) (record c { used = c.used + 1 }) tt (offered_may_come c.world from to octets apart has)
           (drawn c (c.used + 1) h)
 
-  copies_spare : (now from : ℕ) (octets : List ℕ) (others : List ℕ) → AllByRecursion (λ (to : ℕ). from ≢ to) others → (c : Course)
+  pub copies_spare : (now from : ℕ) (octets : List ℕ) (others : List ℕ) → AllByRecursion (λ (to : ℕ). from ≢ to) others → (c : Course)
       → HasOffered from octets c.world → Kept c → Kept (fold (copy_comes p draws now octets) c others)
   copies_spare now from octets [] apart c has h = h
   copies_spare now from octets (to ∷ others) apart c has h =
       copies_spare now from octets others apart.1 (copy_comes p draws now octets c to)
       (subst (Gift from octets) (sym (copy_offered p draws now octets c to)) has) (copy_spare now from octets c to apart.0 has h)
 
-  passes_spare : (now : ℕ) (c : Course) (to : ℕ) → Kept c → Kept (passes_on p draws now c to)
+  pub passes_spare : (now : ℕ) (c : Course) (to : ℕ) → Kept c → Kept (passes_on p draws now c to)
   passes_spare now c to h = go (given_by c.world to) refl
     where
       go : (given : Option Written) → given_by c.world to ≡ given → Kept (elim given as (λ _. Course) [
@@ -115,13 +115,13 @@ module _ (p : Settings) (draws : ℕ → ℕ) (node : ℕ) (Kept : Course → Ty
           copies_spare now to d.octets (others_than p to) (others_differ to (members_of p)) (comes p (Offered to d.octets) c)
           (given_offered p c.world to d e) (each (Offered to d.octets) c tt (given_may_come c.world to d e) h)
 
-  serves_spare : (now : ℕ) (c : Course) (to : ℕ) → (to == node) ≡ false → Kept c → Kept (serves p draws now c to)
+  pub serves_spare : (now : ℕ) (c : Course) (to : ℕ) → (to == node) ≡ false → Kept c → Kept (serves p draws now c to)
   serves_spare now c to apart h =
       passes_spare now (receiver_ticks p now c to) to
       (each (Ticked to now) (takes p to c) apart (all_are_taken p to (untaken c.world to) c refl) (takes_spare to (untaken c.world to) c h))
 
 -- a receiver's tick answers with its datagram
-receiver_answer : (p : Settings) (w : World) (node now : ℕ) (x : ReceiverState) → (node == p.sender) ≡ false → receiver_at w node ≡ Some x
+pub receiver_answer : (p : Settings) (w : World) (node now : ℕ) (x : ReceiverState) → (node == p.sender) ≡ false → receiver_at w node ≡ Some x
     → (world_step p w (Ticked node now)).1 ≡ Sent (receiver_ticked p x now).1
 receiver_answer p w node now x other found =
     ap (λ (b : Bool). (moved p w (node_move b (receiver_at w node) (sender.Ticked now) (receiver.Ticked now))).1) other

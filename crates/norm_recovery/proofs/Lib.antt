@@ -63,3 +63,13 @@ pub mod SteadyTells
 pub mod SteadySees
 pub mod SteadyCalm
 pub mod SteadyNothing
+pub mod HeardAsks
+pub mod HeardSteps
+pub mod LowRun
+pub mod SameReading
+pub mod AsksOn
+pub mod CleanSteps
+pub mod FeedRead
+pub mod ServeWalk
+pub mod CleanHears
+pub mod CleanTurn

@@ -167,7 +167,7 @@ module _ (p : Settings) (range : InRange p) (past : List Happening) (accepted : 
       (message_enters d.indices d.message says.1 own.message now draw)
 
 -- after a run
-enters_in_run : (p : Settings) → InRange p → (events : List Event) → Lawful p events → AreEvents events → FewObjects (run p events).sender → (from : ℕ) (d : Written)
+pub enters_in_run : (p : Settings) → InRange p → (events : List Event) → Lawful p events → AreEvents events → FewObjects (run p events).sender → (from : ℕ) (d : Written)
     → Contains (run p events).offered (from, d) → IsOwn p (run p events).sender.current.id d → (node : ℕ) (r : ReceiverState) → receiver_at (run p events) node ≡ Some r
     → (now draw : ℕ) → is_in (received p r d.octets now draw) (run p events).sender.current.id ≡ true
 enters_in_run p range events lawful are few from d offered own node r found now draw =

@@ -12,6 +12,7 @@ use Rattle.fec_plan.specs.Points.{Point}
 use Rattle.fec_plan.specs.declared.position.Position.{Position}
 use Rattle.norm_ext.specs.Asked.{octets_behind, requests_asked}
 use Rattle.norm_ext.specs.Message.{Nack, Ack, NackMessage, AckMessage}
+use Rattle.norm_ext.specs.Reading.{decoded}
 use Rattle.norm_ext.specs.Written.{Written, writes}
 use Rattle.norm_order.specs.Entries.{Entry}
 use Rattle.norm_order.specs.Shapes.{Shape, shape_of, closed_in, is_source}
@@ -69,7 +70,7 @@ use Rattle.norm_recovery.proofs.TailWalk.{no_receiver}
 -- ---- a tick
 
 -- what a receiver asks for, where it asks
-abbrev wanted_of : Settings → ReceiverState → List Need
+abbrev pub wanted_of : Settings → ReceiverState → List Need
 wanted_of p r = fitting p (needs p r) None p.e
 
 -- a NACK that a tick gives has these requests, and something is needed
@@ -157,10 +158,10 @@ fits_first p need rest room le = go (leb_tells (octets_behind None (asked_of p n
     go (inr not_fits) = absurd (let few = takes_few p need in let lt = not_fits.1 in omega (arith, few, lt, le))
 
 -- the first need is one of all, and is asked for
-record First (p : Settings) (r : ReceiverState) : Type 0 where
-  need : Need
-  one : Contains (all_of (needs p r)) need
-  asked : Contains (wanted_of p r) need
+pub record First (p : Settings) (r : ReceiverState) : Type 0 where
+  pub need : Need
+  pub one : Contains (all_of (needs p r)) need
+  pub asked : Contains (wanted_of p r) need
 
 head_there : {X : Type 0} (x : X) (xs ys : List X) → ys ≡ x ∷ xs → Contains ys x
 head_there {X} x xs ys e = subst (λ (zs : List X). Contains zs x) (sym e) (zero, omega arith, refl)
@@ -169,7 +170,7 @@ all_next : (need : Need) (rest : ⊤ → Lazy Need) → all_of (Next need rest) 
 unfolding all_of
 all_next need rest = refl
 
-first_of : (p : Settings) → InRange p → (r : ReceiverState) → needs_nothing p r ≡ false → First p r
+pub first_of : (p : Settings) → InRange p → (r : ReceiverState) → needs_nothing p r ≡ false → First p r
 first_of p range r some = go (needs p r) refl some
   where
     go : (l : Lazy Need) → needs p r ≡ l → (elim l as (λ _. Bool) [ Nil ↦ true | Next need rest ↦ false ]) ≡ false → First p r
@@ -202,7 +203,7 @@ event_reached p range w e h = subst (IsReached p) (sym (sender_is p w e)) (after
     after (UpTaken node) = h
     after NewsAsked = step sender.NewsAsked
 
-run_reached : (p : Settings) → InRange p → (w : World) (events : List Event) → IsReached p w.sender → IsReached p (run_from p w events).sender
+pub run_reached : (p : Settings) → InRange p → (w : World) (events : List Event) → IsReached p w.sender → IsReached p (run_from p w events).sender
 run_reached p range w [] h = h
 run_reached p range w (e ∷ events) h = run_reached p range (world_step p w e).0 events (event_reached p range w e h)
 
@@ -260,7 +261,7 @@ among_receivers p (suc n) node has = go (p.sender + 1 + n == node) refl (among_r
         both (nat_lt p.sender node) (nat_le node (p.sender + suc n)) (up p.sender node (omega (arith, same))) (most node (p.sender + suc n) (omega (arith, same)))
     go false e more = parts (more (λ none. has (behind (receivers_of p n) (p.sender + 1 + n) e none)))
 
-receiver_is : (p : Settings) (events : List Event) (node : ℕ) (r : ReceiverState) → receiver_at (run p events) node ≡ Some r → is_receiver p node ≡ true
+pub receiver_is : (p : Settings) (events : List Event) (node : ℕ) (r : ReceiverState) → receiver_at (run p events) node ≡ Some r → is_receiver p node ≡ true
 receiver_is p events node r found = among_receivers p p.receivers node missing
   where
     nodes : nodes_of (run p events) ≡ receivers_of p p.receivers
@@ -272,6 +273,75 @@ receiver_is p events node r found = among_receivers p p.receivers node missing
         none_some : None ≡ Some r → ⊥
         none_some e = cc
 
+-- ---- a NACK is read again
+
+module _ (p : Settings) (range : InRange p) (events : List Event) (may : MayGoOn p events) (node : ℕ) (r : ReceiverState)
+    (found : receiver_at (run p events) node ≡ Some r) where
+  abbrev u : SenderState
+  u = (run p events).sender
+
+  world : HoldsIn p (run p events)
+  world = after_run p range events may.lawful may.jobs
+
+  here : AtReceiver p u world.past node r
+  here = subst (AtNode p u world.past node) found (world.holds.nodes node)
+
+  pub reach : IsReached p u
+  reach = run_reached p range (world_opening p) events (reached_laws.at_first p p.instance range)
+
+  pub few_here : length u.current.order ≤ 32768
+  few_here = let low = may.few u.current.id in let same = ap (λ (xs : List Entry). length xs) (current_order u world.holds.once.ids) in omega (arith, low, same)
+
+  seen : Seen p u r
+  seen =
+      let A : Option ReceiverState → Type 0 = λ o. SeenAt p u o in
+      let all : SeenWorld p (run p events) = seen_from p range [] [] (world_opening p) events may.lawful may.jobs (opening_world p range) (opening_seen p) in
+      subst A found (all node)
+
+  abbrev pub fields : NackMessage
+  fields = record {
+    source = r.node;
+    sequence = r.sequence;
+    sender = p.sender;
+    instance = instance_id r;
+    extensions = [];
+    requests = requests_asked (map (asked_of p) (wanted_of p r));
+  }
+
+  -- what its tick gives
+  module _ (now : ℕ) (d : Written) (m : NackMessage) (gave : (ticked p r now).1 ≡ Some d) (is : d.message ≡ Nack m) where
+    pub tick : (needs_nothing p r ≡ false) × (d.message ≡ nack_message p r (wanted_of p r))
+    tick = nack_is p r now d m gave is
+
+    plea : GivesPlea p u (record { receiver = r; octets = d.octets; indices = d.indices; nack = m })
+    plea =
+        plea_gives p range u (hands world.past node) r now d m (orders_hold p u world.holds.sender) here.member here.sequence few_ids here.stands seen gave is
+      where
+        few_ids : (id : ℕ) → r.instance ≡ Some id → id < 65536
+        few_ids id e = let C : Option ℕ → Type 0 = λ instance. CameTo p (came_to node None world.past) instance in (subst C e here.came).begun.small
+
+    m_is : m ≡ fields
+    m_is = same (sym is ∙ tick.1)
+      where
+        same : {a b : NackMessage} → Nack a ≡ Nack b → a ≡ b
+        same e = cc
+
+    pub read_again : decoded d.octets ≡ Ok (Nack fields)
+    read_again = plea.read ∙ ap (λ (x : NackMessage). Ok (Nack x)) m_is
+
+    -- a sender of that instance takes it
+    pub joins : (t : SenderState) (later : ℕ) → (instance_id r == t.current.id) ≡ true
+        → heard p t d.octets later ≡ joined_round p t later (requests_asked (map (asked_of p) (wanted_of p r)))
+    joins t later same =
+        ap (message_heard p t later) read_again
+        ∙ ap (λ (b : Bool). elim b as (λ _. SenderState) [ true ↦ joined_round p t later fields.requests | false ↦ t ]) counts
+      where
+        counts : nack_counts p t fields ≡ true
+        counts =
+            ap (λ (n : ℕ). is_receiver p n && (p.sender == p.sender && instance_id r == t.current.id)) here.here
+            ∙ ap (λ (b : Bool). b && (p.sender == p.sender && instance_id r == t.current.id)) (receiver_is p events node r found)
+            ∙ ap (λ (b : Bool). b && instance_id r == t.current.id) ((Decides-eqb p.sender p.sender).1 refl) ∙ same
+
 -- ---- a NACK comes
 
 module _ (p : Settings) (range : InRange p) (hold : p.mode ≡ Hold) (events : List Event) (may : MayGoOn p events) (none : streams (run p events).sender ≡ 0)
@@ -281,20 +351,8 @@ module _ (p : Settings) (range : InRange p) (hold : p.mode ≡ Hold) (events : L
   abbrev s : SenderState
   s = (run p events).sender
 
-  world : HoldsIn p (run p events)
-  world = after_run p range events may.lawful may.jobs
-
-  here : AtReceiver p s world.past node r
-  here = subst (AtNode p s world.past node) found (world.holds.nodes node)
-
-  reach : IsReached p s
-  reach = run_reached p range (world_opening p) events (reached_laws.at_first p p.instance range)
-
-  tick : (needs_nothing p r ≡ false) × (d.message ≡ nack_message p r (wanted_of p r))
-  tick = nack_is p r now d m gave is
-
   first : First p r
-  first = first_of p range r tick.0
+  first = first_of p range r (tick p range events may node r found now d m gave is).0
 
   lack : LacksOf p s r first.need
   lack = need_lacks p range hold events may.lawful may.jobs none node other r found member inside first.need first.one
@@ -316,14 +374,11 @@ module _ (p : Settings) (range : InRange p) (hold : p.mode ≡ Hold) (events : L
       go (want.Info i) e = there i (slice_get (current_shapes p s) i) (λ x. x.info) refl e
       go (want.Symbol at) e = there at.index (slice_get (current_shapes p s) at.index) (λ x. nat_lt at.symbol (closed_in x at.block)) refl e
 
-  few : length s.current.order ≤ 32768
-  few = let low = may.few s.current.id in let same = ap (λ (xs : List Entry). length xs) (current_order s world.holds.once.ids) in omega (arith, low, same)
-
   near : (index : ℕ) → index < length s.current.order → IsNear (last_index s) index
-  near index lt = let most = few in (omega (arith, lt, most), omega (arith, lt, most), omega (arith, lt, most))
+  near index lt = let most = few_here p range events may node r found in (omega (arith, lt, most), omega (arith, lt, most), omega (arith, lt, most))
 
   name : (at : Position) → is_source (current_shapes p s) at ≡ true → HasName at
-  name at e = reached_laws.sources p s at range reach e
+  name at e = reached_laws.sources p s at range (reach p range events may node r found) e
 
   facts : (need : Need) (y : Want) → IsOfNeed need y → is_info_or_source (current_shapes p s) y ≡ true → want_index y < length s.current.order
       → AllByRecursion (IsNear (last_index s)) (indices_of need) × NamesBlocks need × IsNarrow (width_at holding_nothing need) y × (width_at holding_nothing need ≤ 256)
@@ -358,60 +413,23 @@ module _ (p : Settings) (range : InRange p) (hold : p.mode ≡ Hold) (events : L
   joined_asks : asks_open p (joined_round p s later (requests_asked (map (asked_of p) (wanted_of p r)))) lack.y ≡ true
   joined_asks =
       let f = facts first.need lack.y lack.of lack.source within in
-      round_asks.joins p range s reach later (requests_asked (map (asked_of p) (wanted_of p r))) holding_nothing first.need
+      round_asks.joins p range s (reach p range events may node r found) later (requests_asked (map (asked_of p) (wanted_of p r))) holding_nothing first.need
       (needs_are_read p (last_index s) holding_nothing (wanted_of p r) first.need first.asked f.0 f.3 f.1) lack.y lack.of f.2 lack.source
       (of_window p s lack.y (in_contained lack.y (in_window p s) lack.within)).1
 
-  seen : Seen p s r
-  seen =
-      let A : Option ReceiverState → Type 0 = λ o. SeenAt p s o in
-      let all : SeenWorld p (run p events) = seen_from p range [] [] (world_opening p) events may.lawful may.jobs (opening_world p range) (opening_seen p) in
-      subst A found (all node)
-
-  plea : GivesPlea p s (record { receiver = r; octets = d.octets; indices = d.indices; nack = m })
-  plea =
-      plea_gives p range s (hands world.past node) r now d m (orders_hold p s world.holds.sender) here.member here.sequence few_ids here.stands seen gave is
+  same_instance : (instance_id r == s.current.id) ≡ true
+  same_instance = go r.instance inside
     where
-      few_ids : (id : ℕ) → r.instance ≡ Some id → id < 65536
-      few_ids id e = let C : Option ℕ → Type 0 = λ instance. CameTo p (came_to node None world.past) instance in (subst C e here.came).begun.small
-
-  abbrev fields : NackMessage
-  fields = record {
-    source = r.node;
-    sequence = r.sequence;
-    sender = p.sender;
-    instance = instance_id r;
-    extensions = [];
-    requests = requests_asked (map (asked_of p) (wanted_of p r));
-  }
-
-  m_is : m ≡ fields
-  m_is = same (sym is ∙ tick.1)
-    where
-      same : {a b : NackMessage} → Nack a ≡ Nack b → a ≡ b
-      same e = cc
-
-  counts : nack_counts p s fields ≡ true
-  counts =
-      ap (λ (n : ℕ). is_receiver p n && (p.sender == p.sender && instance_id r == s.current.id)) here.here
-      ∙ ap (λ (b : Bool). b && (p.sender == p.sender && instance_id r == s.current.id)) (receiver_is p events node r found)
-      ∙ ap (λ (b : Bool). b && instance_id r == s.current.id) ((Decides-eqb p.sender p.sender).1 refl) ∙ id_is r.instance inside
-    where
-      id_is : (o : Option ℕ) → (elim o as (λ _. Bool) [ Some current ↦ current == s.current.id | None ↦ false ]) ≡ true → (unwrap_or o 0 == s.current.id) ≡ true
-      id_is None e = absurd (clash e)
-      id_is (Some current) e = e
-
-  heard_is : heard p s d.octets later ≡ joined_round p s later (requests_asked (map (asked_of p) (wanted_of p r)))
-  heard_is =
-      ap (message_heard p s later) (plea.read ∙ ap (λ (x : NackMessage). Ok (Nack x)) m_is)
-      ∙ ap (λ (b : Bool). elim b as (λ _. SenderState) [ true ↦ joined_round p s later fields.requests | false ↦ s ]) counts
+      go : (o : Option ℕ) → (elim o as (λ _. Bool) [ Some current ↦ current == s.current.id | None ↦ false ]) ≡ true → (unwrap_or o 0 == s.current.id) ≡ true
+      go None e = absurd (clash e)
+      go (Some current) e = e
 
   asked_of_member : AskedOf p s (heard p s d.octets later) r
   asked_of_member = record {
     y = lack.y;
     within = lack.within;
     lacks = lack.lacks;
-    asked = ap (λ (t : SenderState). asks_open p t lack.y) heard_is ∙ joined_asks;
+    asked = ap (λ (t : SenderState). asks_open p t lack.y) (joins p range events may node r found now d m gave is s later same_instance) ∙ joined_asks;
   }
 
 pub nack_asks : NackAsks

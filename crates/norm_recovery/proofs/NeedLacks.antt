@@ -542,7 +542,7 @@ planned_opening p node r other found =
     each [] = tt
     each (n ∷ nodes) = (tt, each nodes)
 
-contained : {X : Type 0} (x : X) (xs : List X) → In x xs → Contains xs x
+pub contained : {X : Type 0} (x : X) (xs : List X) → In x xs → Contains xs x
 contained x [] h = absurd h
 contained x (y ∷ xs) (inl same) = (zero, omega arith, sym same)
 contained x (y ∷ xs) (inr more) = let found = contained x xs more in (suc found.0, (let lt = found.1 in omega (arith, lt)), found.2)

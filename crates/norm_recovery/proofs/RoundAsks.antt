@@ -1,5 +1,5 @@
 -- A round asks for all that the requests that join it ask for.
-use Rattle.std.proofs.Common.{◌≡◌, ℕ, zero, suc, ◌+◌, ◌-◌, ◌<◌, ◌≤◌, List, [], ◌∷◌, ◌++◌, length, map, filter, Bool, true, false, Option, None, Some, refl, sym, ap, ◌∙◌, subst, arith, ◌⊎◌, inl, inr, flat_map}
+use Rattle.std.proofs.Common.{◌≡◌, ℕ, zero, suc, ◌+◌, ◌<◌, ◌≤◌, List, [], ◌∷◌, ◌++◌, length, map, filter, Bool, true, false, Option, None, Some, refl, sym, ap, ◌∙◌, subst, arith, ◌⊎◌, inl, inr, flat_map}
 use Rattle.std.specs.Prelude.{◌==◌, ◌&&◌, ◌||◌, not, nat_lt, nat_le, slice_get}
 use Rattle.std.specs.List.{list_any, range_with_len}
 use Rattle.std.proofs.lemmas.Bool.Decides.{Decides-eqb, Decides-ltb, leb_tells}
@@ -7,7 +7,7 @@ use Rattle.std.proofs.lemmas.Option.{slice_get_within}
 use Rattle.norm_base.specs.Settings.{Settings, InRange}
 use Rattle.fec_plan.specs.Points.{Point, point, point_of, position, point_before, same_point}
 use Rattle.fec_plan.specs.declared.position.Position.{Position}
-use Rattle.fec_plan.proofs.PositionLemmas.{reached, position_itself}
+use Rattle.fec_plan.proofs.PositionLemmas.{position_itself}
 use Rattle.norm_ext.specs.Asking.{Named, named, lies_in, asked_spans, asks_source, asks_info, asked_symbols, Count, asked_counts}
 use Rattle.norm_ext.specs.Requests.{Request}
 use Rattle.norm_order.specs.Entries.{Entry}
@@ -31,6 +31,7 @@ use Rattle.norm_laws.proofs.GoneSent.{block_there}
 use Rattle.norm_recovery.specs.Asking.{same_want, names, counts}
 use Rattle.norm_recovery.specs.RoundAsks.{asks_open, IsOfNeed, is_info_or_source, IsNarrow, RoundAsks}
 use Rattle.norm_recovery.proofs.ClosingLists.{In, in_left, in_right, in_map, of_map, in_flat, of_flat, in_kept, in_range, of_any}
+use Rattle.norm_recovery.proofs.HeardAsks.{asked_by, between_asked}
 
 -- ---- lists
 
@@ -212,29 +213,7 @@ module _ (p : Settings) (range : InRange p) (s : SenderState) (reach : IsReached
   blocks_named : (requests : List Request) (at : Position) (width index first last : ℕ) → is_source shapes at ≡ true → BlocksAreAsked (map read requests) width index first last
       → at.index ≡ index → at.symbol < width → first ≤ at.block → at.block ≤ last → OneAsks requests (want.Symbol at)
   blocks_named requests at width index first last closed asked same narrow from to =
-      source_named requests at closed
-      (asked at same narrow (reached at (position index first 0) (inr (sym same, low first at.block at.symbol from)))
-      (reached (position index last (width - 1)) at (inr (same, high at.block last at.symbol to narrow))))
-    where
-      low : (a b n : ℕ) → a ≤ b → (a < b) ⊎ ((a ≡ b) × (0 ≤ n))
-      low zero zero n le = inr (refl, omega arith)
-      low zero (suc b) n le = inl (omega arith)
-      low (suc a) zero n le = absurd (omega (arith, le))
-      low (suc a) (suc b) n le = up (low a b n (omega (arith, le)))
-        where
-          up : (a < b) ⊎ ((a ≡ b) × (0 ≤ n)) → (suc a < suc b) ⊎ ((suc a ≡ suc b) × (0 ≤ n))
-          up (inl lt) = inl (omega (arith, lt))
-          up (inr e) = inr (ap suc e.0, e.1)
-
-      high : (a b n : ℕ) → a ≤ b → n < width → (a < b) ⊎ ((a ≡ b) × (n ≤ width - 1))
-      high zero zero n le lt = inr (refl, omega (arith, lt))
-      high zero (suc b) n le lt = inl (omega arith)
-      high (suc a) zero n le lt = absurd (omega (arith, le))
-      high (suc a) (suc b) n le lt = up (high a b n (omega (arith, le)) lt)
-        where
-          up : (a < b) ⊎ ((a ≡ b) × (n ≤ width - 1)) → (suc a < suc b) ⊎ ((suc a ≡ suc b) × (n ≤ width - 1))
-          up (inl less) = inl (omega (arith, less))
-          up (inr e) = inr (ap suc e.0, e.1)
+      source_named requests at closed (between_asked (flat_map asked_spans (map read requests)) at width index first last asked same narrow from to)
 
   -- a source symbol's block has 24 bits
   block_low : (at : Position) → is_source shapes at ≡ true → at.block ≤ 16777215
@@ -271,21 +250,41 @@ module _ (p : Settings) (range : InRange p) (s : SenderState) (reach : IsReached
   need_asked requests h (Rest index block) asked (want.Symbol at) same narrow there behind =
       blocks_named requests at (width_of h (point index block)) index block 16777215 there asked same.0 narrow same.1 (block_low at there)
 
+  -- what the requests ask for
+  request_asked : (requests : List Request) (y : Want) → asked_by (map read requests) y ≡ true → is_info_or_source shapes y ≡ true
+      → stands_behind s.current.drop y ≡ true → OneAsks requests y
+  request_asked requests (want.Info index) e there behind = info_named requests index there e
+  request_asked requests (want.Symbol at) e there behind = go (is_asked (flat_map asked_spans (map read requests)) at) refl e
+    where
+      go : (b : Bool) → is_asked (flat_map asked_spans (map read requests)) at ≡ b
+          → (b || asks_as_many (flat_map asked_counts (map read requests)) (point_of at) 1) ≡ true → OneAsks requests (want.Symbol at)
+      go true is f = source_named requests at there is
+      go false is f = counted_so requests at 1 there behind (omega arith) f
+
 -- ---- the round
 
 any_left : (test : Asked → Bool) (xs ys : List Asked) → list_any test xs ≡ true → list_any test (xs ++ ys) ≡ true
 any_left test xs ys e = let found = of_any test xs e in any_in test found.0 (xs ++ ys) (in_left found.0 xs ys found.1) found.2
 
+module _ (p : Settings) (range : InRange p) (s : SenderState) (reach : IsReached p s) (now : ℕ) (y : Want) where
+  one_joins : (rs : List Request) → OneAsks p range s reach rs y → asks_open p (joined_round p s now rs) y ≡ true
+  one_joins [] one = absurd one.1
+  one_joins (r ∷ rs) one =
+      any_in (Asking p range s reach y) (asked_now p s one.0) ((round_at p s now).asked ++ map (asked_now p s) (r ∷ rs))
+      (in_right (asked_now p s one.0) (round_at p s now).asked (map (asked_now p s) (r ∷ rs)) (in_map (asked_now p s) one.0 (r ∷ rs) one.1)) one.2
+
 round_joins : (p : Settings) → InRange p → (s : SenderState) → IsReached p s → (now : ℕ) (requests : List Request) (h : Holding) (need : Need)
     → IsAskedFor (map (named p (last_index s)) requests) h need → (y : Want) → IsOfNeed need y → IsNarrow (width_at h need) y
     → is_info_or_source (current_shapes p s) y ≡ true → stands_behind s.current.drop y ≡ true → asks_open p (joined_round p s now requests) y ≡ true
-round_joins p range s reach now requests h need asked y of narrow there behind = go requests (need_asked p range s reach requests h need asked y of narrow there behind)
-  where
-    go : (rs : List Request) → OneAsks p range s reach rs y → asks_open p (joined_round p s now rs) y ≡ true
-    go [] one = absurd one.1
-    go (r ∷ rs) one =
-        any_in (Asking p range s reach y) (asked_now p s one.0) ((round_at p s now).asked ++ map (asked_now p s) (r ∷ rs))
-        (in_right (asked_now p s one.0) (round_at p s now).asked (map (asked_now p s) (r ∷ rs)) (in_map (asked_now p s) one.0 (r ∷ rs) one.1)) one.2
+round_joins p range s reach now requests h need asked y of narrow there behind =
+    one_joins p range s reach now y requests (need_asked p range s reach requests h need asked y of narrow there behind)
+
+-- the round asks for whatever the requests that join it ask for
+pub requests_join : (p : Settings) → InRange p → (s : SenderState) → IsReached p s → (now : ℕ) (requests : List Request) (y : Want)
+    → asked_by (map (named p (last_index s)) requests) y ≡ true → is_info_or_source (current_shapes p s) y ≡ true → stands_behind s.current.drop y ≡ true
+    → asks_open p (joined_round p s now requests) y ≡ true
+requests_join p range s reach now requests y asked there behind =
+    one_joins p range s reach now y requests (request_asked p range s reach requests y asked there behind)
 
 round_stays : (p : Settings) (s : SenderState) (now : ℕ) (requests : List Request) (y : Want) → asks_open p s y ≡ true
     → asks_open p (joined_round p s now requests) y ≡ true

@@ -101,7 +101,7 @@ no_receiver node (r ∷ rs) e = go (r.node == node) e (no_receiver node rs)
     go true e more = absurd (none_some r.node (sym e))
     go false e more = more e
 
-sender_takes_none : (p : Settings) (w : World) → nodes_of w ≡ receivers_of p p.receivers → AllTaken (receiver_at w p.sender)
+pub sender_takes_none : (p : Settings) (w : World) → nodes_of w ≡ receivers_of p p.receivers → AllTaken (receiver_at w p.sender)
 sender_takes_none p w nodes =
     let none : receiver_at w p.sender ≡ None =
     no_receiver p.sender w.receivers (ap (find (λ (n : ℕ). n == p.sender)) nodes ∙ not_sender p p.receivers) in

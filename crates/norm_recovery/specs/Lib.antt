@@ -16,6 +16,7 @@ pub mod Asking
 pub mod RoundAsks
 pub mod NeedLacks
 pub mod NackAsks
+pub mod Clean
 pub mod FlushLacks
 pub mod FlushReaches
 pub mod LeftHeard

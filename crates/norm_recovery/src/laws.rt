@@ -1,6 +1,7 @@
 //! Laws of bounded recovery. Each law is the contract of a function that does nothing. Begin with [`tail_is_lawful`].
 
 ghost use Rattle.norm_recovery.specs.Asking.{ClosingsHelp};
+ghost use Rattle.norm_recovery.specs.Clean.{CleanStays};
 ghost use Rattle.norm_recovery.specs.Flush.{FlushHeard};
 ghost use Rattle.norm_recovery.specs.FlushListed.{FlushListed};
 ghost use Rattle.norm_recovery.specs.FlushNeeds.{FlushNeeds};
@@ -119,6 +120,12 @@ pub fn round_asks()
 /// hears that, its open round asks then for something of the window that the member lacks.
 pub fn nack_asks()
     ensures { NackAsks }
+{}
+
+/// What a member heard others ask for while it backs off, the open round goes on to ask for, if the member lacks it. So it is of a back-off that began in
+/// the turn, and of one that was so before, unless the turn closes a round that leaves less, or that asks for what is on its way.
+pub fn clean_stays()
+    ensures { CleanStays }
 {}
 
 /// With the position of an open watermark a part of the order ends: it is the last source symbol of data or a file, or a closed segment of a
