@@ -73,3 +73,5 @@ pub mod FeedRead
 pub mod ServeWalk
 pub mod CleanHears
 pub mod CleanTurn
+pub mod BackOffRuns
+pub mod BackOffTurn

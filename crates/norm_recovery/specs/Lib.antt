@@ -17,6 +17,7 @@ pub mod RoundAsks
 pub mod NeedLacks
 pub mod NackAsks
 pub mod Clean
+pub mod BackOffEnds
 pub mod FlushLacks
 pub mod FlushReaches
 pub mod LeftHeard

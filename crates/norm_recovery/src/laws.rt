@@ -1,6 +1,7 @@
 //! Laws of bounded recovery. Each law is the contract of a function that does nothing. Begin with [`tail_is_lawful`].
 
 ghost use Rattle.norm_recovery.specs.Asking.{ClosingsHelp};
+ghost use Rattle.norm_recovery.specs.BackOffEnds.{BackOffEnds};
 ghost use Rattle.norm_recovery.specs.Clean.{CleanStays};
 ghost use Rattle.norm_recovery.specs.Flush.{FlushHeard};
 ghost use Rattle.norm_recovery.specs.FlushListed.{FlushListed};
@@ -126,6 +127,12 @@ pub fn nack_asks()
 /// the turn, and of one that was so before, unless the turn closes a round that leaves less, or that asks for what is on its way.
 pub fn clean_stays()
     ensures { CleanStays }
+{}
+
+/// In `hold` mode, with no stream in the window, the open round asks for something that a member lacks once its back-off ended, if it was clean and needs
+/// anything: by its own NACK in that turn, or by what it heard others ask for.
+pub fn back_off_ends()
+    ensures { BackOffEnds }
 {}
 
 /// With the position of an open watermark a part of the order ends: it is the last source symbol of data or a file, or a closed segment of a
