@@ -1,3 +1,4 @@
+pub mod FolderLemmas
 pub mod OrderLemmas
 pub mod ReadLemmas
 pub mod EntryLemmas

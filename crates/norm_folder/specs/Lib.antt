@@ -1,5 +1,6 @@
 pub mod Entries
 pub mod Reading
+pub mod Sending
 pub mod Checks
 pub mod Copies
 pub mod Asking
