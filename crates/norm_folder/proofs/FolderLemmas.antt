@@ -1,13 +1,14 @@
 -- The names of a folder that is read are names of files, as many as a manifest has lines at most.
 use Rattle.std.proofs.Common.{◌≡◌, ◌+◌, ◌≤◌, ◌<◌, ◌==◌, ℕ, zero, suc, List, [], ◌∷◌, ◌++◌, length, Option, Some, None, Result, Ok, Err, Bool, true, false, refl, arith, cond, nat_le, nat_lt, length-append}
-use Rattle.std.specs.Prelude.{IfOk, not, codes}
+use Rattle.std.specs.Prelude.{IfOk, IfSome, not, codes}
 use Rattle.std.specs.List.{AllByRecursion}
 use Rattle.std.specs.Option.{ok_or}
 use Rattle.std.proofs.lemmas.Result.{IfOk-at_ok}
+use Rattle.norm_base.specs.Given.{profile_given}
 use Rattle.norm_base.specs.Keys.{keys, key_named}
-use Rattle.norm_base.specs.Settings.{Settings}
-use Rattle.norm_script.specs.Folder.{Folder, folder_setting, setting_refused, name_line, folder_set, folder_words_in, folder_words, folder_meaning, line_of, name_refused, take_verb, take_name, take_name_line, or_refuses_name, names_end, take_name_lines, folder_with, names_from, folder_from, folder_of, folder_head_from}
-use Rattle.norm_script.specs.Head.{nothing_set, profile_of}
+use Rattle.norm_base.specs.Settings.{Settings, InRange}
+use Rattle.norm_script.specs.Folder.{Folder, folder_setting, setting_refused, name_line, folder_set, folder_words_in, folder_words, folder_meaning, line_of, name_refused, take_verb, take_name, take_name_line, or_refuses_name, names_end, take_name_lines, folder_with, names_from, folder_of, folder_head_from}
+use Rattle.norm_script.specs.Head.{nothing_set, profile_of, settled, rule_refusal, given_by}
 use Rattle.norm_script.specs.Meaning.{setting_of, value_for, is_passed_over, or_spelling}
 use Rattle.norm_script.specs.Spelling.{spelling_of}
 use Rattle.norm_script.specs.Steps.{◌>>=◌, unless}
@@ -21,7 +22,8 @@ use Rattle.norm_script.specs.declared.refusal.Why.{Why}
 use Rattle.norm_script.specs.declared.refusal.Why.TheVariants as why
 use Rattle.norm_script.specs.declared.script.Verb.{Verb}
 use Rattle.norm_script.specs.declared.script.Verb.TheVariants as verb
-use Rattle.norm_script.proofs.ChainLemmas.{IfOk-bind, IfOk-unit, IfOk-cond}
+use Rattle.norm_script.proofs.TakingLemmas.{given-range}
+use Rattle.norm_script.proofs.ChainLemmas.{IfOk-bind, IfOk-cond}
 use Rattle.norm_folder.specs.Entries.{IsFolder}
 
 -- a meaning names a file only by a name of a folder's files
@@ -169,3 +171,26 @@ folder_fits text =
 -- a folder that is read has such names
 pub folder_is : (text : List ℕ) (folder : Folder) → folder_of text ≡ Ok folder → IsFolder folder
 folder_is text folder is = IfOk-at_ok IsFolder is (folder_fits text)
+
+-- ---- its profile
+
+settled_range : (refused : Option Refusal) (profile : Option Settings) (rule : Refusal) → IfSome profile InRange → IfOk (settled refused profile rule) InRange
+settled_range None (Some profile) rule h = h
+settled_range None None rule h = tt
+settled_range (Some refused) (Some profile) rule h = tt
+settled_range (Some refused) None rule h = tt
+
+has_range : (profile : Settings) (r : Result (List Named) Refusal) → InRange profile → IfOk (folder_with profile r) (λ folder. InRange folder.profile)
+has_range profile (Ok names) h = h
+has_range profile (Err e) h = tt
+
+folder_ranges : (text : List ℕ) → IfOk (folder_of text) (λ folder. InRange folder.profile)
+folder_ranges text =
+    let begun = folder_head_from nothing_set 1 (text_lines text) in
+    IfOk-bind InRange (λ folder. InRange folder.profile) (profile_of begun.head) (λ profile. names_from profile begun.next begun.rest)
+    (settled_range begun.head.refused (profile_given (given_by begun.head.settings)) (rule_refusal begun.head.settings) (given-range (given_by begun.head.settings)))
+    (λ profile h. has_range profile (take_name_lines [] begun.next begun.rest) h)
+
+-- a folder that is read has a profile within its ranges
+pub folder_range : (text : List ℕ) (folder : Folder) → folder_of text ≡ Ok folder → InRange folder.profile
+folder_range text folder is = IfOk-at_ok (λ (f : Folder). InRange f.profile) is (folder_ranges text)

@@ -1,4 +1,6 @@
 pub mod FolderLemmas
+pub mod PutLemmas
+pub mod MirroredLemmas
 pub mod OrderLemmas
 pub mod ReadLemmas
 pub mod EntryLemmas

@@ -4,3 +4,5 @@ pub mod Sending
 pub mod Checks
 pub mod Copies
 pub mod Asking
+pub mod Mirrored
+pub mod Laws

@@ -10,6 +10,7 @@ mod asking;
 mod checks;
 mod copies;
 mod entries;
+pub mod laws;
 mod order;
 mod sending;
 
