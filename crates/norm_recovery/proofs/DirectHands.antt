@@ -190,7 +190,7 @@ passes script files events last runs calm =
 -- ---- the end
 
 -- the profile stays
-profile_stays : (events : List Event) (j last : Judged) → judged_from j events ≡ Some last → j.profile ≡ last.profile
+pub profile_stays : (events : List Event) (j last : Judged) → judged_from j events ≡ Some last → j.profile ≡ last.profile
 unfolding judged_from
 profile_stays [] j last is = ap (λ (n : Judged). n.profile) (same_Some j last is)
 profile_stays (e ∷ events) j last is =

@@ -230,7 +230,7 @@ rested_passed p w x nodes h =
 
 -- ---- the sender's tick and its offer
 
-sender_step : (p : Settings) (w : World) (node now : ℕ) → node ≡ p.sender → world_step p w (Ticked node now)
+pub sender_step : (p : Settings) (w : World) (node now : ℕ) → node ≡ p.sender → world_step p w (Ticked node now)
     ≡ (with_given p.sender (sender_ticked p w.sender now).1 (record w { sender = (sender_ticked p w.sender now).0 }), Gives (sender_ticked p w.sender now).1)
 sender_step p w node now own =
     ap (λ (b : Bool). moved p w (node_move b (receiver_at w node) (sender.Ticked now) (receiver.Ticked now))) ((Decides-eqb node p.sender).1 own)
@@ -240,7 +240,7 @@ abbrev of_node : ℕ → Written → ℕ × Written
 of_node node d = (node, d)
 
 -- behind what others gave a node's datagram is found
-found_last : (node : ℕ) (d : Written) (given : List (ℕ × Written))
+pub found_last : (node : ℕ) (d : Written) (given : List (ℕ × Written))
     → find (is_of node d.octets) (filter (λ (g : ℕ × Written). not (g.0 == node)) given ++ of_node node d ∷ []) ≡ Some (of_node node d)
 found_last node d [] = here (both_true (node == node) (same_octets d.octets d.octets) ((Decides-eqb node node).1 refl) (list_itself d.octets))
   where
@@ -292,23 +292,23 @@ sender_tick_at p range past accepted w x node now taken o holds own gives =
     given_same : (a b : Option Written) → ◌≡◌ {A = Answer} (Gives a) (Gives b) → a ≡ b
     given_same a b e = cc
 
-copies_push : (members : List ℕ) (offered : List (ℕ × List ℕ)) (offer : ℕ × List ℕ) → copies_in members (offered ++ offer ∷ []) ≡ copies_in members offered ++ copies_for members offer
+pub copies_push : (members : List ℕ) (offered : List (ℕ × List ℕ)) (offer : ℕ × List ℕ) → copies_in members (offered ++ offer ∷ []) ≡ copies_in members offered ++ copies_for members offer
 copies_push members [] offer = append-nil (copies_for members offer)
 copies_push members (o ∷ offered) offer =
     ap (λ (xs : List (ℕ × List ℕ)). copies_for members o ++ xs) (copies_push members offered offer)
     ∙ sym (append_assoc (copies_for members o) (copies_in members offered) (copies_for members offer))
 
-slice_behind : {X : Type 0} (xs ys : List X) (n k : ℕ) → n ≡ length xs + k → slice_get (xs ++ ys) n ≡ slice_get ys k
+pub slice_behind : {X : Type 0} (xs ys : List X) (n k : ℕ) → n ≡ length xs + k → slice_get (xs ++ ys) n ≡ slice_get ys k
 slice_behind [] ys n k e = ap (slice_get ys) (omega (arith, e))
 slice_behind (x ∷ xs) ys zero k e = absurd (omega (arith, e))
 slice_behind (x ∷ xs) ys (suc n) k e = slice_behind xs ys n k (omega (arith, e))
 
 -- a copy for a node
-abbrev copy_to : List ℕ → ℕ → ℕ × List ℕ
+abbrev pub copy_to : List ℕ → ℕ → ℕ × List ℕ
 copy_to octets to = (to, octets)
 
 -- among the copies of an offer is one for each other member
-copy_for : (from node : ℕ) (octets : List ℕ) (members : List ℕ) → (node == from) ≡ false → is_one node members ≡ true
+pub copy_for : (from node : ℕ) (octets : List ℕ) (members : List ℕ) → (node == from) ≡ false → is_one node members ≡ true
     → (k : ℕ) × (slice_get (map (copy_to octets) (filter (λ m. not (m == from)) members)) k ≡ Some (copy_to octets node))
 copy_for from node octets [] other e = absurd (clash e)
 copy_for from node octets (m ∷ members) other e = go (m == node) refl e (λ more. copy_for from node octets members other more)

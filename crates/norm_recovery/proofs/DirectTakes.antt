@@ -88,7 +88,7 @@ others_fewer node (n ∷ nodes) e = go (n == node) refl e (λ more. others_fewer
     go true is e more = let le = few_others node nodes in omega (arith, le)
     go false is e more = let lt = more e in omega (arith, lt)
 
-copies_more : (members : List ℕ) (offered : List (ℕ × List ℕ)) (offer : ℕ × List ℕ)
+pub copies_more : (members : List ℕ) (offered : List (ℕ × List ℕ)) (offer : ℕ × List ℕ)
     → length (copies_in members (offered ++ offer ∷ [])) ≡ length (copies_in members offered) + length (copies_for members offer)
 copies_more members [] offer = length-append (copies_for members offer) [] ∙ (omega arith)
 copies_more members (o ∷ offered) offer =
@@ -110,7 +110,7 @@ copies_few p offer is =
     omega (arith, same, lt, many)
 
 -- what is found is what was looked for
-is_found : (node : ℕ) (octets : List ℕ) (d : ℕ × Written) (given : List (ℕ × Written)) → find (is_of node octets) given ≡ Some d → is_of node octets d ≡ true
+pub is_found : (node : ℕ) (octets : List ℕ) (d : ℕ × Written) (given : List (ℕ × Written)) → find (is_of node octets) given ≡ Some d → is_of node octets d ≡ true
 is_found node octets d [] e = absurd (none-some d e)
 is_found node octets d (g ∷ given) e = go (is_of node octets g) refl e (λ more. is_found node octets d given more)
   where

@@ -75,3 +75,4 @@ pub mod CleanHears
 pub mod CleanTurn
 pub mod BackOffRuns
 pub mod BackOffTurn
+pub mod SteadyFlush
