@@ -7,7 +7,7 @@ use Rattle.clap.specs.declared.error.Error.{Error}
 use Rattle.clap.specs.declared.error.kind.ErrorKind.{ErrorKind}
 use Rattle.clap.specs.declared.error.kind.ErrorKind.TheVariants.{OutOfMemory}
 use Rattle.clap.proofs.OnLiterals.{clap_on_literals}
-use Rattle.norm_args.specs.Forms.{session_form, show_form, generate_form, send_form, recv_form, hub_form, gather_form, relay_form, is_fine, found_in}
+use Rattle.norm_args.specs.Forms.{session_form, show_form, generate_form, mirror_form, send_form, recv_form, hub_form, gather_form, relay_form, is_fine, found_in}
 
 pub simple_session : is_simple_and_free session_form ≡ true
 unfolding clap_on_literals
@@ -20,6 +20,10 @@ simple_show = refl
 pub simple_generate : is_simple_and_free generate_form ≡ true
 unfolding clap_on_literals
 simple_generate = refl
+
+pub simple_mirror : is_simple_and_free mirror_form ≡ true
+unfolding clap_on_literals
+simple_mirror = refl
 
 pub simple_send : is_simple_and_free send_form ≡ true
 unfolding clap_on_literals

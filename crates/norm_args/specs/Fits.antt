@@ -6,7 +6,7 @@ use Rattle.norm_args.specs.declared.node_tasks.NodeTask.{NodeTask}
 use Rattle.norm_args.specs.declared.node_tasks.NodeTask.TheVariants.{Send, Receive, Hub, Gather, Relay}
 use Rattle.norm_args.specs.declared.tasks.Options.{Options}
 use Rattle.norm_args.specs.declared.tasks.Task.{Task}
-use Rattle.norm_args.specs.declared.tasks.Task.TheVariants.{Session, Show, Generate}
+use Rattle.norm_args.specs.declared.tasks.Task.TheVariants.{Session, Show, Generate, Mirror}
 
 -- what an option gives is one of its key's values; a tail begins after a turn
 pub record FitsOptions (o : Options) : Type 0 where
@@ -18,6 +18,7 @@ abbrev pub FitsTask : Task → Type 0
 FitsTask (Session options) = FitsOptions options
 FitsTask Show = Unit {0}
 FitsTask (Generate n) = n ≤ 4294967295
+FitsTask Mirror = Unit {0}
 
 -- an instance that is given is one of its key's values
 abbrev pub FitsInstance : Option ℕ → Type 0

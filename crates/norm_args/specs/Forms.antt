@@ -23,6 +23,10 @@ show_form = new_app (codes "show")
 abbrev pub generate_form : App
 generate_form = with_rule (new_app (codes "generate")) (word_named (codes "N"))
 
+-- mirror
+abbrev pub mirror_form : App
+mirror_form = new_app (codes "mirror")
+
 -- send PROFILE [--instance I] [--group ADDRESS[:PORT]]
 abbrev pub send_form : App
 send_form =

@@ -6,7 +6,7 @@ use Rattle.norm_base.specs.Keys.{row_of}
 use Rattle.norm_base.specs.declared.key.Key.{Key}
 use Rattle.norm_base.specs.declared.key.Key.TheVariants as key
 use Rattle.norm_script.specs.Words.{is_text, number_within}
-use Rattle.norm_args.specs.Forms.{session_form, show_form, generate_form, found_in}
+use Rattle.norm_args.specs.Forms.{session_form, show_form, generate_form, mirror_form, found_in}
 use Rattle.norm_args.specs.declared.tasks.Options.{Options}
 use Rattle.norm_args.specs.declared.tasks.Task.{Task}
 use Rattle.norm_args.specs.declared.tasks.Task.TheVariants as task
@@ -40,12 +40,16 @@ number_in rows = option_and_then (number_within 0 4294967295) (first_of (codes "
 abbrev pub generate_in : List (List ℕ) → Option Task
 generate_in words = option_and_then (λ rows. option_map task.Generate (number_in rows)) (found_in generate_form words)
 
+abbrev pub mirror_in : List (List ℕ) → Option Task
+mirror_in words = option_map (λ rows. task.Mirror) (found_in mirror_form words)
+
 -- what words ask for whose first is this one
 abbrev pub named : List ℕ → List (List ℕ) → Option Task
 named word words =
     if is_text word (codes "session") then session_in words else
     (if is_text word (codes "show") then show_in words else
-    (if is_text word (codes "generate") then generate_in words else None))
+    (if is_text word (codes "generate") then generate_in words else
+    (if is_text word (codes "mirror") then mirror_in words else None)))
 
 -- What the words behind the program's name ask for. None where they are of no form of the program.
 unfoldable pub task_of : List (List ℕ) → Option Task

@@ -4,7 +4,7 @@ ghost use Rattle.std.specs.Prelude.{◌≡◌, true, map, string_bytes, IfOk};
 ghost use Rattle.std.specs.Bool.{Decides};
 ghost use Rattle.std.specs.Option.{option_map};
 ghost use Rattle.clap.specs.Words.{app_of, rows_of, found_of, is_simple_and_free, kind_of};
-ghost use Rattle.norm_args.specs.Forms.{session_form, show_form, generate_form, send_form, recv_form, hub_form, gather_form, relay_words, relay_form, found_in};
+ghost use Rattle.norm_args.specs.Forms.{session_form, show_form, generate_form, mirror_form, send_form, recv_form, hub_form, gather_form, relay_words, relay_form, found_in};
 
 use clap::error::ErrorKind;
 use clap::{Arg, ArgMatches, Command, Error};
@@ -40,6 +40,13 @@ pub(crate) fn generate_form<'a>(alloc: Global) -> Result<Command<'a>, AllocError
     let number = Arg::new(alloc, "N").required(true);
     let command = Command::new(alloc, "generate").arg(number)?;
     Ok(command)
+}
+
+/// `mirror`, with no word after it.
+pub(crate) fn mirror_form<'a>(alloc: Global) -> Command<'a>
+    ensures { app_of result ≡ mirror_form }
+{
+    Command::new(alloc, "mirror")
 }
 
 /// `send PROFILE [--instance I] [--group ADDRESS[:PORT]]`.

@@ -1,13 +1,13 @@
-//! What the words ask for if it is not a node's run: `session`, `show` or `generate`. The program calls [`task_of`].
+//! What the words ask for if it is not a node's run: `session`, `show`, `generate` or `mirror`. The program calls [`task_of`].
 
 ghost use Rattle.std.specs.Prelude.{◌≡◌, map, string_bytes, IfOk, IfSome};
 ghost use Rattle.std.specs.Option.{option_map};
 ghost use Rattle.clap.specs.Words.{rows_of, found_of, first_of};
 ghost use Rattle.norm_base.specs.Keys.{IsValue};
 ghost use Rattle.norm_args.specs.Fits.{FitsOptions, FitsTask};
-ghost use Rattle.norm_args.specs.Tasks.{value_given, options_with, options_in, number_in, session_in, show_in, generate_in, task_of};
+ghost use Rattle.norm_args.specs.Tasks.{value_given, options_with, options_in, number_in, session_in, show_in, generate_in, mirror_in, task_of};
 
-use crate::forms::{found_in, generate_form, session_form, show_form};
+use crate::forms::{found_in, generate_form, mirror_form, session_form, show_form};
 use clap::ArgMatches;
 use norm_base::{Key, Memory};
 use norm_script::number_within;
@@ -33,6 +33,8 @@ pub enum Task {
     Show,
     /// Writes the script that is made of this number.
     Generate(u32),
+    /// Sends the folder that the input names, and puts each receiver's copies of its files.
+    Mirror,
 }
 
 /// `Some(None)` if no word is given. `None` if the word is not a number that the key may have, in digits without a sign or a leading zero.
@@ -146,7 +148,18 @@ fn generate_in(alloc: Global, words: &[String]) -> Result<Option<Task>, Memory>
     }
 }
 
-/// Returns what the words after the program's name ask for. `None` if they have none of the forms of `session`, `show` and `generate`.
+/// `None` if the words do not fit the form, as with a word after `mirror`.
+fn mirror_in(alloc: Global, words: &[String]) -> Result<Option<Task>, Memory>
+    ensures task { IfOk result (λ task. task ≡ mirror_in (map string_bytes words.now)) }
+    ensures fits { IfOk result (λ task. IfSome task FitsTask) }
+{
+    match found_in(mirror_form(alloc), words)? {
+        Some(_) => Ok(Some(Task::Mirror)),
+        None => Ok(None),
+    }
+}
+
+/// Returns what the words after the program's name ask for. `None` if they have none of the forms of `session`, `show`, `generate` and `mirror`.
 ///
 /// # Errors
 ///
@@ -168,6 +181,9 @@ pub fn task_of(alloc: Global, words: &[String]) -> Result<Option<Task>, Memory>
     }
     if first == b"generate".as_slice() {
         return generate_in(alloc, words);
+    }
+    if first == b"mirror".as_slice() {
+        return mirror_in(alloc, words);
     }
     Ok(None)
 }
