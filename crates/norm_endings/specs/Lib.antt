@@ -1,4 +1,5 @@
 pub mod StatusOf
+pub mod MirrorReasons
 pub mod Reasons
 pub mod Outside
 pub mod Endings

@@ -6,9 +6,10 @@ use Rattle.norm_multi.specs.declared.multi.MultiFault.{MultiFault}
 use Rattle.norm_multi.specs.declared.multi.MultiFault.TheVariants as multi
 use Rattle.norm_script.specs.Sentences.{refusal_text}
 use Rattle.norm_show.specs.Sentences.{sentence_of_none}
+use Rattle.norm_endings.specs.MirrorReasons.{not_satisfied_reason}
 use Rattle.relay_words.specs.Reasons.{relay_reason, event_reason, command_reason, relayed_reason, is_told}
 use Rattle.norm_endings.specs.declared.status.Ending.{Ending}
-use Rattle.norm_endings.specs.declared.status.Ending.TheVariants.{Memory, Words, Refused, Line, Event, Profile, TailRefused, Relayed, Command}
+use Rattle.norm_endings.specs.declared.status.Ending.TheVariants.{Memory, Words, Refused, Line, Event, Profile, TailRefused, Relayed, Command, Unsendable, NotAccepted, NotSatisfied, Unlike}
 use Rattle.norm_endings.specs.declared.status.NoTail.{NoTail}
 use Rattle.norm_endings.specs.declared.status.NoTail.TheVariants.{Waiting, NoRequest, Mode, Streams, Step, Pace, Flushes}
 use Rattle.norm_endings.specs.declared.status.ProfileFault.{ProfileFault}
@@ -51,11 +52,12 @@ words_reason (word ∷ others) =
     if pointwise nat_eq word (codes "session") then session_takes else
     (if pointwise nat_eq word (codes "generate") then generate_takes else
     (if pointwise nat_eq word (codes "show") then extra_reason word others else
+    (if pointwise nat_eq word (codes "mirror") then extra_reason word others else
     (if pointwise nat_eq word (codes "send") then send_takes else
     (if pointwise nat_eq word (codes "recv") then recv_takes else
     (if pointwise nat_eq word (codes "hub") then hub_takes else
     (if pointwise nat_eq word (codes "gather") then gather_takes else
-    (if pointwise nat_eq word (codes "relay") then relay_takes else codes "the word " ++ (word ++ codes " is unknown"))))))))
+    (if pointwise nat_eq word (codes "relay") then relay_takes else codes "the word " ++ (word ++ codes " is unknown")))))))))
 
 -- why a node is none of a profile's receivers, which are those from the first to the last
 abbrev pub node_reason : (node first last : ℕ) → List ℕ
@@ -107,6 +109,10 @@ has_reason (Profile why) = true
 has_reason (TailRefused why) = true
 has_reason (Relayed lost patience) = is_told lost patience
 has_reason (Command fault) = true
+has_reason (Unsendable name len) = true
+has_reason (NotAccepted what) = true
+has_reason (NotSatisfied which) = true
+has_reason (Unlike why) = true
 has_reason _ = false
 
 -- what it is, where that is named
@@ -120,4 +126,8 @@ reason_of (Profile why) words = profile_reason why
 reason_of (TailRefused why) words = Some (no_tail_reason why)
 reason_of (Relayed lost patience) words = Some (relayed_reason lost patience)
 reason_of (Command fault) words = Some (command_reason fault)
+reason_of (Unsendable name len) words = None
+reason_of (NotAccepted what) words = None
+reason_of (NotSatisfied which) words = Some (not_satisfied_reason which)
+reason_of (Unlike why) words = None
 reason_of _ words = Some []

@@ -5,6 +5,7 @@
 
 mod input;
 mod last_line;
+mod mirror_reason;
 mod profiles;
 mod reason;
 mod status;

@@ -8,6 +8,7 @@ ghost use Rattle.norm_endings.specs.Reasons.{extra_reason, words_reason, node_re
 ghost use Rattle.norm_endings.specs.StatusOf.{status_of};
 ghost use Rattle.norm_endings.specs.declared.status.Ending.TheVariants as ending;
 
+use crate::mirror_reason::{say_not_accepted, say_not_satisfied, say_unlike, say_unsendable};
 use crate::status::{Ending, NoTail, ProfileFault};
 use norm_base::Memory;
 use norm_multi::MultiFault;
@@ -57,7 +58,7 @@ fn say_extra<W: fmt::Write>(word: &str, others: &[String], f: &mut fmt::Formatte
     }
 }
 
-/// Says why words are refused, of which `word` is the first. Looks at the others only for `show`: of any other command it says all that it takes,
+/// Says why words are refused, of which `word` is the first. Looks at the others only for `show` and `mirror`: of any other command it says all that it takes,
 /// and of any other word that it is unknown.
 fn say_first<W: fmt::Write>(word: &str, others: &[String], f: &mut fmt::Formatter<W>) -> fmt::Result
     ensures { DisplaysOnOk W.write_str_gives f.old result (Some (words_reason (word.now ∷ map string_bytes others.now))) f.new }
@@ -70,6 +71,9 @@ fn say_first<W: fmt::Write>(word: &str, others: &[String], f: &mut fmt::Formatte
         return f.write_str(GENERATE_TAKES);
     }
     if octets == b"show".as_slice() {
+        return say_extra(word, others, f);
+    }
+    if octets == b"mirror".as_slice() {
         return say_extra(word, others, f);
     }
     if octets == b"send".as_slice() {
@@ -223,6 +227,10 @@ impl fmt::Display for Reason<'_> {
             Ending::TailRefused { why } => say_no_tail(why, f),
             Ending::Relayed { lost, patience } => say_relayed(*lost, *patience, f),
             Ending::Command { fault } => say_command(*fault, f),
+            Ending::Unsendable { name, len } => say_unsendable(name, *len, f),
+            Ending::NotAccepted { what } => say_not_accepted(what, f),
+            Ending::NotSatisfied { which } => say_not_satisfied(*which, f),
+            Ending::Unlike { why } => say_unlike(why, f),
             Ending::Done
             | Ending::Datagram
             | Ending::Read
@@ -250,7 +258,11 @@ impl Ending {
             | Ending::Event { .. }
             | Ending::Profile { .. }
             | Ending::TailRefused { .. }
-            | Ending::Command { .. } => true,
+            | Ending::Command { .. }
+            | Ending::Unsendable { .. }
+            | Ending::NotAccepted { .. }
+            | Ending::NotSatisfied { .. }
+            | Ending::Unlike { .. } => true,
             _ => false,
         }
     }

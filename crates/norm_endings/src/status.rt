@@ -6,6 +6,7 @@ ghost use Rattle.norm_endings.specs.StatusOf.{status_of};
 ghost use Rattle.norm_endings.specs.declared.status.Ending.TheVariants as ending;
 
 use norm_base::{NodeId, Text};
+use norm_mirror::{Unaccepted, Unlike, Unsatisfied};
 use norm_multi::MultiFault;
 use norm_profile::ProfileRefusal;
 use norm_script::Refusal;
@@ -16,7 +17,7 @@ use std::alloc::{AllocError, AllocFailed};
 use std::marker::Model;
 use std::process::ExitCode;
 
-/// An exit status of the program, 0 to 9, 12 or 13. [`Ending::status`] makes it.
+/// An exit status of the program, 0 to 14. [`Ending::status`] makes it.
 #[derive(Clone, Copy, Debug, PartialEq, Eq)]
 pub struct Status(u8);
 
@@ -27,13 +28,13 @@ impl Model for Status {
 
     ghost view = { λ s. s.0 };
 
-    ghost invariant = { λ s. s.0 ≤ 13 };
+    ghost invariant = { λ s. s.0 ≤ 14 };
 
     ghost inverse = { λ n. record { 0 = n } };
 }
 
 impl Status {
-    /// Returns the number with which the process exits, 0 to 9, 12 or 13.
+    /// Returns the number with which the process exits, 0 to 14.
     pub fn code(&self) -> u8
         ensures { result ≡ self.now }
     {
@@ -141,6 +142,14 @@ pub enum Ending {
     Relayed { lost: Losses, patience: Patience },
     /// The session below a relay refused a job for good.
     Command { fault: SendFault },
+    /// A file of a folder has this length in octets, with which it cannot stand in a manifest. Nothing was sent.
+    Unsendable { name: Text, len: u64 },
+    /// The session of a folder was whole, but its sender refused `what`, the first, for good.
+    NotAccepted { what: Option<Unaccepted> },
+    /// The session of a folder was whole, but its sender gave a watermark up: `which`, the first.
+    NotSatisfied { which: Option<Unsatisfied> },
+    /// The session of a folder was whole, but a receiver, the first, handed up something else.
+    Unlike { why: Unlike },
 }
 
 impl From<AllocError> for Ending {
@@ -161,7 +170,7 @@ impl<T: Drop> From<AllocFailed<T>> for Ending {
 
 impl Ending {
     /// Returns the exit status. Several endings share one: 0 if everything was done or tails were made, 3 if a line, a profile or a
-    /// node is refused, 7 if a file is absent or a call of the files failed.
+    /// node is refused, 7 if a file is absent or a call of the files failed, 14 if a folder was not accepted.
     pub fn status(&self) -> Status
         ensures { result ≡ status_of self.now }
     {
@@ -180,7 +189,10 @@ impl Ending {
             Ending::Spent => Status(8),
             Ending::Datagram => Status(9),
             Ending::TailRefused { .. } => Status(12),
+            Ending::Unlike { .. } => Status(10),
+            Ending::NotSatisfied { .. } => Status(11),
             Ending::Command { .. } => Status(13),
+            Ending::NotAccepted { .. } | Ending::Unsendable { .. } => Status(14),
         }
     }
 }
