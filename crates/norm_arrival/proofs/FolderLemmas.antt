@@ -17,11 +17,16 @@ use Rattle.norm_script.specs.declared.script.Verb.{Verb}
 use Rattle.norm_script.specs.declared.script.Verb.TheVariants as verb
 use Rattle.norm_send_rules.specs.SenderState.{SenderState}
 use Rattle.norm_safety.specs.Events.{Event as WorldEvent}
+use Rattle.norm_safety.specs.Hands.{hands}
 use Rattle.norm_safety.specs.History.{History, history, happens, last_world}
+use Rattle.norm_safety.specs.Safe.{IsSafe}
 use Rattle.norm_safety.specs.World.{World}
 use Rattle.norm_safety.specs.WorldStep.{world_step, run_from}
+use Rattle.norm_journal.specs.Jobs.{Told}
 use Rattle.norm_journal.specs.Judged.{Judged, judged_opening}
+use Rattle.norm_journal.specs.SessionRun.{judged}
 use Rattle.norm_journal.specs.WorldEvents.{world_events}
+use Rattle.norm_journal.specs.declared.event.Event.{Event}
 use Rattle.norm_journal.proofs.HandedLemmas.{says_the_hands}
 use Rattle.norm_journal.proofs.WorldLemmas.{moves_world}
 use Rattle.norm_record.specs.HandedUp.{handed_up}
@@ -30,6 +35,7 @@ use Rattle.norm_mirror.specs.Manifest.{manifest_text}
 use Rattle.norm_mirror.specs.declared.entry.Entry.{Entry}
 use Rattle.norm_laws.proofs.WholeOrders.{IsWhole, AreWhole}
 use Rattle.norm_arrival.specs.FolderArrives.{IsEntryOf, AreEntriesOf, FolderArrives}
+use Rattle.norm_arrival.specs.FolderHandsUp.{FolderHandsUp, file_ups, folder_ups}
 use Rattle.norm_arrival.specs.FolderScript.{folder_objects, command, with_marks, folder_script}
 use Rattle.norm_arrival.specs.HandedBy.{ups_of}
 use Rattle.norm_arrival.proofs.SenderSteps.{Orderly, objects_in, order_is_whole}
@@ -122,8 +128,13 @@ parts_are p n (x ∷ order) whole = go x.object whole.0 (parts_are p (n + 1) ord
     go (Stream parts) is more = absurd is
 
 -- those of a folder's files
-files_are : (files : Contents) (n : ℕ) (entries : List Entry) → AllByRecursion (IsEntryOf files) entries
-    → AreFilesOf entries (ups_from n (map (object_of files) (map (λ (e : Entry). verb.File e.name) entries)))
+files_same : (files : Contents) (n : ℕ) (entries : List Entry)
+    → ups_from n (map (object_of files) (map (λ (e : Entry). verb.File e.name) entries)) ≡ file_ups files n entries
+files_same files n [] = refl
+files_same files n (e ∷ entries) =
+    ap (λ (us : List Up). up.Object n kind.File (Some e.name) (unwrap_or (content_of files e.name) []) ∷ us) (files_same files (n + 1) entries)
+
+files_are : (files : Contents) (n : ℕ) (entries : List Entry) → AllByRecursion (IsEntryOf files) entries → AreFilesOf entries (file_ups files n entries)
 files_are files n [] each = tt
 files_are files n (e ∷ entries) each = (
   record {
@@ -136,13 +147,12 @@ files_are files n (e ∷ entries) each = (
   files_are files (n + 1) entries each.1,
 )
 
--- a folder's objects are handed up as the folder
-folder_is : (files : Contents) (entries : List Entry) (ups : List Up) → AreEntriesOf files entries
-    → ups ≡ ups_from 0 (map (object_of files) (folder_objects entries)) → IsFolder entries ups
+-- they are the folder
+folder_is : (files : Contents) (entries : List Entry) (ups : List Up) → AreEntriesOf files entries → ups ≡ folder_ups files entries → IsFolder entries ups
 folder_is files entries ups are is = record {
   index = 0;
   info = None;
-  files = ups_from 1 (map (object_of files) (map (λ (e : Entry). verb.File e.name) entries));
+  files = file_ups files 1 entries;
   are = is;
   manifest = are.manifest;
   each = files_are files 1 entries are.each;
@@ -150,13 +160,30 @@ folder_is files entries ups are is = record {
 
 -- ---- the run
 
-last_is_run : (p : Settings) (w : World) (events : List WorldEvent) → last_world w (happens p w events) ≡ run_from p w events
+pub last_is_run : (p : Settings) (w : World) (events : List WorldEvent) → last_world w (happens p w events) ≡ run_from p w events
 unfolding happens last_world
 last_is_run p w [] = refl
 last_is_run p w (e ∷ events) = last_is_run p (world_step p w e).0 events
 
-pub folder_arrives : FolderArrives
-folder_arrives p range entries files are journal run safe clean node there = folder_is files entries (ups_of node (handed_up journal)) are handed
+-- what a node handed up in all is what it handed up in the sender's first instance, if that has no other
+pub node_hands : (script : Commands) (files : Told) (nodes : List ℕ) (journal : List Event) (last : Judged) (node : ℕ) → judged script files nodes journal ≡ Some last
+    → let h = history script.profile (world_events (judged_opening script files nodes) journal) in
+    IsSafe script.profile h → h.now.sender.earlier ≡ [] → ups_of node (handed_up journal) ≡ hands h.happened node h.now.sender.current.id
+node_hands script files nodes journal last node begun safe earlier = node_ups journal node id only ∙ says_the_hands script files nodes journal last begun node id
+  where
+    h : History
+    h = history script.profile (world_events (judged_opening script files nodes) journal)
+
+    id : ℕ
+    id = h.now.sender.current.id
+
+    only : OnlyIn journal node id
+    only other differs =
+        says_the_hands script files nodes journal last begun node other
+        ∙ none_elsewhere script.profile h node other safe earlier differs
+
+pub folder_hands_up : FolderHandsUp
+folder_hands_up p range entries files journal run safe clean node there = handed
   where
     script : Commands
     script = folder_script p entries
@@ -196,21 +223,17 @@ folder_arrives p range entries files are journal run safe clean node there = fol
     made : Orderly p plan.objects plan.asked h.now.sender
     made = finished.made
 
-    id : ℕ
-    id = h.now.sender.current.id
-
-    only : OnlyIn journal node id
-    only other differs =
-        says_the_hands script (Some files) nodes journal run.last run.begun node other
-        ∙ none_elsewhere p h node other safe made.earlier differs
-
     objects : objects_in h.now.sender.current.order ≡ map (object_of files) (folder_objects entries)
     objects = made.order ∙ marks_bring p files 1 (folder_objects entries) no_plan (folder_brings entries)
 
-    handed : ups_of node (handed_up journal) ≡ ups_from 0 (map (object_of files) (folder_objects entries))
+    handed : ups_of node (handed_up journal) ≡ folder_ups files entries
     handed =
-        node_ups journal node id only
-        ∙ says_the_hands script (Some files) nodes journal run.last run.begun node id
+        node_hands script (Some files) nodes journal run.last node run.begun safe made.earlier
         ∙ all_handed p range h plan.objects plan.asked node safe made (planned_whole p files script.lines) last there
         ∙ parts_are p 0 h.now.sender.current.order (order_is_whole p plan.objects plan.asked h.now.sender made (planned_whole p files script.lines))
         ∙ ap (ups_from 0) objects
+        ∙ ap (λ (us : List Up). up.Object 0 kind.Data None (manifest_text entries) ∷ us) (files_same files 1 entries)
+
+pub folder_arrives : FolderArrives
+folder_arrives p range entries files are journal run safe clean node there =
+    folder_is files entries (ups_of node (handed_up journal)) are (folder_hands_up p range entries files journal run safe clean node there)

@@ -230,7 +230,7 @@ all_upto p range order at whole fits e = go (ends order)
 
 -- ---- what every member handed up
 
-order_is : (s : SenderState) → s.earlier ≡ [] → order_of s s.current.id ≡ s.current.order
+pub order_is : (s : SenderState) → s.earlier ≡ [] → order_of s s.current.id ≡ s.current.order
 order_is s none =
     ap (λ (all : List Instance). order_in (find (λ (i : Instance). i.id == s.current.id) (all ++ s.current ∷ []))) none
     ∙ ap (λ (b : Bool). order_in (cond b (Some s.current) None)) ((Decides-eqb s.current.id s.current.id).1 refl)

@@ -5,3 +5,4 @@ pub mod LastMark
 pub mod HandedNode
 pub mod FolderLemmas
 pub mod CanRunLemmas
+pub mod DifferLemmas
