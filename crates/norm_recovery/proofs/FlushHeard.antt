@@ -99,7 +99,7 @@ need_knows p now draw r id at h = go (may_back_off now r.knows) (needs_nothing p
     go false c = h
 
 -- what becomes of a receiver that hears a flush
-heard_is : (p : Settings) (r t : ReceiverState) (octets : List ℕ) (now draw index : ℕ) (m : FlushCommand) → decoded octets ≡ Ok (Flush m)
+pub heard_is : (p : Settings) (r t : ReceiverState) (octets : List ℕ) (now draw index : ℕ) (m : FlushCommand) → decoded octets ≡ Ok (Flush m)
     → m.head.source ≡ p.sender → entered r m.head.instance ≡ Some t → index_named p t.knows.known m.object ≡ Some index
     → received p r octets now draw ≡ may_need p now draw (flush_received m index (record t { knows = learns index t.knows }))
 heard_is p r t octets now draw index m read source enters named =

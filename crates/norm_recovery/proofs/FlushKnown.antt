@@ -153,7 +153,7 @@ flush_command p s w = record {
 }
 
 -- a flush that is true of orders of few objects has a small index
-small_index : (p : Settings) (s : SenderState) (indices : List ℕ) (m : FlushCommand) → FewObjects s → IsTrueOf p s indices (Flush m) → first_index indices ≤ 32767
+pub small_index : (p : Settings) (s : SenderState) (indices : List ℕ) (m : FlushCommand) → FewObjects s → IsTrueOf p s indices (Flush m) → first_index indices ≤ 32767
 small_index p s indices m few says =
     let there = entry_with p (order_of s m.head.instance) (first_index indices) (λ x. nat_lt m.id.symbol (closed_in x m.id.block)) says.1 in
     let lt = slice_get_within (order_of s m.head.instance) (first_index indices) there.0 there.1 in

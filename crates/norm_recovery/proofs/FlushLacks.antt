@@ -42,6 +42,7 @@ use Rattle.norm_laws.proofs.HeldLengths.{PlanIs, says_its, its_cut}
 use Rattle.norm_laws.proofs.NewOrder.{clash}
 use Rattle.norm_recovery.specs.Flush.{KnowsFlush}
 use Rattle.norm_recovery.specs.FlushLacks.{Lacks, FlushLacks}
+use Rattle.norm_recovery.specs.FlushNeeds.{StandsBefore}
 use Rattle.norm_recovery.specs.TailKeeps.{Stays}
 use Rattle.norm_recovery.specs.TailLawful.{GoesOn}
 use Rattle.norm_recovery.proofs.FlushKnown.{after_run}
@@ -191,33 +192,21 @@ no_more_blocks p order at plan x found is kind ends same =
 
 -- ---- after a run
 
-lacks_in_run : (p : Settings) → InRange p → p.mode ≡ Hold → (events : List Event) → Lawful p events → AreEvents events → streams (run p events).sender ≡ 0
-    → (node : ℕ) → (node == p.sender) ≡ false → (r : ReceiverState) → receiver_at (run p events) node ≡ Some r → has_member node (run p events).sender ≡ true
+-- A receiver of the current instance that knows a flush, is not past it, and stands at the drop point or past it, stands before the flush.
+pub before_in_run : (p : Settings) → InRange p → (events : List Event) → Lawful p events → AreEvents events → streams (run p events).sender ≡ 0
+    → (node : ℕ) → (node == p.sender) ≡ false → (r : ReceiverState) → receiver_at (run p events) node ≡ Some r
     → (at : Position) → EndsPartOf p (run p events).sender.current.order at → KnowsFlush r (run p events).sender.current.id at
-    → position_before at r.holding.point ≡ false → Lacks p (run p events).sender r
-lacks_in_run p range hold events lawful are none node other r found member at ends knows early = record {
-  needs = flush_needs p r at (record {
-    flush = knows.flush;
-    before = (let further = behind at r.holding.point (ap not early) in omega (arith, further));
-    stuck = (far_from p (world_opening p) events (far_opening p) node r other found).stuck;
-    no_stream = no_stream (plan_of r.holding r.holding.point.index) refl;
-    last = last (plan_of r.holding r.holding.point.index) refl;
-  });
-  in_window = here.0;
+    → (run p events).sender.current.drop.index ≤ r.holding.point.index → position_before at r.holding.point ≡ false → StandsBefore p r at
+before_in_run p range events lawful are none node other r found at ends knows not_dropped early = record {
+  flush = knows.flush;
+  before = (let further = behind at r.holding.point (ap not early) in omega (arith, further));
+  stuck = (far_from p (world_opening p) events (far_opening p) node r other found).stuck;
+  no_stream = no_stream (plan_of r.holding r.holding.point.index) refl;
+  last = last (plan_of r.holding r.holding.point.index) refl;
 }
   where
     s : SenderState
     s = (run p events).sender
-
-    inside : is_in r (run p events).sender.current.id ≡ true
-    inside = ap (λ (o : Option ℕ). elim o as (λ _. Bool) [ Some current ↦ current == (run p events).sender.current.id | None ↦ false ]) knows.inside
-        ∙ (Decides-eqb (run p events).sender.current.id (run p events).sender.current.id).1 refl
-
-    here : (point_before (point_of r.holding.point) (run p events).sender.current.drop ≡ false) × (r.holding.lost ≡ [])
-    here = (stands_in_run p range hold events lawful are node r found member).inside inside
-
-    not_dropped : (run p events).sender.current.drop.index ≤ r.holding.point.index
-    not_dropped = (let past = behind_point (point_of r.holding.point) (run p events).sender.current.drop here.0 in omega (arith, past))
 
     plans : AllByRecursion (IsPlanOf p (run p events).sender.current.order) r.holding.plans
     plans =
@@ -238,6 +227,23 @@ lacks_in_run p range hold events lawful are none node other r found member at en
     last (Some plan) e =
         let a = at_point p (run p events).sender.current.order (run p events).sender.current.drop.index r.holding plan plans none not_dropped e in
         no_more_blocks p (run p events).sender.current.order at plan a.by.entry a.by.found a.by.is a.kind ends
+
+lacks_in_run : (p : Settings) → InRange p → p.mode ≡ Hold → (events : List Event) → Lawful p events → AreEvents events → streams (run p events).sender ≡ 0
+    → (node : ℕ) → (node == p.sender) ≡ false → (r : ReceiverState) → receiver_at (run p events) node ≡ Some r → has_member node (run p events).sender ≡ true
+    → (at : Position) → EndsPartOf p (run p events).sender.current.order at → KnowsFlush r (run p events).sender.current.id at
+    → position_before at r.holding.point ≡ false → Lacks p (run p events).sender r
+lacks_in_run p range hold events lawful are none node other r found member at ends knows early = record {
+  needs = flush_needs p r at (before_in_run p range events lawful are none node other r found at ends knows
+      (let past = behind_point (point_of r.holding.point) (run p events).sender.current.drop here.0 in omega (arith, past)) early);
+  in_window = here.0;
+}
+  where
+    inside : is_in r (run p events).sender.current.id ≡ true
+    inside = ap (λ (o : Option ℕ). elim o as (λ _. Bool) [ Some current ↦ current == (run p events).sender.current.id | None ↦ false ]) knows.inside
+        ∙ (Decides-eqb (run p events).sender.current.id (run p events).sender.current.id).1 refl
+
+    here : (point_before (point_of r.holding.point) (run p events).sender.current.drop ≡ false) × (r.holding.lost ≡ [])
+    here = (stands_in_run p range hold events lawful are node r found member).inside inside
 
 -- ---- after the turn
 

@@ -3,22 +3,25 @@ use Rattle.std.proofs.Common.{◌≡◌, ℕ, zero, suc, ◌+◌, ◌<◌, ◌�
 use Rattle.std.specs.Prelude.{◌==◌, ◌&&◌, ◌||◌, cond, find, nat_le, nat_lt, IfSome}
 use Rattle.std.specs.List.{list_all, range_with_len}
 use Rattle.std.proofs.lemmas.Bool.Decides.{Decides-eqb, leb_tells}
+use Rattle.norm_base.specs.Settings.{Settings}
 use Rattle.fec_plan.specs.Partition.{blocks}
 use Rattle.fec_plan.specs.Points.{point, point_of, reached_by}
 use Rattle.fec_plan.specs.declared.position.Position.{Position}
 use Rattle.fec_plan.proofs.PointLemmas.{not_before}
 use Rattle.fec_plan.proofs.PositionLemmas.{Behind, behind}
 use Rattle.norm_order.specs.declared.up.Up.TheVariants as up
+use Rattle.norm_receive_rules.specs.AllNeeds.{needs_nothing}
 use Rattle.norm_receive_rules.specs.HandingUp.{is_whole, handed, after_object, kind_of, told_info, object_octets, hands_next, hands_object}
 use Rattle.norm_receive_rules.specs.Holding.{Holding, Plan}
 use Rattle.norm_receive_rules.specs.Laws.{needs_nothing_first}
 use Rattle.norm_receive_rules.specs.Needs.{farthest_index, is_covered}
 use Rattle.norm_receive_rules.specs.NothingMissing.{ObjectIsThere}
 use Rattle.norm_receive_rules.specs.Plans.{plan_of, is_done, has_its_info, says_stream, cut_of_plan}
+use Rattle.norm_receive_rules.specs.ReceiverState.{ReceiverState}
 use Rattle.norm_receive_rules.proofs.FrontLemmas.{front_laws}
 use Rattle.norm_receive_rules.proofs.NeedLemmas.{exactly}
 use Rattle.norm_laws.proofs.NewOrder.{clash}
-use Rattle.norm_recovery.specs.FlushNeeds.{FlushNeeds}
+use Rattle.norm_recovery.specs.FlushNeeds.{StandsBefore, FlushNeeds}
 
 both_true : (a b : Bool) → a ≡ true → b ≡ true → (a && b) ≡ true
 both_true true b e f = f
@@ -69,8 +72,9 @@ flushed_up f at index block h le last = by (index == f.index) refl
         let differ : index ≡ f.index → ⊥ = λ same. clash (sym e ∙ (Decides-eqb index f.index).1 same) in
         inl (omega (arith, differ, le, h))
 
-pub flush_needs : FlushNeeds
-flush_needs p r at h = go (needs_nothing_first p r) refl
+-- So something is needed.
+pub flush_missing : (p : Settings) (r : ReceiverState) (at : Position) → StandsBefore p r at → needs_nothing p r ≡ true → ⊥
+flush_missing p r at h = known r.knows.flush refl h.flush
   where
     i : ℕ
     i = r.holding.point.index
@@ -124,16 +128,19 @@ flush_needs p r at h = go (needs_nothing_first p r) refl
         done = both_true (has_its_info r.holding plan) (list_all (is_done r.holding plan) (range_with_len 0 (blocks (cut_of_plan plan)))) (there.info covered)
             (all_range (is_done r.holding plan) 0 (blocks (cut_of_plan plan)) block_done)
 
-    known : (o : Option Position) → r.knows.flush ≡ o → reached_by o at ≡ true → needs_nothing_first p r ≡ true → ⊥
+    known : (o : Option Position) → r.knows.flush ≡ o → reached_by o at ≡ true → needs_nothing p r ≡ true → ⊥
     known None e reach none = clash reach
     known (Some f) e reach none =
         let further = behind f at reach in
-        let missing = (exactly p r).0 (front_laws.first p r h.stuck h.no_stream none) in
+        let missing = (exactly p r).0 none in
         let flushed = ap (λ (o : Option Position). elim o as (λ _. ℕ) [ Some x ↦ x.index | None ↦ 0 ]) e in
         whole f e further (plan_of r.holding r.holding.point.index) refl
         (missing r.holding.point.index (omega arith) (let le = h.before in let on = index_behind f at further in omega (arith, le, on, flushed)))
         h.stuck h.no_stream h.last
 
+pub flush_needs : FlushNeeds
+flush_needs p r at h = go (needs_nothing_first p r) refl
+  where
     go : (b : Bool) → needs_nothing_first p r ≡ b → b ≡ false
     go false e = refl
-    go true e = absurd (known r.knows.flush refl h.flush e)
+    go true e = absurd (flush_missing p r at h (front_laws.first p r h.stuck h.no_stream e))

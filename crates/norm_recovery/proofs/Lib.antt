@@ -76,3 +76,9 @@ pub mod CleanTurn
 pub mod BackOffRuns
 pub mod BackOffTurn
 pub mod SteadyFlush
+pub mod AskedMoves
+pub mod AskedHears
+pub mod SteadyFronts
+pub mod AskedWalk
+pub mod AskedSteps
+pub mod AskedLaw

@@ -29,3 +29,4 @@ pub mod SteadyPasses
 pub mod SteadyNeeds
 pub mod SteadySent
 pub mod SteadyNothing
+pub mod SteadyAsked

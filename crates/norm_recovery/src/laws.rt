@@ -18,6 +18,7 @@ ghost use Rattle.norm_recovery.specs.NeedLacks.{NeedLacks};
 ghost use Rattle.norm_recovery.specs.NeedsRead.{NeedsAreRead};
 ghost use Rattle.norm_recovery.specs.RoundAsks.{RoundAsks};
 ghost use Rattle.norm_recovery.specs.RunsOut.{RunsOutLaws, TailRunsOut};
+ghost use Rattle.norm_recovery.specs.SteadyAsked.{IsAskedOnceOrTwice};
 ghost use Rattle.norm_recovery.specs.SteadyNeeds.{HadIsNotNeeded};
 ghost use Rattle.norm_recovery.specs.SteadyNothing.{NothingIsNeeded};
 ghost use Rattle.norm_recovery.specs.SteadyPasses.{DirectPasses};
@@ -197,4 +198,10 @@ pub fn sent_before_next()
 /// round is open, nothing is wanted, and no squelch is due.
 pub fn nothing_is_needed()
     ensures { NothingIsNeeded }
+{}
+
+/// In a steady session over a direct network each watermark is asked for once or twice, and is satisfied then. A flush of one turn is acknowledged in
+/// it by every pending member, and the sender takes these acknowledgements in the next turn. So no watermark expires.
+pub fn asked_once_or_twice()
+    ensures { IsAskedOnceOrTwice }
 {}
