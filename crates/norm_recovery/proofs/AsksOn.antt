@@ -194,6 +194,31 @@ told_on p s = go s.untold_nodes s.untold_marks
     go [] (mark ∷ marks) = same_round p s (by [] (mark ∷ marks)).0 refl refl
     go [] [] = asks_itself p s
 
+-- ---- the round itself
+
+pub tick_round : (p : Settings) (s : SenderState) (now : ℕ) → (ticked p s now).0.round ≡ (closed_where_due p now s).round
+tick_round p s now = (sends_rests p now (closed_where_due p now s)).round
+
+pub credited_round : (p : Settings) (node : ℕ) (at : Position) (s : SenderState) → (credited_at p node at s).round ≡ s.round
+credited_round p node at s = (credited_rests p node at s).round
+
+pub told_round : (s : SenderState) → (told s).0.round ≡ s.round
+told_round s = go s.untold_nodes s.untold_marks
+  where
+    by : List ℕ → List ℕ → SenderState × Option News
+    by nodes marks = elim nodes [
+      | node ∷ others ↦ (record s { untold_nodes = others }, past_news node (listing_of s node))
+      | [] ↦ elim marks [
+        | mark ∷ others ↦ (record s { untold_marks = others }, done_news s mark (watermark_of s mark))
+        | [] ↦ (s, None)
+      ]
+    ]
+
+    go : (nodes marks : List ℕ) → (by nodes marks).0.round ≡ s.round
+    go (node ∷ nodes) marks = refl
+    go [] (mark ∷ marks) = refl
+    go [] [] = refl
+
 -- ---- an event
 
 pub event_on : (p : Settings) (w : World) (e : Event) → Quiet p e → AsksOn p w.sender (world_step p w e).0.sender

@@ -43,7 +43,7 @@ use Rattle.norm_recovery.proofs.MembersEnter.{members_enter}
 use Rattle.norm_recovery.proofs.MembersRun.{no_node}
 use Rattle.norm_recovery.proofs.PassTurn.{is_other}
 use Rattle.norm_recovery.proofs.RunsOutTail.{own_tick, quiet_rests}
-use Rattle.norm_recovery.proofs.RunsOutTurns.{tells_keep, round_keeps}
+use Rattle.norm_recovery.proofs.RunsOutTurns.{IsAt, tells_keep, round_keeps}
 use Rattle.norm_recovery.proofs.TailCourses.{IsCalm, comes_calm, begins_calm, draw_calm}
 use Rattle.norm_recovery.proofs.TailWalk.{no_receiver, turn_keeps}
 
@@ -54,15 +54,15 @@ none_some x e = cc
 
 turn_wants : (p : Settings) (draws : ℕ → ℕ) (now : ℕ) (w : World) → (tail_turn p draws now (course_from w)).world.sender.wants ≡ (ticked p w.sender now).0.wants
 turn_wants p draws now w =
-    round_keeps p draws Kept each drawn now (sender_ticks p now (course_from w))
-    (tells_keep p draws Kept each drawn (comes p (Ticked p.sender now) (course_from w)) (ap (λ (s : SenderState). s.wants) (own_tick p w now)))
+    round_keeps p draws now Kept each drawn (sender_ticks p now (course_from w))
+    (tells_keep p draws now Kept each drawn (comes p (Ticked p.sender now) (course_from w)) (ap (λ (s : SenderState). s.wants) (own_tick p w now)))
   where
     Kept : Course → Type 0
     Kept c = c.world.sender.wants ≡ (ticked p w.sender now).0.wants
 
-    each : (e : Event) → Quiet p e → (c : Course) → c.world.sender.wants ≡ (ticked p w.sender now).0.wants
+    each : (e : Event) → Quiet p e → IsAt now e → (c : Course) → c.world.sender.wants ≡ (ticked p w.sender now).0.wants
         → (comes p e c).world.sender.wants ≡ (ticked p w.sender now).0.wants
-    each e quiet c h = (quiet_rests p c.world e quiet).wants ∙ h
+    each e quiet by c h = (quiet_rests p c.world e quiet).wants ∙ h
 
     drawn : (c : Course) (n : ℕ) → c.world.sender.wants ≡ (ticked p w.sender now).0.wants → c.world.sender.wants ≡ (ticked p w.sender now).0.wants
     drawn c n h = h

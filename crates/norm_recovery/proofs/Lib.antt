@@ -82,3 +82,5 @@ pub mod SteadyFronts
 pub mod AskedWalk
 pub mod AskedSteps
 pub mod AskedLaw
+pub mod WatchEnds
+pub mod WatchTurn

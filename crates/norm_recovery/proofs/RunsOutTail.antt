@@ -164,17 +164,17 @@ quiet_rests p w e quiet = subst (Rests w.sender) (sym (sender_is p w e)) (after 
 -- ---- the last closing
 
 -- the moment of a tick that closed a round, if one was open before and none is after
-abbrev closed_by : ℕ → (before after : Option Round) → Option ℕ
+abbrev pub closed_by : ℕ → (before after : Option Round) → Option ℕ
 closed_by now before after = elim before [ Some b ↦ elim after [ Some a ↦ None | None ↦ Some now ] | None ↦ None ]
 
-abbrev happening : Settings → World → Event → Happening
+abbrev pub happening : Settings → World → Event → Happening
 happening p w e = record { before = w; event = e; answer = (world_step p w e).1; after = (world_step p w e).0 }
 
 -- the last closing with one more happening
-abbrev closing_or : Option ℕ → ℕ → ℕ
+abbrev pub closing_or : Option ℕ → ℕ → ℕ
 closing_or found since = elim found [ Some now ↦ now | None ↦ since ]
 
-closing_more : (last : ℕ) (hs : List Happening) (h : Happening) → last_closing last (hs ++ h ∷ []) ≡ closing_or (closed_at h) (last_closing last hs)
+pub closing_more : (last : ℕ) (hs : List Happening) (h : Happening) → last_closing last (hs ++ h ∷ []) ≡ closing_or (closed_at h) (last_closing last hs)
 closing_more last [] h = refl
 closing_more last (x ∷ hs) h = closing_more (closing_or (closed_at x) last) hs h
 
@@ -185,7 +185,7 @@ no_tick (Some b) None = refl
 no_tick (Some b) (Some a) = refl
 
 -- a quiet event closes no round
-quiet_closes_none : (p : Settings) (w : World) (e : Event) → Quiet p e → closed_at (happening p w e) ≡ None
+pub quiet_closes_none : (p : Settings) (w : World) (e : Event) → Quiet p e → closed_at (happening p w e) ≡ None
 quiet_closes_none p w (Commanded by job now) quiet = absurd quiet
 quiet_closes_none p w (Delivered node datagram now draw) quiet = no_tick w.sender.round (world_step p w (Delivered node datagram now draw)).0.sender.round
 quiet_closes_none p w (Offered node octets) quiet = no_tick w.sender.round (world_step p w (Offered node octets)).0.sender.round
@@ -205,18 +205,18 @@ quiet_closes_none p w (Ticked node now) quiet =
 -- ---- a turn
 
 -- After the sender's tick at a moment, and until the next one: what is to be sent runs out, of a window of so many infos and symbols.
-record Running (p : Settings) (last m now : ℕ) (c : Course) : Type 0 where
-  runs : RunsOut p (last_closing last c.happened + p.grtt) now c.world.sender
-  soon : c.world.sender.next_send ≤ now + p.gap
-  hold : WantsHold p c.world.sender
-  window : repairable p c.world.sender ≡ m
+pub record Running (p : Settings) (last m now : ℕ) (c : Course) : Type 0 where
+  pub runs : RunsOut p (last_closing last c.happened + p.grtt) now c.world.sender
+  pub soon : c.world.sender.next_send ≤ now + p.gap
+  pub hold : WantsHold p c.world.sender
+  pub window : repairable p c.world.sender ≡ m
 
 -- As a turn begins, a step after a moment: the first one, or one that follows another.
-record Standing (p : Settings) (last m now : ℕ) (c : Course) : Type 0 where
-  runs : (last_closing last c.happened ≡ now) ⊎ RunsOut p (last_closing last c.happened + p.grtt) now c.world.sender
-  soon : c.world.sender.next_send ≤ now + p.gap
-  hold : WantsHold p c.world.sender
-  window : repairable p c.world.sender ≡ m
+pub record Standing (p : Settings) (last m now : ℕ) (c : Course) : Type 0 where
+  pub runs : (last_closing last c.happened ≡ now) ⊎ RunsOut p (last_closing last c.happened + p.grtt) now c.world.sender
+  pub soon : c.world.sender.next_send ≤ now + p.gap
+  pub hold : WantsHold p c.world.sender
+  pub window : repairable p c.world.sender ≡ m
 
 same_runs : (p : Settings) (by now : ℕ) (s t : SenderState) → Rests s t → RunsOut p by now s → RunsOut p by now t
 same_runs p by now s t same (inl nothing) = inl (same_to_send p s t same ∙ nothing)
@@ -388,13 +388,13 @@ ticks_on p range last m before c twice most h = record {
 
 -- ---- turn after turn
 
-turn_on : (p : Settings) → InRange p → (draws : ℕ → ℕ) (last m before : ℕ) (c : Course) → 2 * (m + 1) * (p.gap + p.step) ≤ p.grtt
+pub turn_on : (p : Settings) → InRange p → (draws : ℕ → ℕ) (last m before : ℕ) (c : Course) → 2 * (m + 1) * (p.gap + p.step) ≤ p.grtt
     → before + p.step ≤ 18446744073709551615 → Standing p last m before c → Running p last m (before + p.step) (tail_turn p draws (before + p.step) c)
 turn_on p range draws last m before c twice most h =
-    round_keeps p draws (Running p last m (before + p.step)) (quiet_runs p last m (before + p.step)) (drawn_runs p last m (before + p.step)) (before + p.step)
-    (sender_ticks p (before + p.step) c)
-    (tells_keep p draws (Running p last m (before + p.step)) (quiet_runs p last m (before + p.step)) (drawn_runs p last m (before + p.step))
-    (comes p (Ticked p.sender (before + p.step)) c) (ticks_on p range last m before c twice most h))
+    round_keeps p draws (before + p.step) (Running p last m (before + p.step)) (λ e quiet by d k. quiet_runs p last m (before + p.step) e quiet d k)
+    (drawn_runs p last m (before + p.step)) (sender_ticks p (before + p.step) c)
+    (tells_keep p draws (before + p.step) (Running p last m (before + p.step)) (λ e quiet by d k. quiet_runs p last m (before + p.step) e quiet d k)
+    (drawn_runs p last m (before + p.step)) (comes p (Ticked p.sender (before + p.step)) c) (ticks_on p range last m before c twice most h))
 
 turns_on : (p : Settings) → InRange p → (draws : ℕ → ℕ) (last m n before : ℕ) (c : Course) → 2 * (m + 1) * (p.gap + p.step) ≤ p.grtt
     → before + suc n * p.step ≤ 18446744073709551615 → Standing p last m before c

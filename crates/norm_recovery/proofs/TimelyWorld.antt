@@ -66,7 +66,7 @@ node_moves : (p : Settings) (last node : ℕ) (w : World) (own : SenderEvent) (e
 node_moves p last node w own event by by' h true = sender_moves p last w own by h
 node_moves p last node w own event by by' h false = receiver_moves p last node w event by' h (receiver_at w node) refl
 
-event_timely : (p : Settings) (last : ℕ) (w : World) (e : Event) → ComesBy last e → W p last w → W p last (world_step p w e).0
+pub event_timely : (p : Settings) (last : ℕ) (w : World) (e : Event) → ComesBy last e → W p last w → W p last (world_step p w e).0
 event_timely p last w (Commanded by job now) le h = sender_moves p last w (sender.Commanded by job now) le h
 event_timely p last w (Delivered node datagram now draw) le h =
     node_moves p last node w (sender.Delivered datagram now) (receiver.Delivered datagram now draw) le le h (node == p.sender)

@@ -18,6 +18,9 @@ pub mod NeedLacks
 pub mod NackAsks
 pub mod Clean
 pub mod BackOffEnds
+pub mod Watch
+pub mod WatchEnds
+pub mod WatchKeeps
 pub mod FlushLacks
 pub mod FlushReaches
 pub mod LeftHeard

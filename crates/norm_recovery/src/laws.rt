@@ -26,6 +26,8 @@ ghost use Rattle.norm_recovery.specs.SteadySent.{IsSentBeforeNext};
 ghost use Rattle.norm_recovery.specs.SteadyTakes.{DirectTakesAll};
 ghost use Rattle.norm_recovery.specs.TailKeeps.{TailKeeps};
 ghost use Rattle.norm_recovery.specs.TailLawful.{TailIsLawful};
+ghost use Rattle.norm_recovery.specs.WatchEnds.{WatchEnds};
+ghost use Rattle.norm_recovery.specs.WatchKeeps.{WatchKeeps};
 ghost use Rattle.norm_recovery.specs.Timely.{RunsAreTimely};
 
 /// No run, lawful or not, puts anything off further than the rules say. If no event passes a moment, then within a gap of it the sender may
@@ -134,6 +136,18 @@ pub fn clean_stays()
 /// anything: by its own NACK in that turn, or by what it heard others ask for.
 pub fn back_off_ends()
     ensures { BackOffEnds }
+{}
+
+/// A phase of a tail is over within 4 K + 9.25 round trips, by what each of its turns leaves: before its flush, since that goes in time; after it, since
+/// the open round closes. So no watermark expires in a phase that began with no more than 15 - 2 K flushes counted.
+pub fn watch_ends()
+    ensures { WatchEnds }
+{}
+
+/// A turn of a tail keeps of a phase, whatever the draws: nodes are timely, and an open round closes later; all that is to be sent goes within a round trip of
+/// the last closing of a round, and no round closes sooner after it.
+pub fn watch_keeps()
+    ensures { WatchKeeps }
 {}
 
 /// With the position of an open watermark a part of the order ends: it is the last source symbol of data or a file, or a closed segment of a
