@@ -84,3 +84,4 @@ pub mod AskedSteps
 pub mod AskedLaw
 pub mod WatchEnds
 pub mod WatchTurn
+pub mod WatchFlushes

@@ -28,7 +28,7 @@ use Rattle.norm_laws.proofs.LaterTailLemmas.{Quiet, if_own}
 use Rattle.norm_recovery.specs.RunsOut.{RunsOut, last_closing}
 use Rattle.norm_recovery.specs.Timely.{WorldTimely}
 use Rattle.norm_recovery.specs.Watch.{Phase, closes_later, closes_apart, Watch}
-use Rattle.norm_recovery.specs.WatchKeeps.{Follows, turn_after, goes_to, WatchKeeps}
+use Rattle.norm_recovery.specs.WatchKeeps.{Follows, turn_after, goes_to}
 use Rattle.norm_recovery.proofs.AsksOn.{tick_round, credited_round, told_round}
 use Rattle.norm_recovery.proofs.RunsOutTail.{own_tick, closed_by, happening, closing_or, closing_more, quiet_closes_none, turn_on}
 use Rattle.norm_recovery.proofs.RunsOutTurns.{IsAt, tells_keep, round_keeps}
@@ -165,8 +165,8 @@ module _ (p : Settings) (events : List Event) (last : ℕ) (draws : ℕ → ℕ)
   turn = tail_turn p draws (last + p.step) (course_from (run p events))
 
   -- what holds from the sender's tick on
-  record Goes (since : ℕ) (c : Course) : Type 0 where
-    timely : WorldTimely p (last + p.step) c.world
+  pub record Goes (since : ℕ) (c : Course) : Type 0 where
+    pub timely : WorldTimely p (last + p.step) c.world
     round : RoundGoes p (last + p.step) (ticked p (run p events).sender (last + p.step)).0.round c.world.sender.round
     closing : last_closing since c.happened ≡ closing_or (closed_by (last + p.step) (run p events).sender.round (ticked p (run p events).sender (last + p.step)).0.round) since
 
@@ -203,7 +203,7 @@ module _ (p : Settings) (events : List Event) (last : ℕ) (draws : ℕ → ℕ)
     closing = ap (λ (s : SenderState). closing_or (closed_by now (run p events).sender.round s.round) since) (own_tick p (run p events) now);
   }
 
-  goes : (since : ℕ) → Goes since (tail_turn p draws (last + p.step) (course_from (run p events)))
+  pub goes : (since : ℕ) → Goes since (tail_turn p draws (last + p.step) (course_from (run p events)))
   goes since =
       round_keeps p draws now (Goes since) (each since) (drawn since) (sender_ticks p now (course_from (run p events)))
       (tells_keep p draws now (Goes since) (each since) (drawn since) (comes p (Ticked p.sender now) (course_from (run p events))) (ticks since))
@@ -215,7 +215,7 @@ module _ (p : Settings) (events : List Event) (last : ℕ) (draws : ℕ → ℕ)
       let more : (p.k + 1) * p.grtt ≡ p.k * p.grtt + p.grtt = grind arith in
       omega (arith, fits, more)
 
-  later : closes_later (last + p.step) (tail_turn p draws (last + p.step) (course_from (run p events))).world.sender ≡ true
+  pub later : closes_later (last + p.step) (tail_turn p draws (last + p.step) (course_from (run p events))).world.sender ≡ true
   later = later_is now turn.world.sender ∙ by (goes 0).round
     where
       at_tick : later_by now (closing_of tick.round) ≡ true
@@ -239,7 +239,7 @@ module _ (p : Settings) (events : List Event) (last : ℕ) (draws : ℕ → ℕ)
       go (Some b) None e = inr e
 
   module _ (ph : Phase) (h : Watch p ph last (run p events)) where
-    within : (ph.began ≤ (goes_to ph (turn_after p draws events last)).since) × ((goes_to ph (turn_after p draws events last)).since ≤ last + p.step)
+    pub within : (ph.began ≤ (goes_to ph (turn_after p draws events last)).since) × ((goes_to ph (turn_after p draws events last)).since ≤ last + p.step)
     within = go (closing_is ph.since)
       where
         go : (last_closing ph.since turn.happened ≡ ph.since) ⊎ (last_closing ph.since turn.happened ≡ last + p.step)
@@ -247,7 +247,7 @@ module _ (p : Settings) (events : List Event) (last : ℕ) (draws : ℕ → ℕ)
         go (inl e) = let a = h.within.0 in let b = h.within.1 in (omega (arith, e, a), omega (arith, e, b))
         go (inr e) = let a = h.within.0 in let b = h.within.1 in (omega (arith, e, a, b), omega (arith, e))
 
-    runs_out : RunsOut p ((goes_to ph (turn_after p draws events last)).since + p.grtt) (last + p.step) (turn_after p draws events last).world.sender
+    pub runs_out : RunsOut p ((goes_to ph (turn_after p draws events last)).since + p.grtt) (last + p.step) (turn_after p draws events last).world.sender
     runs_out =
         (turn_on p f.profile draws ph.since (repairable p (run p events).sender) last (course_from (run p events)) f.twice (let fits = f.fits in omega (arith, fits))
         (record { runs = inr h.runs_out; soon = h.timely.sender.send; hold = wants_hold_in_runs p events f.profile; window = refl })).runs
@@ -286,7 +286,7 @@ module _ (p : Settings) (events : List Event) (last : ℕ) (draws : ℕ → ℕ)
         go None = inr refl
         go (Some r) = by r (nat_le r.closes (last + p.step))
 
-    apart : closes_apart p (goes_to ph (turn_after p draws events last)) (turn_after p draws events last).world.sender ≡ true
+    pub apart : closes_apart p (goes_to ph (turn_after p draws events last)) (turn_after p draws events last).world.sender ≡ true
     apart = apart_is (last_closing ph.since turn.happened) turn.world.sender.round ∙ go (goes ph.since).round (due_round (run p events).sender)
       where
         same_closing : (found : Option Round) → closing_or (closed_by (last + p.step) found found) ph.since ≡ ph.since
@@ -311,12 +311,3 @@ module _ (p : Settings) (events : List Event) (last : ℕ) (draws : ℕ → ℕ)
             ∙ same_closing (run p events).sender.round)
             ∙ ap (apart_by ph.since) (e ∙ ap closing_of (tick_round p (run p events).sender (last + p.step) ∙ same))
             ∙ sym (apart_is ph.since (run p events).sender.round) ∙ h.apart
-
-pub watch_keeps : WatchKeeps
-watch_keeps = record {
-  timely = λ p events last draws f. (goes p events last draws f 0).timely;
-  later = λ p events last draws f. later p events last draws f;
-  within = λ p events last draws f ph h. within p events last draws f ph h;
-  runs_out = λ p events last draws f ph h. runs_out p events last draws f ph h;
-  apart = λ p events last draws f ph h. apart p events last draws f ph h;
-}

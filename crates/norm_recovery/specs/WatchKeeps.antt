@@ -8,7 +8,7 @@ use Rattle.norm_safety.specs.Tail.{Course, course_from, sent_twice, tail_turn}
 use Rattle.norm_safety.specs.WorldStep.{run}
 use Rattle.norm_recovery.specs.RunsOut.{RunsOut, last_closing}
 use Rattle.norm_recovery.specs.Timely.{WorldTimely}
-use Rattle.norm_recovery.specs.Watch.{Phase, closes_later, closes_apart, Watch}
+use Rattle.norm_recovery.specs.Watch.{Phase, closes_later, closes_apart, are_apart, Watch}
 
 -- A turn follows a run of which no event passes a moment, if the window is sent twice in a round trip and the turn's moments have 64 bits.
 pub record Follows (p : Settings) (events : List Event) (last : ℕ) : Type 0 where
@@ -39,3 +39,6 @@ pub record WatchKeeps : Type 0 where
       → RunsOut p ((goes_to ph (turn_after p draws events last)).since + p.grtt) (last + p.step) (turn_after p draws events last).world.sender
   pub apart : (p : Settings) (events : List Event) (last : ℕ) (draws : ℕ → ℕ) → Follows p events last → (ph : Phase) → Watch p ph last (run p events)
       → closes_apart p (goes_to ph (turn_after p draws events last)) (turn_after p draws events last).world.sender ≡ true
+  -- flushes are two round trips apart
+  pub flushed : (p : Settings) (events : List Event) (last : ℕ) (draws : ℕ → ℕ) → Follows p events last → (ph : Phase) → Watch p ph last (run p events)
+      → are_apart p (goes_to ph (turn_after p draws events last)) (turn_after p draws events last).world.sender ≡ true

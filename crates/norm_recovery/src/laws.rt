@@ -145,7 +145,7 @@ pub fn watch_ends()
 {}
 
 /// A turn of a tail keeps of a phase, whatever the draws: nodes are timely, and an open round closes later; all that is to be sent goes within a round trip of
-/// the last closing of a round, and no round closes sooner after it.
+/// the last closing of a round, and no round closes sooner after it; and flushes are two round trips apart.
 pub fn watch_keeps()
     ensures { WatchKeeps }
 {}
