@@ -24,10 +24,11 @@ from typing import Callable
 
 sys.dont_write_bytecode = True
 HERE = Path(__file__).resolve().parent
-sys.path[:0] = [str(HERE.parent / 'udp')]
-from compare import MIB, INSTANCE, RATES, SENDER, Bench, Spaces, ended, profile_of, said_of, uftp  # noqa: E402
+sys.path[:0] = [str(HERE.parents[1] / 'checks'), str(HERE.parent / 'udp')]
+from compare import MIB, INSTANCE, RATES, SENDER, Bench, ended, profile_of, said_of, uftp  # noqa: E402
+from subnet import Subnet  # noqa: E402
 
-GROUP, BRIDGE = '10.9.0.255', HERE.parents[1] / 'tools/bridge'
+BRIDGE = HERE.parents[1] / 'tools/bridge'
 FROM_WATERMARK = 8
 GAPS = {'group': ('3', '4', '6', '8', '12', '16', '24'), 'bridges': ('25', '50', '100', '200', '400')}
 # Beside a symbol's own octets: the headers of DATA with EXT_FTI, of UDP, of IPv4, and of an Ethernet frame without its check.
@@ -37,8 +38,8 @@ HEADERS = 32 + 8 + 20 + 14
 class Lan:
     """One transfer by normd between namespaces, by a group or by bridges."""
 
-    def __init__(self, bench: Bench, spaces: Spaces, receivers: int, way: str, gap: str):
-        self.bench, self.spaces, self.receivers, self.way = bench, spaces, receivers, way
+    def __init__(self, bench: Bench, machines: Subnet, receivers: int, way: str, gap: str):
+        self.bench, self.machines, self.receivers, self.way = bench, machines, receivers, way
         self.room, self.running = Path(tempfile.mkdtemp(prefix='lan-', dir=bench.room)), {}
         name = 'four' if receivers < 8 else 'many'
         (self.room / 'profile.toml').write_text(profile_of(bench, name, receivers, gap=gap))
@@ -50,12 +51,12 @@ class Lan:
         """Starts a process on a machine: the sender's is 0, and that of each receiver one less than its number."""
         (self.room / str(name)).mkdir(exist_ok=True)
         with open(self.room / f'{name}.log', 'wb') as log:
-            self.running[name] = subprocess.Popen(['ip', 'netns', 'exec', self.spaces.name(at), *(str(it) for it in words)], cwd=self.room / str(name), stderr=log,
+            self.running[name] = subprocess.Popen([*self.machines.inside(at), *(str(it) for it in words)], cwd=self.room / str(name), stderr=log,
                                                   **{'stdin': subprocess.DEVNULL, 'stdout': subprocess.DEVNULL, **how})
         return self.running[name]
 
     def member(self, name: object, at: int, *words: object, **how) -> subprocess.Popen:
-        return self.start(name, at, self.bench.program, *words, *(('--group', GROUP) if self.way == 'group' else ()), **how)
+        return self.start(name, at, self.bench.program, *words, *(('--group', Subnet.GROUP) if self.way == 'group' else ()), **how)
 
     def start_others(self) -> None:
         if self.way == 'bridges':
@@ -63,8 +64,8 @@ class Lan:
         for node in self.nodes():
             at = node - SENDER
             if self.way == 'bridges':
-                self.start(f'near{node}', 0, sys.executable, BRIDGE, 'hub', '../profile.toml', node, self.spaces.address(at))
-                self.start(f'far{node}', at, sys.executable, BRIDGE, 'member', '../profile.toml', node, self.spaces.address(0))
+                self.start(f'near{node}', 0, sys.executable, BRIDGE, 'hub', '../profile.toml', node, self.machines.address(at))
+                self.start(f'far{node}', at, sys.executable, BRIDGE, 'member', '../profile.toml', node, self.machines.address(0))
             self.member(node, at, 'recv', '../profile.toml', node)
         time.sleep(0.5 + (0.1 * self.receivers if self.way == 'bridges' else 0))
 
@@ -101,9 +102,9 @@ class Lan:
     def run(self) -> tuple[float, int] | None:
         """MB/s of the slowest receiver, and the octets of the sender's interface."""
         self.start_others()
-        before = self.spaces.sent(0)
+        before = self.machines.sent(0)
         began, status = self.send()
-        wire = self.spaces.sent(0) - before
+        wire = self.machines.sent(0) - before
         ended({name: it for name, it in self.running.items() if it.returncode is None})
         lasts = [self.last_of(node) for node in self.nodes()]
         if None in lasts or status:
@@ -115,8 +116,8 @@ class Lan:
 
 
 def normd(bench: Bench, receivers: int, way: str, gap: str) -> tuple[float, int] | None:
-    with Spaces(receivers + 1) as spaces:
-        return Lan(bench, spaces, receivers, way, gap).run()
+    with Subnet(receivers + 1) as machines:
+        return Lan(bench, machines, receivers, way, gap).run()
 
 
 def by_uftp(bench: Bench, receivers: int, rate: str) -> tuple[float, int] | None:

@@ -24,7 +24,11 @@ from dataclasses import dataclass, field
 from pathlib import Path
 from typing import Callable
 
+sys.dont_write_bytecode = True
 HERE = Path(__file__).resolve().parent
+sys.path[:0] = [str(HERE.parents[1] / 'checks')]
+from subnet import Subnet  # noqa: E402
+
 PROFILES = HERE.parent.parent / 'examples/profiles'
 MIB = 1 << 20
 ROWS = {(1, 0): 'loopback', (4, 0): 'four', (16, 0): 'many', (1, 5): 'lossy', (4, 5): 'lossy-four', (16, 5): 'lossy-many'}
@@ -148,62 +152,24 @@ def normd(bench: Bench, receivers: int, loss: float) -> float | None:
     return bench.size * MIB / (last - began) / 1e6 if same == receivers else None
 
 
-def sh(line: str, check: bool = True) -> None:
-    subprocess.run(line, shell=True, check=check, stdout=subprocess.DEVNULL, stderr=subprocess.DEVNULL)
-
-
-class Spaces:
-    """A network namespace for each member, joined by a bridge in one more."""
-
-    def __init__(self, members: int):
-        self.mark, self.members = f'bench{os.getpid()}', members
-
-    def name(self, at: object) -> str:
-        return f'{self.mark}n{at}'
-
-    def address(self, at: int) -> str:
-        return f'10.9.0.{at + 1}'
-
-    def sent(self, at: int) -> int:
-        """The octets that a member's interface sent so far, as Ethernet frames."""
-        words = ['ip', 'netns', 'exec', self.name(at), 'cat', '/sys/class/net/v0/statistics/tx_bytes']
-        return int(subprocess.run(words, stdout=subprocess.PIPE, text=True, check=True).stdout)
-
-    def __enter__(self) -> Spaces:
-        for at in ('b', *range(self.members)):
-            sh(f'ip netns add {self.name(at)}; ip -n {self.name(at)} link set lo up')
-        bridge = self.name('b')
-        sh(f'ip -n {bridge} link add br0 type bridge mcast_snooping 0; ip -n {bridge} link set br0 up')
-        for at in range(self.members):
-            own = self.name(at)
-            sh(f'ip -n {bridge} link add v{at} type veth peer name v0 netns {own}; ip -n {bridge} link set v{at} master br0 up')
-            sh(f'ip -n {own} addr add {self.address(at)}/24 broadcast 10.9.0.255 dev v0; ip -n {own} link set v0 up; ip -n {own} route add 224.0.0.0/4 dev v0')
-        time.sleep(0.6)
-        return self
-
-    def __exit__(self, *_) -> None:
-        for at in ('b', *range(self.members)):
-            sh(f'ip netns del {self.name(at)}', False)
-
-
 def uftp(bench: Bench, receivers: int, loss: float, rate: str, wires: list[int] | None = None) -> float | None:
     """One transfer by uftp at this rate in kilobits a second, -1 for as fast as it goes. `wires` gains the octets that the sender's interface sent."""
     room, running = Path(tempfile.mkdtemp(prefix='uftp-', dir=bench.room)), {}
     numbers = {at: f'0x{0x100 + at:08x}' for at in range(1, receivers + 1)}
-    with Spaces(receivers + 1) as spaces:
+    with Subnet(receivers + 1) as machines:
         for at, number in numbers.items():
             (room / str(at)).mkdir()
-            words = ['ip', 'netns', 'exec', spaces.name(at), 'uftpd', '-d', '-I', 'v0', '-U', number, '-D', str(room / str(at)), '-B', '4194304']
+            words = [*machines.inside(at), 'uftpd', '-d', '-I', Subnet.CABLE, '-U', number, '-D', str(room / str(at)), '-B', '4194304']
             running[at] = subprocess.Popen(words, stdin=subprocess.DEVNULL, stdout=subprocess.DEVNULL, stderr=subprocess.DEVNULL, env=bench.losing(loss))
         time.sleep(0.7)
-        words = ['ip', 'netns', 'exec', spaces.name(0), 'uftp', '-I', 'v0', '-R', rate, '-b', '1400', '-B', '4194304', '-t', '1', '-r', '0.05:0.01:1',
+        words = [*machines.inside(0), 'uftp', '-I', Subnet.CABLE, '-R', rate, '-b', '1400', '-B', '4194304', '-t', '1', '-r', '0.05:0.01:1',
                  '-H', ','.join(numbers.values()), str(bench.source)]
         try:
             said = subprocess.run(words, stdin=subprocess.DEVNULL, stdout=subprocess.PIPE, stderr=subprocess.STDOUT, text=True, timeout=bench.limit).stdout
         except subprocess.TimeoutExpired:
             said = ''
         if wires is not None:
-            wires.append(spaces.sent(0))
+            wires.append(machines.sent(0))
         time.sleep(0.3)
         for process in running.values():
             process.kill()

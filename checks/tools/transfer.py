@@ -23,6 +23,9 @@ from pathlib import Path
 
 sys.dont_write_bytecode = True
 ROOT = Path(__file__).resolve().parents[2]
+sys.path[:0] = [str(ROOT / 'checks')]
+from subnet import NoSubnet, Subnet, ip  # noqa: E402
+
 TOOLS = ROOT / 'tools'
 SECONDS, REFUSED, TAKEN, NOT_ALL = 60, 2, 3, 4
 # Below the ports that the system gives out itself, and apart from those of other checks. A bridge's lie a hundred above its member's.
@@ -199,10 +202,6 @@ def refusals(program: str, port: int, room: Path) -> str:
     return 'a file that is there, no member, no file, no sockets, more datagrams than turns: refused'
 
 
-def ip(*words: str) -> bool:
-    return subprocess.run(['ip', *words], stdout=subprocess.DEVNULL, stderr=subprocess.DEVNULL).returncode == 0
-
-
 class Machines:
     """Network namespaces that stand for other machines, each at the end of a virtual cable from this one."""
 
@@ -259,57 +258,26 @@ def over_bridges(program: str, port: int, room: Path, number: int, gap: int) -> 
     return f'the folder to {number} receivers on other machines, behind bridges, in {took:.1f} seconds'
 
 
-class Subnet:
-    """Network namespaces that stand for machines of one wired subnet: a switch in one more joins them."""
-    group = '10.203.0.255'
+def away(subnet: Subnet, at: int, seconds: float) -> None:
+    """A machine's interface is down for so long."""
+    holds(subnet.sets_cable(at, False), f'the interface of machine {at} goes down')
+    time.sleep(seconds)
+    holds(subnet.sets_cable(at, True), f'the interface of machine {at} comes back')
 
-    def __init__(self, machines: int):
-        self.switch = f'normd-{os.getpid()}-switch'
-        self.spaces = [f'normd-{os.getpid()}-{at}' for at in range(machines)]
 
-    def joined(self, at: int, space: str) -> bool:
-        return (ip('netns', 'add', space) and ip('-n', space, 'link', 'add', 'cable', 'type', 'veth', 'peer', 'name', f'port{at}', 'netns', self.switch)
-                and ip('-n', space, 'addr', 'add', f'10.203.0.{at + 1}/24', 'brd', self.group, 'dev', 'cable') and ip('-n', space, 'link', 'set', 'lo', 'up')
-                and ip('-n', space, 'link', 'set', 'cable', 'up') and ip('-n', self.switch, 'link', 'set', f'port{at}', 'master', 'switch', 'up'))
-
-    def make(self) -> bool:
-        """Whether all could be made."""
-        return (ip('netns', 'add', self.switch) and ip('-n', self.switch, 'link', 'add', 'switch', 'type', 'bridge')
-                and ip('-n', self.switch, 'link', 'set', 'switch', 'up') and all(self.joined(at, space) for at, space in enumerate(self.spaces)))
-
-    def inside(self, at: int) -> tuple:
-        return 'ip', 'netns', 'exec', self.spaces[at]
-
-    def away(self, at: int, seconds: float) -> None:
-        """A machine's interface is down for so long."""
-        holds(ip('-n', self.spaces[at], 'link', 'set', 'cable', 'down'), f'the interface of machine {at} goes down')
-        time.sleep(seconds)
-        holds(ip('-n', self.spaces[at], 'link', 'set', 'cable', 'up'), f'the interface of machine {at} comes back')
-
-    def unplugged(self, at: int, seconds: float) -> None:
-        """A machine's cable is out for so long."""
-        holds(ip('-n', self.switch, 'link', 'set', f'port{at}', 'down'), f'the cable of machine {at} is pulled')
-        time.sleep(seconds)
-        holds(ip('-n', self.switch, 'link', 'set', f'port{at}', 'up'), f'the cable of machine {at} is put back')
-
-    def __enter__(self) -> Subnet:
-        return self
-
-    def __exit__(self, *_) -> None:
-        for space in (*self.spaces, self.switch):
-            ip('netns', 'del', space)
+def unplugged(subnet: Subnet, at: int, seconds: float) -> None:
+    """A machine's cable is out for so long."""
+    holds(subnet.sets_port(at, False), f'the cable of machine {at} is pulled')
+    time.sleep(seconds)
+    holds(subnet.sets_port(at, True), f'the cable of machine {at} is put back')
 
 
 def in_a_group(program: str, port: int, room: Path, number: int) -> str | None:
     """A receiver beside the sender, two on the first other machine, and one on each further one. The first other machine's interface is down and its
     cable out while the folder is sent, and then the sender's interface is down."""
-    if not shutil.which('ip') or os.geteuid() != 0:
-        return None
     files, machines = made(room / 'photos'), [0, 1, 1, *range(2, number + 1)]
-    members, group = range(2, 2 + len(machines)), ('--group', Subnet.group)
+    members, group = range(2, 2 + len(machines)), ('--group', Subnet.GROUP)
     with Subnet(1 + number) as subnet:
-        if not subnet.make():
-            return None
         # With this gap the folder's 1,600 symbols take longer than the machines are away.
         with Nodes(program, port, len(machines), room, 8_000, GRTT_OF_AWAY) as nodes:
             receivers = [nodes.tool('receive', nodes.profile, node, room / f'in{node}', '--linger', 8, *group, before=subnet.inside(at))
@@ -318,15 +286,15 @@ def in_a_group(program: str, port: int, room: Path, number: int) -> str | None:
             began = time.monotonic()
             sender = nodes.tool('send', room / 'photos', nodes.profile, *group, before=subnet.inside(0))
             time.sleep(1)
-            subnet.away(1, AWAY)
+            away(subnet, 1, AWAY)
             time.sleep(1)
-            subnet.unplugged(1, AWAY)
+            unplugged(subnet, 1, AWAY)
             time.sleep(1)
             holds(sender.poll() is None, 'the folder takes longer to send than its machines are away')
-            subnet.away(0, 1)
+            away(subnet, 0, 1)
             said = ended(sender, 0, 'send to a group', 2 * SECONDS)
             took = time.monotonic() - began
-            for what in (f'cannot send to {Subnet.group}:{port}', f'sending to {Subnet.group}:{port} works again'):
+            for what in (f'cannot send to {Subnet.GROUP}:{port}', f'sending to {Subnet.GROUP}:{port} works again'):
                 holds(said.count(what) == 1, f'the sender says once {what!r}: {said}')
             for node, receiver in zip(members, receivers):
                 ended(receiver, 0, f'receive {node} in a group')
@@ -350,6 +318,8 @@ def main() -> int:
             try:
                 said = part(given.program, given.port, Path(room), *more)
                 print(f'tools: transfer: {said}' if said else f'tools: transfer: {part.__name__} did not run: no network namespace can be made here')
+            except NoSubnet as none:
+                print(f'tools: transfer: {part.__name__} did not run: {none}')
             except Unmet as unmet:
                 failed += 1
                 print(f'tools: transfer: {part.__name__} DOES NOT HOLD: {unmet}')
