@@ -8,10 +8,19 @@
 #include <stdio.h>
 #include <stdlib.h>
 #include <string.h>
+#include <sys/resource.h>
 #include <time.h>
 
 enum { PORT = 6003, OWN_NODE = 100, SYMBOL = 1400, BLOCK = 64, PARITY = 32, BUFFER = 64 << 20, SOCKET_BUFFER = 4 << 20, MOST_OBJECTS = 100000 };
 static const char GROUP[] = "224.1.2.3";
+
+/* Raises the limit of open files: libnorm has each enqueued file open. */
+static void allow_files() {
+    struct rlimit files;
+    if (getrlimit(RLIMIT_NOFILE, &files)) return;
+    files.rlim_cur = files.rlim_max;
+    setrlimit(RLIMIT_NOFILE, &files);
+}
 
 /* The last of the files, once all are enqueued. */
 static NormObjectHandle enqueued(NormSessionHandle session, char **files) {
@@ -44,6 +53,7 @@ int main(int count, char **words) {
         fprintf(stderr, "usage: norm_send INTERFACE NODES RATE FILE..\n");
         return 2;
     }
+    allow_files();
     NormInstanceHandle instance = NormCreateInstance(false);
     NormSessionHandle session = NormCreateSession(instance, GROUP, PORT, OWN_NODE);
     NormSetMulticastInterface(session, words[1]);
