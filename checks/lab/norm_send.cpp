@@ -10,6 +10,7 @@
 #include <string.h>
 #include <sys/resource.h>
 #include <time.h>
+#include <unistd.h>
 
 enum { PORT = 6003, OWN_NODE = 100, SYMBOL = 1400, BLOCK = 64, PARITY = 32, BUFFER = 64 << 20, SOCKET_BUFFER = 4 << 20, MOST_OBJECTS = 100000 };
 static const char GROUP[] = "224.1.2.3";
@@ -22,17 +23,18 @@ static void allow_files() {
     setrlimit(RLIMIT_NOFILE, &files);
 }
 
-/* The last of the files, once all are enqueued. */
-static NormObjectHandle enqueued(NormSessionHandle session, char **files) {
-    NormObjectHandle last = NORM_OBJECT_INVALID;
-    for (; *files; files++) {
-        last = NormFileEnqueue(session, *files, *files, strlen(*files));
-        if (last == NORM_OBJECT_INVALID) {
-            printf("cannot enqueue %s\n", *files);
-            exit(1);
-        }
+/* Enqueues a file, and waits for room if there is none. */
+static NormObjectHandle enqueued(NormInstanceHandle instance, NormSessionHandle session, const char *file) {
+    NormObjectHandle object;
+    NormEvent event;
+    if (access(file, R_OK)) {
+        perror(file);
+        exit(1);
     }
-    return last;
+    while ((object = NormFileEnqueue(session, file, file, strlen(file))) == NORM_OBJECT_INVALID) {
+        if (!NormGetNextEvent(instance, &event, true)) exit(1);
+    }
+    return object;
 }
 
 static int told(NormSessionHandle session) {
@@ -63,7 +65,9 @@ int main(int count, char **words) {
     if (!NormStartSender(session, (NormSessionId)time(NULL), BUFFER, SYMBOL, BLOCK, PARITY, 0)) return 1;
     NormSetTxSocketBuffer(session, SOCKET_BUFFER);
     NormSetTxCacheBounds(session, (NormSize)2000 << 20, 2, MOST_OBJECTS);
-    NormSetWatermark(session, enqueued(session, words + 4), false);
+    NormObjectHandle last = NORM_OBJECT_INVALID;
+    for (char **file = words + 4; *file; file++) last = enqueued(instance, session, *file);
+    NormSetWatermark(session, last, false);
     NormEvent event;
     while (NormGetNextEvent(instance, &event, true)) {
         if (event.type == NORM_TX_WATERMARK_COMPLETED) return told(session) ? 0 : 4;

@@ -27,6 +27,7 @@ class Given:
     octets: int
     limit: float
     keys: dict[str, str]
+    logs: Path | None = None
 
 
 class Way:
