@@ -82,12 +82,12 @@ same_world : (p : Settings) (taken : ℕ) (w v : World) (now : ℕ) (place : Pla
 same_world p taken w v now place same h = subst (λ (x : World). Once p taken x now place) same h
 
 -- the job of a command is that of its event
-job_is : (j : Judged) (line : Line) (told : Option Job) (job : Job) (gave : Result Receipt SendFault) → OfferedAndTold j line told job gave ⊎ OfferedAgain j line told job
+pub job_is : (j : Judged) (line : Line) (told : Option Job) (job : Job) (gave : Result Receipt SendFault) → OfferedAndTold j line told job gave ⊎ OfferedAgain j line told job
     → job_at j.place told ≡ Some job
 job_is j line told job gave (inl due) = ap (job_at j.place) due.told_is
 job_is j line told job gave (inr due) = ap (job_at j.place) due.told_is ∙ ap (λ (o : Option (Line × Job)). option_map (λ (known : Line × Job). known.1) o) due.place
 
-differs : (a b : ℕ) → (a ≡ b → ⊥) → (a == b) ≡ false
+pub differs : (a b : ℕ) → (a ≡ b → ⊥) → (a == b) ≡ false
 differs a b h = go (a == b) refl
   where
     go : (t : Bool) → (a == b) ≡ t → t ≡ false
@@ -352,11 +352,11 @@ empty_asks p taken count w now nodes same all none le h = record { once = h.once
 -- ---- the journal
 
 -- the event of the world is this one
-with_event : (p : Settings) (events : List WorldEvent) (v : World) (o : Option WorldEvent) (own : WorldEvent) → o ≡ Some own → At p (events ++ option_to_list o) v
+pub with_event : (p : Settings) (events : List WorldEvent) (v : World) (o : Option WorldEvent) (own : WorldEvent) → o ≡ Some own → At p (events ++ option_to_list o) v
     → At p (events ++ own ∷ []) v
 with_event p events v o own is b = subst (λ (x : Option WorldEvent). At p (events ++ option_to_list x) v) is b
 
-abbrev NextAt : List WorldEvent → Judged → Event → Judged → Type 0
+abbrev pub NextAt : List WorldEvent → Judged → Event → Judged → Type 0
 NextAt events j e next = At j.profile (events ++ option_to_list (world_event j e)) next.world
 
 took_asks : (events : List WorldEvent) (taken count : ℕ) (j next : Judged) (to : ℕ) (octets : List ℕ) → At j.profile events j.world → NextAt events j (event.Took to octets) next
@@ -387,7 +387,7 @@ took_asks events taken count j next to octets a b comes h due place =
         (sym (ap (λ (ns : List ℕ). is_one to ns) h.waits.nodes) ∙ f) was)
 
 -- a delivery leaves the moment
-delivered_now : (j : Judged) (to : ℕ) (octets : List ℕ) → (delivered to octets j).now ≡ j.now
+pub delivered_now : (j : Judged) (to : ℕ) (octets : List ℕ) → (delivered to octets j).now ≡ j.now
 delivered_now j to octets = go (to == j.profile.sender) (is_receiver j to)
   where
     by : Bool → Bool → Judged

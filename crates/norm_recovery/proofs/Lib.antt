@@ -85,3 +85,7 @@ pub mod AskedLaw
 pub mod WatchEnds
 pub mod WatchTurn
 pub mod WatchFlushes
+pub mod CountMoves
+pub mod CountTicks
+pub mod CountPlaces
+pub mod CountTurns

@@ -33,3 +33,4 @@ pub mod SteadyNeeds
 pub mod SteadySent
 pub mod SteadyNothing
 pub mod SteadyAsked
+pub mod SteadyTurns

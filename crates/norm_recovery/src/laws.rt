@@ -24,6 +24,7 @@ ghost use Rattle.norm_recovery.specs.SteadyNothing.{NothingIsNeeded};
 ghost use Rattle.norm_recovery.specs.SteadyPasses.{DirectPasses};
 ghost use Rattle.norm_recovery.specs.SteadySent.{IsSentBeforeNext};
 ghost use Rattle.norm_recovery.specs.SteadyTakes.{DirectTakesAll};
+ghost use Rattle.norm_recovery.specs.SteadyTurns.{TurnsSuffice};
 ghost use Rattle.norm_recovery.specs.TailKeeps.{TailKeeps};
 ghost use Rattle.norm_recovery.specs.TailLawful.{TailIsLawful};
 ghost use Rattle.norm_recovery.specs.WatchEnds.{WatchEnds};
@@ -218,4 +219,10 @@ pub fn nothing_is_needed()
 /// it by every pending member, and the sender takes these acknowledgements in the next turn. So no watermark expires.
 pub fn asked_once_or_twice()
     ensures { IsAskedOnceOrTwice }
+{}
+
+/// A steady session over a direct network never spends its turns, if there are as many as its script tells. If it ends whole, each watermark was
+/// satisfied, and every receiver was handed everything of the order.
+pub fn turns_suffice()
+    ensures { TurnsSuffice }
 {}
