@@ -50,7 +50,7 @@ use Rattle.norm_recovery.specs.TailLawful.{MayGoOn, GoesOn}
 use Rattle.norm_recovery.specs.TailOf.{ComesInTail}
 use Rattle.norm_recovery.proofs.AsksOn.{AsksOn, event_on, message_on}
 use Rattle.norm_recovery.proofs.BackOffRuns.{runs_on, feed_leaves, same_has, Holds, Comes, RunsOn, Needless, WasHeard, Nacked, tick_comes}
-use Rattle.norm_recovery.proofs.CleanSteps.{both, clean_so, clean_if_runs}
+use Rattle.norm_recovery.proofs.CleanSteps.{both, clean_so, clean_if_runs, tick_clean}
 use Rattle.norm_recovery.proofs.CleanTurn.{Clean, takes_own, kept, each_there, clean_passed}
 use Rattle.norm_recovery.proofs.ClosingLists.{in_contained, of_all}
 use Rattle.norm_recovery.proofs.FeedRead.{Feed, Joined, feed_of}
@@ -469,7 +469,8 @@ back_off_ends p range hold events may none draws now vain node member r t found 
     ended = (all_served p range events may node other draws now hold none member (receivers_of p p.receivers) (not_sender p p.receivers)
         (each_there (receivers_of p p.receivers)) (receivers_rise p p.receivers).1 there
         (passes_on p draws now (sender_ticks p now (course_from (run p events))) p.sender)
-        (clean_passed p range events may draws now 0 vain node other member r found (clean_so p 0 s r clean)) passed_so).so t is
+        (clean_passed p range events may draws now 0 node other r found
+        (tick_clean p range events may.lawful may.jobs now vain node r found member 0 (clean_so p 0 s r clean))) passed_so).so t is
 
     go : (is_some t.knows.backoff ≡ true) ⊎ IsAsked p (tail_turn p draws now (course_from (run p events))).world.sender t
         → IsAsked p (tail_turn p draws now (course_from (run p events))).world.sender t

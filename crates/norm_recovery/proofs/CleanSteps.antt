@@ -222,7 +222,7 @@ outside_clean p late s r heard out e =
 -- ---- a closing
 
 -- what every member has, a member has
-member_has : (p : Settings) (w : World) (y : Want) → all_have p w y ≡ true → (node : ℕ) (r : ReceiverState) → receiver_at w node ≡ Some r
+pub member_has : (p : Settings) (w : World) (y : Want) → all_have p w y ≡ true → (node : ℕ) (r : ReceiverState) → receiver_at w node ≡ Some r
     → has_member node w.sender ≡ true → has p w.sender r y ≡ true
 member_has p w y e node r found member =
     own (has_member r.node w.sender) (has p w.sender r y) (ap (λ (n : ℕ). has_member n w.sender) (world_laws.found w node r found) ∙ member)

@@ -17,16 +17,15 @@ use Rattle.norm_receive_rules.specs.ReceiverStep as receiver
 use Rattle.norm_receive_rules.specs.Receiving.{received}
 use Rattle.norm_send_rules.specs.SenderState.{SenderState, Instance}
 use Rattle.norm_send_rules.specs.Ticking.{ticked}
-use Rattle.norm_send_rules.specs.Watermarks.{has_member}
 use Rattle.norm_safety.specs.Events.{Event, Delivered, Ticked, Offered, UpTaken}
-use Rattle.norm_safety.specs.Tail.{Course, course_from, events_of, comes, untold, tells, untaken, takes, copy_comes, others_than, given_by, passes_on, sender_ticks, serves}
+use Rattle.norm_safety.specs.Tail.{Course, course_from, events_of, comes, untold, tells, untaken, takes, copy_comes, others_than, given_by, passes_on, sender_ticks, serves, tail_turn}
 use Rattle.norm_safety.specs.World.{World, receiver_at}
 use Rattle.norm_safety.specs.WorldLaws.{is_senders, to_receiver, comes_to}
 use Rattle.norm_safety.specs.WorldStep.{world_step, run}
 use Rattle.norm_safety.proofs.TailLemmas.{tail_laws}
 use Rattle.norm_safety.proofs.WorldLemmas.{world_laws}
 use Rattle.norm_laws.proofs.LaterTailLemmas.{Quiet, not_sender}
-use Rattle.norm_recovery.specs.Clean.{is_clean_from, ClosesInVain, CleanStays}
+use Rattle.norm_recovery.specs.Clean.{is_clean_from, CleanStays}
 use Rattle.norm_recovery.specs.MembersEnter.{IsOwnMessage, IsOwn}
 use Rattle.norm_recovery.specs.TailKeeps.{Stays}
 use Rattle.norm_recovery.specs.TailLawful.{MayGoOn, GoesOn}
@@ -266,11 +265,11 @@ each_there all = go all (λ q h. h)
     go (x ∷ xs) within = (found_in x all (within x (inl refl)), go xs (λ q h. within q (inr h)))
 
 -- after the sender's datagram was passed on
-pub clean_passed : (p : Settings) (range : InRange p) (events : List Event) (may : MayGoOn p events) (draws : ℕ → ℕ) (now late : ℕ) → ClosesInVain p now (run p events)
-    → (node : ℕ) (other : (node == p.sender) ≡ false) → has_member node (run p events).sender ≡ true → (r : ReceiverState) → receiver_at (run p events) node ≡ Some r
-    → is_clean_from late p (run p events).sender r ≡ true
+pub clean_passed : (p : Settings) (range : InRange p) (events : List Event) (may : MayGoOn p events) (draws : ℕ → ℕ) (now late : ℕ) (node : ℕ)
+    (other : (node == p.sender) ≡ false) (r : ReceiverState) → receiver_at (run p events) node ≡ Some r
+    → is_clean_from late p (ticked p (run p events).sender now).0 r ≡ true
     → Clean p range events may node other late (passes_on p draws now (sender_ticks p now (course_from (run p events))) p.sender)
-clean_passed p range events may draws now late vain node other member r found clean =
+clean_passed p range events may draws now late node other r found clean =
     passes_own p range events may node other late draws now (sender_ticks p now (course_from (run p events))) (ticked p s now).1 given
     (λ d gives. members_enter.own p range events may.lawful may.jobs now d gives) told
   where
@@ -286,8 +285,7 @@ clean_passed p range events may draws now late vain node other member r found cl
           (begins_calm p (run p events));
       clean = λ x there.
           subst (λ (u : SenderState). is_clean_from late p u x ≡ true) (sym (own_tick p (run p events) now))
-          (subst (λ (x : ReceiverState). is_clean_from late p (ticked p s now).0 x ≡ true) (same_some r x (sym found ∙ sym still ∙ there))
-          (tick_clean p range events may.lawful may.jobs now vain node r found member late clean));
+          (subst (λ (x : ReceiverState). is_clean_from late p (ticked p s now).0 x ≡ true) (same_some r x (sym found ∙ sym still ∙ there)) clean);
     }
       where
         still : receiver_at ticks.world node ≡ receiver_at (run p events) node
@@ -302,11 +300,19 @@ clean_passed p range events may draws now late vain node other member r found cl
         (news_leave p (untold ticks.world.sender) node ticks).1
         ∙ tail_laws.given p (run p events) p.sender now (ticked p s now).1 (own_answer p (run p events) now)
 
-pub clean_stays : CleanStays
-clean_stays p range events may draws now late vain node member r t found clean is =
+-- after the turn of a tick that leaves it so
+pub clean_turn : (p : Settings) → InRange p → (events : List Event) → MayGoOn p events → (draws : ℕ → ℕ) (now late : ℕ) (node : ℕ) (r t : ReceiverState)
+    → receiver_at (run p events) node ≡ Some r → is_clean_from late p (ticked p (run p events).sender now).0 r ≡ true
+    → receiver_at (tail_turn p draws now (course_from (run p events))).world node ≡ Some t
+    → is_clean_from late p (tail_turn p draws now (course_from (run p events))).world.sender t ≡ true
+clean_turn p range events may draws now late node r t found clean is =
     (served_list p range events may node other late draws now r found (receivers_of p p.receivers) (not_sender p p.receivers) (each_there (receivers_of p p.receivers))
     (passes_on p draws now (sender_ticks p now (course_from (run p events))) p.sender)
-    (clean_passed p range events may draws now late vain node other member r found clean)).clean t is
+    (clean_passed p range events may draws now late node other r found clean)).clean t is
   where
     other : (node == p.sender) ≡ false
     other = is_other p (run p events) (world_laws.nodes p events) node r found
+
+pub clean_stays : CleanStays
+clean_stays p range events may draws now late vain node member r t found clean is =
+    clean_turn p range events may draws now late node r t found (tick_clean p range events may.lawful may.jobs now vain node r found member late clean) is

@@ -52,7 +52,7 @@ none_some x e = cc
 
 -- ---- a turn changes wants in its tick alone
 
-turn_wants : (p : Settings) (draws : ℕ → ℕ) (now : ℕ) (w : World) → (tail_turn p draws now (course_from w)).world.sender.wants ≡ (ticked p w.sender now).0.wants
+pub turn_wants : (p : Settings) (draws : ℕ → ℕ) (now : ℕ) (w : World) → (tail_turn p draws now (course_from w)).world.sender.wants ≡ (ticked p w.sender now).0.wants
 turn_wants p draws now w =
     round_keeps p draws now Kept each drawn (sender_ticks p now (course_from w))
     (tells_keep p draws now Kept each drawn (comes p (Ticked p.sender now) (course_from w)) (ap (λ (s : SenderState). s.wants) (own_tick p w now)))
@@ -68,7 +68,7 @@ turn_wants p draws now w =
     drawn c n h = h
 
 -- a closing that is due leaves all but the wants
-closed_stays : (p : Settings) (now : ℕ) (s : SenderState) → Stays s (closed_where_due p now s)
+pub closed_stays : (p : Settings) (now : ℕ) (s : SenderState) → Stays s (closed_where_due p now s)
 closed_stays p now s = go s.round
   where
     by : (r : Round) (b : Bool) → Stays s (elim b [ true ↦ round_closed p r s | false ↦ s ])
@@ -82,7 +82,7 @@ closed_stays p now s = go s.round
 -- ---- all members
 
 -- a test that passes for each receiver by its node passes for all
-all_by_node : (test : ReceiverState → Bool) (w : World) → Differ (nodes_of w) → ((r : ReceiverState) → receiver_at w r.node ≡ Some r → test r ≡ true)
+pub all_by_node : (test : ReceiverState → Bool) (w : World) → Differ (nodes_of w) → ((r : ReceiverState) → receiver_at w r.node ≡ Some r → test r ≡ true)
     → list_all test w.receivers ≡ true
 all_by_node test w differ each = go w.receivers (each_found w.receivers differ)
   where
@@ -94,7 +94,7 @@ all_by_node test w differ each = go w.receivers (each_found w.receivers differ)
     go [] all = refl
     go (r ∷ rs) all = both (test r) (list_all test rs) (each r all.0) (go rs all.1)
 
-all_true : (test : ReceiverState → Bool) (rs : List ReceiverState) → list_all test rs ≡ true → AllByRecursion (λ (r : ReceiverState). test r ≡ true) rs
+pub all_true : (test : ReceiverState → Bool) (rs : List ReceiverState) → list_all test rs ≡ true → AllByRecursion (λ (r : ReceiverState). test r ≡ true) rs
 all_true test [] e = tt
 all_true test (r ∷ rs) e = go (test r) refl e (all_true test rs)
   where

@@ -89,3 +89,5 @@ pub mod CountMoves
 pub mod CountTicks
 pub mod CountPlaces
 pub mod CountTurns
+pub mod WatchSpent
+pub mod WatchClean

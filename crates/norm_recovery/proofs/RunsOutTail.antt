@@ -110,9 +110,9 @@ told_squelch s = go s.untold_nodes s.untold_marks
 pub record Rests (s t : SenderState) : Type 0 where
   pub current : t.current ≡ s.current
   pub wants : t.wants ≡ s.wants
-  next : t.next ≡ s.next
-  squelch : t.squelch_due ≡ s.squelch_due
-  send : t.next_send ≡ s.next_send
+  pub next : t.next ≡ s.next
+  pub squelch : t.squelch_due ≡ s.squelch_due
+  pub send : t.next_send ≡ s.next_send
 
 rests_itself : (s : SenderState) → Rests s s
 rests_itself s = record { current = refl; wants = refl; next = refl; squelch = refl; send = refl }

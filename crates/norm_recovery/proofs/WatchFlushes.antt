@@ -1,10 +1,9 @@
 -- Over a turn flushes stay two round trips apart: a tick counts one more only that long after the last one, and nothing else counts one.
 use Rattle.std.proofs.Common.{◌≡◌, ℕ, ◌+◌, ◌*◌, ◌-◌, ◌<◌, ◌≤◌, List, [], ◌∷◌, length, map, Bool, true, false, Option, None, Some, refl, sym, ap, ◌∙◌, subst, arith, ◌⊎◌, inl, inr}
-use Rattle.std.specs.Prelude.{◌==◌, ◌||◌, min, nat_lt, nat_le, Result, Ok}
+use Rattle.std.specs.Prelude.{◌==◌, ◌||◌, nat_lt, nat_le, Result, Ok}
 use Rattle.std.proofs.Math.Nat.{mul-le-mul_right}
-use Rattle.std.proofs.lemmas.Bool.{cases_lt}
 use Rattle.std.proofs.lemmas.Bool.Decides.{leb_tells}
-use Rattle.norm_base.specs.Settings.{Settings, InRange}
+use Rattle.norm_base.specs.Settings.{Settings}
 use Rattle.fec_plan.specs.declared.position.Position.{Position}
 use Rattle.norm_ext.specs.Asking.{item_named}
 use Rattle.norm_ext.specs.Message.{Message, Nack, Ack, AckContent, Mark, Unread}

@@ -168,7 +168,7 @@ module _ (p : Settings) (events : List Event) (last : ℕ) (draws : ℕ → ℕ)
   pub record Goes (since : ℕ) (c : Course) : Type 0 where
     pub timely : WorldTimely p (last + p.step) c.world
     round : RoundGoes p (last + p.step) (ticked p (run p events).sender (last + p.step)).0.round c.world.sender.round
-    closing : last_closing since c.happened ≡ closing_or (closed_by (last + p.step) (run p events).sender.round (ticked p (run p events).sender (last + p.step)).0.round) since
+    pub closing : last_closing since c.happened ≡ closing_or (closed_by (last + p.step) (run p events).sender.round (ticked p (run p events).sender (last + p.step)).0.round) since
 
   each : (since : ℕ) (e : Event) → Quiet p e → IsAt (last + p.step) e → (c : Course) → Goes since c → Goes since (comes p e c)
   each since e quiet at c h = record {

@@ -21,6 +21,7 @@ pub mod BackOffEnds
 pub mod Watch
 pub mod WatchEnds
 pub mod WatchKeeps
+pub mod WatchCleans
 pub mod FlushLacks
 pub mod FlushReaches
 pub mod LeftHeard

@@ -27,6 +27,7 @@ ghost use Rattle.norm_recovery.specs.SteadyTakes.{DirectTakesAll};
 ghost use Rattle.norm_recovery.specs.SteadyTurns.{TurnsSuffice};
 ghost use Rattle.norm_recovery.specs.TailKeeps.{TailKeeps};
 ghost use Rattle.norm_recovery.specs.TailLawful.{TailIsLawful};
+ghost use Rattle.norm_recovery.specs.WatchCleans.{WatchCleans};
 ghost use Rattle.norm_recovery.specs.WatchEnds.{WatchEnds};
 ghost use Rattle.norm_recovery.specs.WatchKeeps.{WatchKeeps};
 ghost use Rattle.norm_recovery.specs.Timely.{RunsAreTimely};
@@ -149,6 +150,12 @@ pub fn watch_ends()
 /// the last closing of a round, and no round closes sooner after it; and flushes are two round trips apart.
 pub fn watch_keeps()
     ensures { WatchKeeps }
+{}
+
+/// If its closing leaves no less, a turn of a tail keeps of a phase, after a run that may go on: two round trips after its begin, or once a round closed a
+/// round trip after it, nothing new is left, and every member has everything that is wanted; and each back-off that began after that is clean.
+pub fn watch_cleans()
+    ensures { WatchCleans }
 {}
 
 /// With the position of an open watermark a part of the order ends: it is the last source symbol of data or a file, or a closed segment of a
