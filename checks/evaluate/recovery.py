@@ -29,6 +29,9 @@ use Rattle.norm_recovery.specs.Left.{has, will_have, in_window, left}
 use Rattle.norm_recovery.specs.LeftHeard.{brings}
 use Rattle.norm_recovery.specs.Asking.{asks, all_have, have_wanted, with_closed}
 use Rattle.norm_recovery.specs.RoundAsks.{asks_open}
+use Rattle.norm_recovery.specs.Clean.{hears_of, is_clean, is_clean_from}
+use Rattle.norm_recovery.specs.Watch.{Phase, each_member, is_asked, flushed_at, most_held, has_ticked, closes_later, closes_apart, is_spent, are_apart, is_waiting}
+use Rattle.std.specs.Prelude.{is_some}
 use Rattle.fec_plan.specs.Points.{same_point}
 use Rattle.norm_order.specs.Shapes.{is_source, has_info}
 use Rattle.norm_ext.specs.declared.refusal.Refusal.{Refusal}
@@ -38,7 +41,8 @@ use Rattle.norm_receive_rules.specs.Holding.{Holding}
 use Rattle.norm_receive_rules.specs.Nack.{fitting}
 use Rattle.norm_receive_rules.specs.Needs.{Need}
 use Rattle.norm_receive_rules.specs.Needs as need
-use Rattle.norm_send_rules.specs.Hearing.{nack_counts}
+use Rattle.norm_send_rules.specs.Hearing.{nack_counts, heard}
+use Rattle.norm_send_rules.specs.Ticking.{closed_where_due}
 use Rattle.norm_ext.specs.Asking.{named}
 use Rattle.norm_ext.specs.Message.{Nack, NackMessage}
 use Rattle.norm_receive_rules.specs.Heard.{heard_all}
@@ -78,7 +82,17 @@ FURTHER = 'tail-07'
 # every member has, that it helps whatever its round asks for, that a round asked for what a NACK asks for before that came, and that a member lacks
 # all of what it needs. And in this tail a round asks for what a member lacks, if every member has all that is wanted.
 ASKING = {'helps_anyway': 'tail-13', 'keeps_always': 'tail-01', 'helps_asked': 'tail-13', 'asked_before': 'tail-05', 'need_lacks_all': 'tail-15',
-          'never_helps': 'tail-01'}
+          'never_helps': 'tail-01', 'nack_asked_before': 'tail-05'}
+# Wrong statements of turns, each refused by this tail: that all members are clean from the first turn on, that a back-off that is not clean ends with
+# its member asked for, and that a member is asked for that did not back off. And in this tail a member heard what it lacks, a clean back-off ends, a
+# round closes in vain.
+TURNS = {'all_are_clean': 'tail-18', 'ends_unclean': 'tail-18', 'asked_anyway': 'tail-01', 'never_hears': 'tail-04', 'never_ends': 'tail-05',
+         'never_in_vain': 'tail-20'}
+# Wrong statements of phases, each refused by this tail: that nothing new is left and all is had from the first turn on, that members are clean then,
+# and that nobody is held off for more than K + 2 round trips after a phase began without being asked for.
+PHASES = {'spent_at_once': 'tail-01', 'clean_at_once': 'tail-18', 'held_off_less': 'tail-18'}
+# in this one a member would not stay clean, if NACKs came to the sender last
+LAST = 'tail-04'
 
 
 class Recovery(evaluating.Workspace):
@@ -166,6 +180,31 @@ def late_case(name, run):
     return name, declared, 'is_lawful %s %s ≡ true' % (p, terms.lst([terms.event(e) for e in [*run['before'], *takes_late(run['tail'])]]))
 
 
+def by_turns(name, run, test):
+    """The test is true of each turn of the tail."""
+    p, declared, before, tail = tail_of(name, run)
+    return name, declared, 'turns_fail %s %s (run_from %s (world_opening %s) %s) %s ≡ []' % (test, p, p, p, before, tail)
+
+
+def by_phases(name, run, test):
+    """The test is true at the end of each turn of the tail, by the phase that lasts then."""
+    p, declared, before, tail = tail_of(name, run)
+    return name, declared, 'phases_fail %s %s %d (run_from %s (world_opening %s) %s) %s ≡ []' % (test, p, run['last'], p, p, before, tail)
+
+
+def sender_last(run):
+    """The tail with each NACK delivered to the sender after all others."""
+    out, late = [], None
+    for e in run['tail']:
+        if late and e.get('bytes') != late['bytes']:
+            out, late = out + [late], None
+        if e.get('deliver') == run['profile']['sender'] and int(e['bytes'][:2], 16) & 15 == 4:
+            late = e
+        else:
+            out.append(e)
+    return dict(run, tail=out + ([late] if late else []))
+
+
 def look(space, runs):
     """Says in which tail a law is false, in which with a flush none had to go, and which wrong statement no tail refuses."""
     whole = {'%s, laws' % name: (run, 'recovers') for name, run in runs}
@@ -175,6 +214,7 @@ def look(space, runs):
     astray = {'%s, %s' % (name, ASTRAY[name]): (run, ASTRAY[name]) for name, run in runs if name in ASTRAY}
     asking = {'%s, %s' % (name, w): (run, w) for name, run in runs for w, tail in ASKING.items() if name == tail}
     astray.update({'%s, %s' % FAR: (run, FAR[1]) for name, run in runs if name == FAR[0]})
+    astray.update({'%s, sender last' % LAST: (sender_last(run), 'clean_each') for name, run in runs if name == LAST})
     late = [late_case('%s, takes after ticks' % name, run) for name, run in sorted(runs, key=lambda r: len(r[1]['before'] + r[1]['tail']))
             if run['lawful'] and takes_late(run['tail']) != run['tail']][:1]
     far = ('32,769 objects', '', 'is_near most_objects 0 ≡ true')
@@ -188,14 +228,18 @@ def look(space, runs):
     marks = [marks_case('%s, marks' % name, run, 'marks_end') for name, run in runs if run['lawful']]
     further = [marks_case('%s, marks of all' % name, run, 'marks_end_all') for name, run in runs if name == FURTHER]
     met = [flush_case('%s, a turn with a flush' % name, run, 'is_never_flushed') for name, run in runs if run['lawful'] and has_flush(run)]
+    clean = [by_turns('%s, clean' % name, run, 'turns_keep_clean') for name, run in runs if run['lawful']]
+    clean += [by_phases('%s, watched' % name, run, 'is_watched') for name, run in runs if run['lawful']]
+    astray_turns = [by_turns('%s, %s' % (name, w), run, w) for name, run in runs for w, tail in TURNS.items() if name == tail]
+    astray_turns += [by_phases('%s, %s' % (name, w), run, w) for name, run in runs for w, tail in PHASES.items() if name == tail]
     amiss += [early_case('%s, early' % name, run) for name, run in runs if name == EARLY]
     said = space.evaluate([*(case(name, *of) for name, of in [*whole.items(), *flushed.items(), *wrong.items(), *members.items(), *astray.items(), *asking.items()]),
-                           *late, far, *counted, *turns, *premises, *amiss, *reached, *at_once, *marks, *further, *met])
-    false = [name for name in [*whole, *members, *(name for name, _, _ in [*counted, *turns, *reached, *marks])] if said[name]]
+                           *late, far, *counted, *turns, *premises, *amiss, *reached, *at_once, *marks, *further, *met, *clean, *astray_turns])
+    false = [name for name in [*whole, *members, *(name for name, _, _ in [*counted, *turns, *reached, *marks, *clean])] if said[name]]
     empty = [name for name in [*flushed, *(name for name, _, _ in met)] if not is_refused(said[name])]
     empty += [name for name, _, _ in premises if not laws.is_refused(said[name])]
     missed = [w for w in WRONG if not any(is_refused(said['%s, %s' % (name, w)]) for name, _ in runs)]
-    missed += [name for name in [*astray, *asking] if not is_refused(said[name])] + [name for name, _, _ in [*late, far, *amiss, *at_once, *further] if not laws.is_refused(said[name])]
+    missed += [name for name in [*astray, *asking, *(name for name, _, _ in astray_turns)] if not is_refused(said[name])] + [name for name, _, _ in [*late, far, *amiss, *at_once, *further] if not laws.is_refused(said[name])]
     for name in false:
         print('%s: a law is false: %s' % (name, said[name][:1500]))
     for name in empty:
