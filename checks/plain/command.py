@@ -1,10 +1,12 @@
 """The commands: read words and an input, and print lines."""
 from __future__ import annotations
 
+import hashlib
 import sys
 
 from .gather import gather, pairs_of
 from .keys import NUMBERS, number
+from .mirror import mirror
 from .relay import relay, relay_words
 from .script import NoMeaning, read_script
 from .session import Fault, Session
@@ -65,6 +67,11 @@ def run(words: list[str], text: bytes, folder: str) -> tuple[int, str]:
     done = run_datagrams(words, text, folder)
     if done is not None:
         return done[0], ''.join(line + '\n' for line in done[1])
+    if words == ['mirror']:
+        status, lines, put = mirror(text, folder)
+        # The copies stand at the end, so that whoever compares the two programs sees them too.
+        digests = sorted(f'{name} {hashlib.sha256(octets).hexdigest()}' for name, octets in put.items())
+        return status, ''.join(line + '\n' for line in [*lines, *digests])
     options = options_of(words[1:]) if words[:1] == ['session'] else None
     if options is None:
         return NO_COMMAND, USAGE + '\n'
