@@ -4,7 +4,7 @@
 # It is run after `rt ci`, which leaves the program; the first row that differs is named, and ends it with status 1.
 cd "$(dirname "$0")/.." || exit 1
 program=$PWD/crates/normd/out/normd
-usage='usage: normd session | show | generate N | send PROFILE | recv PROFILE NODE | hub PROFILE | gather PROFILE NODE .. | relay UP NODE DOWN'
+usage='usage: normd session | show | generate N | send PROFILE | recv PROFILE NODE | hub PROFILE | gather PROFILE NODE .. | relay UP NODE DOWN | mirror'
 version='normd 0.1.0'
 rows=0
 
@@ -189,6 +189,7 @@ words "$gather_takes" gather a.toml 2 --help
 words "$gather_takes" gather a.toml 2 --instance 1
 words "$gather_takes" gather a.toml 2 b.toml 3 c.toml 4 d.toml 5 e.toml 6 f.toml 7 g.toml 8 h.toml 9 i.toml 10
 relay_takes='relay takes three words, the path of the profile above, a node of it, from 1 to 4294967294, and the path of the profile below, and --instance I, from 0 to 65535, at most once'
+words 'the word NAMES is one too many behind mirror' mirror NAMES
 words "$relay_takes" relay
 words "$relay_takes" relay up.toml 2
 words "$relay_takes" relay up.toml 2 down.toml 3
@@ -1029,6 +1030,61 @@ gathers 3 'line 1: it has more than 3000 octets\n' 'refused line 1\n' "$(digits 
 gathers 3 'line 2: it has more than 3000 octets\n' "${up_hello}refused line 2\n" "$hello\n$(digits 3002)" a.toml 2
 gathers 3 'line 2: it ends with a carriage return: write lines that end with a line feed alone\n' "${up_hello}refused line 2\n" "$hello\n00\r\n" a.toml 2
 gathers 0 '' 'end lines 1 handed 0\n' "$(digits 3000)" a.toml 2
+
+# A folder: its manifest and its file, each with a watermark, and the copy of each receiver. The digest is that of `sha256sum`.
+# mirrors STATUS WHY OUTPUT INPUT
+mirrors() {
+    printf '%b' "$4" >"$scratch/in"
+    reason=$2
+    row "the folder $4" "$1" "$3" mirror
+}
+
+# unmirrored LINE WHY INPUT: an input of which this line is the first without meaning.
+unmirrored() {
+    mirrors 3 "line $1: $2\n" "refused line $1\n" "$3"
+}
+
+# has FILE OCTETS: a file has these octets. lacks FILE: it is not there.
+has() {
+    printf '%b' "$2" | cmp -s - "$files/$1" || { echo "program: $1 has other octets"; exit 1; }
+}
+
+lacks() {
+    [ ! -e "$files/$1" ] || { echo "program: $1 is there"; exit 1; }
+}
+
+printf 'abc' >"$files/a.txt"
+: >"$files/b"
+folder='set instance 7\nset e 64\nset b 4\n'
+manifest=612e747874203320626137383136626638663031636665613431343134306465356461653232323362303033363161333936313737613963623431306666363166323030313561640a
+mirrors 8 '' "enq 1 1 7 0 data 73\nmark 1 2 7 1 0 0 1\nup 2 7 0 data 73 - $manifest\nenq 1 3 7 1 file 3
+end objects 2 octets 76 handed 1 lost 0 satisfied 0 expired 0 cut 0\nturns spent\n" "${folder}set turns 3\na.txt\n"
+lacks n2-a.txt
+mirrors 11 'watermark 1 expired, and the number of receivers that had not confirmed it is 2: its line `done` names them\n' \
+    'enq 1 1 7 0 data 73\nmark 1 2 7 1 0 0 1\nenq 1 3 7 1 file 3\nmark 1 4 7 2 1 0 0\ndone 1 expired 2 3\ndone 2 expired 2 3
+end objects 2 octets 76 handed 0 lost 0 satisfied 0 expired 2 cut 0\nnot satisfied\n' \
+    "${folder}set receivers 2\nset fabric chance\nset loss 900\nset chance 4\nset turns 4000\na.txt\n"
+mirrors 14 'the manifest does not fit the octets of the profile\n' \
+    'no 1 1 too-big 73\nno 1 2 nothing-enqueued\nenq 1 3 7 0 file 3\nmark 1 4 7 1 0 0 0\nup 2 7 0 file 3 612e747874 616263\npast 2 7 0 0 0\ndone 1 satisfied
+end objects 1 octets 3 handed 1 lost 0 satisfied 1 expired 0 cut 0\nnot accepted\n' "${folder}set octets 72\na.txt\n"
+lacks n2-a.txt
+mirrors 14 'b has 0 octets, and a file of a folder has 1 to 16777216\n' 'not accepted b\n' "${folder}a.txt\nb\n"
+mirrors 7 '' 'absent b.txt\n' 'set instance 7\nb.txt\n'
+mirrors 7 "cannot use the file ./folder: is a directory\n" 'fault files\n' "${folder}folder\na.txt\n"
+lacks n2-a.txt
+mirrors 0 '' "enq 1 1 7 0 data 73\nmark 1 2 7 1 0 0 1\nup 2 7 0 data 73 - $manifest\nenq 1 3 7 1 file 3\nmark 1 4 7 2 1 0 0\nup 2 7 1 file 3 612e747874 616263
+past 2 7 0 0 1\ndone 1 satisfied\npast 2 7 1 0 0\ndone 2 satisfied\nend objects 2 octets 76 handed 2 lost 0 satisfied 2 expired 0 cut 0
+mirrored 1 files to 1 receivers\n" "# a folder\n\n${folder}a.txt"
+has n2-a.txt abc
+unmirrored 1 'no file is named' ''
+unmirrored 4 'no file is named' "$folder"
+unmirrored 2 'no file is named' '# a.txt\n'
+unmirrored 4 "a folder has one producer, and producers is not set" "${folder}set producers 1\na.txt\n"
+unmirrored 4 'nothing of a folder is dropped: its mode is hold' "${folder}set mode drop\na.txt\n"
+unmirrored 5 'no key is set here: keys are set before every name' "${folder}a.txt\nset k 0\n"
+unmirrored 6 'the name stands on line 4 too' "${folder}a.txt\nb\na.txt\n"
+no_name='a file'"'"'s name is 1 to 64 letters, digits, `.`, `_` or `-`, and begins neither with `.` nor with `n` and a digit'
+for name in n2-a.txt n2x .a a/b "$(digits 65)"; do unmirrored 4 "$no_name" "$folder$name\na.txt\n"; done
 
 # A relay between two sessions: an object and a flush above, the object and a watermark below, and the acknowledgement once it came from below.
 # relays STATUS WHY OUTPUT INPUT WORD..

@@ -3,7 +3,7 @@
 # not compile; and ./build. It is run after `rt ci`; the first row that differs is named, and ends it with status 1.
 cd "$(dirname "$0")/.." || exit 1
 top=$(pwd -P)
-usage='usage: normd session | show | generate N | send PROFILE | recv PROFILE NODE | hub PROFILE | gather PROFILE NODE .. | relay UP NODE DOWN'
+usage='usage: normd session | show | generate N | send PROFILE | recv PROFILE NODE | hub PROFILE | gather PROFILE NODE .. | relay UP NODE DOWN | mirror'
 hello='enq 1 1 7 0 data 5
 up 2 7 0 data 5 - 68656c6c6f
 end objects 1 octets 5 handed 1 lost 0 satisfied 0 expired 0 cut 0'

@@ -11,17 +11,18 @@ use Rattle.norm_args.specs.declared.node_tasks.NodeTask.{NodeTask}
 use Rattle.norm_args.specs.declared.node_tasks.NodeTask.TheVariants.{Send, Receive, Hub, Gather, Relay}
 use Rattle.norm_args.specs.declared.tasks.Options.{Options}
 use Rattle.norm_args.specs.declared.tasks.Task.{Task}
-use Rattle.norm_args.specs.declared.tasks.Task.TheVariants.{Session, Show, Generate}
+use Rattle.norm_args.specs.declared.tasks.Task.TheVariants.{Session, Show, Generate, Mirror as ToMirror}
 use Rattle.norm_endings.specs.Outside.{Outside, Says, absent_line}
 use Rattle.norm_endings.specs.StatusOf.{status_of}
 use Rattle.norm_endings.specs.declared.status.Ending.{Ending}
-use Rattle.norm_endings.specs.declared.status.Ending.TheVariants.{Done, Datagram, Memory, Refused, Line, Profile, Read, Write, Fabric, Files, Absent, Spent, Tailed, TailRefused, Event, Command, Relayed}
+use Rattle.norm_endings.specs.declared.status.Ending.TheVariants.{Done, Datagram, Memory, Refused, Line, Profile, Read, Write, Fabric, Files, Absent, Spent, Tailed, TailRefused, Event, Command, Relayed, Unsendable, NotAccepted, NotSatisfied, Unlike}
 use Rattle.norm_program.specs.Asked.{Asked, Members, Sender, with_instance}
 use Rattle.norm_program.specs.Commands.{EndsNode, EndsTask, EndsAsked, EndsBy}
 use Rattle.norm_program.specs.Ends.{EndsScript}
 use Rattle.norm_program.specs.GatherEnds.{EndsAmong, EndsGather}
 use Rattle.norm_program.specs.GenerateEnds.{GenerateEnds}
 use Rattle.norm_program.specs.Laws.{NoneFailed, NamesAbsent, FourIsOfReads, FiveIsOfWrites, SixIsOfTheNetwork, SevenIsOfFiles}
+use Rattle.norm_program.specs.MirrorEnds.{EndsMirror}
 use Rattle.norm_program.specs.NodeEnds.{EndsUnloaded, EndsUnder, EndsBroken, BrokenReceiver, BrokenHub, EndsReceiver, EndsHub, EndsSender}
 use Rattle.norm_program.specs.RelayEnds.{EndsBetween, EndsRelay}
 use Rattle.norm_program.specs.ShowEnds.{ShowEnds}
@@ -76,6 +77,25 @@ show_shows (Line n why) before after h = tt
 show_shows Read before after h = h.cause
 show_shows Write before after h = h.cause
 show_shows _ before after h = absurd h
+
+mirror_shows : (ending : Ending) (before after : Outside) → EndsMirror ending before after → Shows ending before after
+mirror_shows Done before after h = tt
+mirror_shows Memory before after h = tt
+mirror_shows (Refused refusal) before after h = tt
+mirror_shows Read before after h = h.cause
+mirror_shows Write before after h = h.cause
+mirror_shows Fabric before after h = h.0.cause
+mirror_shows Files before after (inl h) = h.0.cause
+mirror_shows Files before after (inr (inl h)) = h.cause
+mirror_shows Files before after (inr (inr h)) = h.cause
+mirror_shows (Absent name) before after (inl h) = (h.0.unsaid, h.0.output)
+mirror_shows (Absent name) before after (inr h) = (before.written, h.output)
+mirror_shows Spent before after h = tt
+mirror_shows (Unsendable name len) before after h = tt
+mirror_shows (NotAccepted what) before after h = tt
+mirror_shows (NotSatisfied which) before after h = tt
+mirror_shows (Unlike why) before after h = tt
+mirror_shows _ before after h = absurd h
 
 generate_shows : (m : ℕ) (ending : Ending) (before after : Outside) → GenerateEnds m ending before after → Shows ending before after
 generate_shows m Done before after h = tt
@@ -152,6 +172,7 @@ task_shows : (task : Task) (ending : Ending) (before after : Outside) → EndsTa
 task_shows (Session options) ending before after h = session_shows options.tail options ending before after h
 task_shows Show ending before after h = show_shows ending before after h
 task_shows (Generate m) ending before after h = generate_shows m ending before after h
+task_shows ToMirror ending before after h = mirror_shows ending before after h
 
 node_shows : (task : Option NodeTask) (ending : Ending) (before after : Outside) → EndsNode task ending before after → Shows ending before after
 node_shows None ending before after h =

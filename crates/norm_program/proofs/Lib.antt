@@ -5,6 +5,8 @@ pub mod NodeLemmas
 pub mod CommandLemmas
 pub mod TailLemmas
 pub mod TailEndLemmas
+pub mod ArrivalLemmas
+pub mod MirrorLemmas
 pub mod LawLemmas
 pub mod GatherEndLemmas
 pub mod RelayEndLemmas

@@ -6,7 +6,7 @@ use Rattle.norm_args.specs.Tasks.{task_of}
 use Rattle.norm_args.specs.declared.node_tasks.NodeTask.{NodeTask}
 use Rattle.norm_args.specs.declared.node_tasks.NodeTask.TheVariants.{Send, Receive, Hub, Gather, Relay}
 use Rattle.norm_args.specs.declared.tasks.Task.{Task}
-use Rattle.norm_args.specs.declared.tasks.Task.TheVariants.{Session, Show, Generate}
+use Rattle.norm_args.specs.declared.tasks.Task.TheVariants.{Session, Show, Generate, Mirror}
 use Rattle.norm_endings.specs.Outside.{Outside}
 use Rattle.norm_endings.specs.StatusOf.{status_of}
 use Rattle.norm_endings.specs.declared.status.Ending.{Ending}
@@ -14,6 +14,7 @@ use Rattle.norm_endings.specs.declared.status.Ending.TheVariants.{Words, Memory}
 use Rattle.norm_program.specs.Ends.{RefusedWords}
 use Rattle.norm_program.specs.GatherEnds.{EndsGather}
 use Rattle.norm_program.specs.GenerateEnds.{GenerateEnds}
+use Rattle.norm_program.specs.MirrorEnds.{EndsMirror}
 use Rattle.norm_program.specs.NodeEnds.{EndsUnder, EndsSender, EndsReceiver, EndsHub}
 use Rattle.norm_program.specs.RelayEnds.{EndsRelay}
 use Rattle.norm_program.specs.ShowEnds.{ShowEnds}
@@ -35,6 +36,7 @@ abbrev pub EndsTask : Task → Ending → Outside → Outside → Type 0
 EndsTask (Session options) ending before after = EndsSession options ending before after
 EndsTask Show ending before after = ShowEnds ending before after
 EndsTask (Generate n) ending before after = GenerateEnds n ending before after
+EndsTask Mirror ending before after = EndsMirror ending before after
 
 -- a task, or else one of a node
 abbrev pub EndsAsked : Option Task → Option NodeTask → Ending → Outside → Outside → Type 0
@@ -66,13 +68,25 @@ EndsUnread NotText status before after = (status ≡ status_of Words) × Refused
 EndsUnread NoMemory status before after = (status ≡ status_of Memory) × (after ≡ before)
 
 -- The files have what they had, but where a receiver puts those that it hands up: what it puts is said by its run.
-abbrev pub KeepsFiles : Option NodeTask → (before after : Told) → Type 0
-KeepsFiles None before after = after ≡ before
-KeepsFiles (Some (Send path instance)) before after = after ≡ before
-KeepsFiles (Some (Receive path node)) before after = ⊤
-KeepsFiles (Some (Hub path)) before after = after ≡ before
-KeepsFiles (Some (Gather pairs)) before after = after ≡ before
-KeepsFiles (Some (Relay up node down instance)) before after = after ≡ before
+abbrev pub KeepsNodeFiles : Option NodeTask → (before after : Told) → Type 0
+KeepsNodeFiles None before after = after ≡ before
+KeepsNodeFiles (Some (Send path instance)) before after = after ≡ before
+KeepsNodeFiles (Some (Receive path node)) before after = ⊤
+KeepsNodeFiles (Some (Hub path)) before after = after ≡ before
+KeepsNodeFiles (Some (Gather pairs)) before after = after ≡ before
+KeepsNodeFiles (Some (Relay up node down instance)) before after = after ≡ before
+
+-- What `mirror` puts is said by how it ends (`EndsMirror`).
+abbrev pub KeepsTaskFiles : Task → (before after : Told) → Type 0
+KeepsTaskFiles (Session options) before after = after ≡ before
+KeepsTaskFiles Show before after = after ≡ before
+KeepsTaskFiles (Generate n) before after = after ≡ before
+KeepsTaskFiles Mirror before after = ⊤
+
+-- a task, or else one of a node
+abbrev pub KeepsFiles : Option Task → Option NodeTask → (before after : Told) → Type 0
+KeepsFiles (Some task) other before after = KeepsTaskFiles task before after
+KeepsFiles None other before after = KeepsNodeFiles other before after
 
 -- the paths of the profiles that are asked for
 abbrev pub paths_asked : Option NodeTask → List (List ℕ)

@@ -14,7 +14,7 @@ use Rattle.norm_program.specs.Asked.{Asked, is_alone, IsAsked, IsRefusedLine}
 use Rattle.norm_program.specs.Boarded.{RunsScript, Span, StopsScript, span}
 
 abbrev pub usage_line : List ℕ
-usage_line = codes "usage: normd session | show | generate N | send PROFILE | recv PROFILE NODE | hub PROFILE | gather PROFILE NODE .. | relay UP NODE DOWN\n"
+usage_line = codes "usage: normd session | show | generate N | send PROFILE | recv PROFILE NODE | hub PROFILE | gather PROFILE NODE .. | relay UP NODE DOWN | mirror\n"
 
 -- what a session had, up to when this was written
 abbrev pub session_span : Outside → Outside → Pieces → Span

@@ -5,6 +5,8 @@ pub mod TailEnds
 pub mod Tailing
 pub mod Lending
 pub mod ShowEnds
+pub mod MirrorEnds
+pub mod Mirroring
 pub mod GenerateEnds
 pub mod NodeEnds
 pub mod GatherEnds

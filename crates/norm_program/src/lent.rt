@@ -5,12 +5,12 @@ ghost use Rattle.std.specs.Prelude.{◌≡◌};
 /// The five objects of the outside, borrowed for one command. The caller keeps them and sees what the command did.
 #[derive(Drop)]
 pub(crate) struct Lent<'a, S, K, F, D, C> {
-    /// Only `session`, `send`, `show`, `gather` and `relay` read it.
+    /// Only `session`, `send`, `show`, `gather`, `relay` and `mirror` read it.
     pub input: &'a mut S,
     pub output: &'a mut K,
-    /// Only `session`, `send`, `recv` and `hub` call it.
+    /// Only `session`, `send`, `recv`, `hub` and `mirror` call it.
     pub fabric: &'a mut F,
-    /// Only `recv` puts files.
+    /// Only `recv` and `mirror` put files.
     pub files: &'a mut D,
     /// Gives the moments of turns if the profile's `step` is 0. Else nobody calls it.
     pub clock: &'a mut C,

@@ -3,7 +3,7 @@
 //! returns the status that `run` exits with.
 //!
 //! `program` finds the command that the words ask for (`norm_args` says what they mean). `session`, `show`, `generate`, `send`, `recv`, `hub`,
-//! `gather` and `relay` are the commands; `tail` has what `session --tail` does after its turns, its last line too. `lent` lends them the outside as
+//! `gather`, `relay` and `mirror` are the commands; `tail` has what `session --tail` does after its turns, its last line too. `lent` lends them the outside as
 //! one value. `words` reads the command line, `commands` the script of a sender, and `boarded` runs what was read of a script. `driven_nodes` has what
 //! `gather` and `relay` do with lines, `norm_endings` the endings with their statuses and reasons, and [`laws`] are promises about the statuses.
 #![tactic(auto)]
@@ -15,6 +15,7 @@ mod generate;
 mod hub;
 pub mod laws;
 mod lent;
+mod mirror;
 mod program;
 mod recv;
 mod relay;

@@ -5,14 +5,16 @@ ghost use Rattle.std.specs.Prelude.{◌≡◌, map, string_bytes, Some, IfSome, 
 ghost use Rattle.std.specs.Process.{exit_status};
 ghost use Rattle.norm_args.specs.Fits.{FitsNode, FitsTask};
 ghost use Rattle.norm_args.specs.NodeTasks.{node_task_of};
+ghost use Rattle.norm_args.specs.Tasks.{task_of};
 ghost use Rattle.norm_endings.specs.Outside.{outside, called_as};
-ghost use Rattle.norm_program.specs.Commands.{EndsNode, EndsTask, EndsOther, EndsBy, EndsWith, EndsUnread, KeepsFiles};
+ghost use Rattle.norm_program.specs.Commands.{EndsNode, EndsTask, EndsOther, EndsBy, EndsWith, EndsUnread, KeepsFiles, KeepsNodeFiles, KeepsTaskFiles};
 ghost use Rattle.norm_program.specs.Lending.{GivesBack};
 
 use crate::gather::end_gather;
 use crate::generate::write_script;
 use crate::hub::end_hub;
 use crate::lent::Lent;
+use crate::mirror::end_mirror;
 use crate::recv::end_receive;
 use crate::relay::end_relay;
 use crate::send::end_send;
@@ -30,9 +32,10 @@ use std::thread::Threads;
 /// The last line if the words are no command.
 // One line for all wrong words, which a clause fixes (`usage_line`). What is wrong with them goes to standard error.
 const USAGE: &[u8] =
-    b"usage: normd session | show | generate N | send PROFILE | recv PROFILE NODE | hub PROFILE | gather PROFILE NODE .. | relay UP NODE DOWN\n";
+    b"usage: normd session | show | generate N | send PROFILE | recv PROFILE NODE | hub PROFILE | gather PROFILE NODE .. | relay UP NODE DOWN | mirror\n";
 
-/// Runs `session`, `show` or `generate`, and writes what it has to say to the output. Only `session` calls the network, the files and the clock.
+/// Runs `session`, `show`, `generate` or `mirror`, and writes what it has to say to the output. Only `session` and `mirror` call the network, the files
+/// and the clock, and only `mirror` puts files.
 fn end_task<R: Threads + Wait + Sync, S: Source, K: Sink, F: Fabric, D: Files, C: Clock>(
     rt: &R,
     alloc: Global,
@@ -41,12 +44,13 @@ fn end_task<R: Threads + Wait + Sync, S: Source, K: Sink, F: Fabric, D: Files, C
 ) -> Ending
     requires { FitsTask task }
     ensures ends { GivesBack S.Source K.Sink F.Fabric D.Files C.Clock (EndsTask task result) lent.old lent.new }
-    ensures files { D.contents lent.new.files.now ≡ D.contents lent.old.files.now }
+    ensures files { KeepsTaskFiles task (D.contents lent.old.files.now) (D.contents lent.new.files.now) }
 {
     match task {
         Task::Session(options) => run_input(rt, alloc, options, lent),
         Task::Show => show(alloc, lent.input, lent.output),
         Task::Generate(number) => write_script(number, lent.output),
+        Task::Mirror => end_mirror(rt, alloc, lent),
     }
 }
 
@@ -59,7 +63,7 @@ fn end_node<R: Threads + Wait + Sync, S: Source, K: Sink, F: Fabric, D: Files, C
 ) -> Ending
     requires { FitsNode task }
     ensures ends { GivesBack S.Source K.Sink F.Fabric D.Files C.Clock (EndsNode (Some task) result) lent.old lent.new }
-    ensures files { KeepsFiles (Some task) (D.contents lent.old.files.now) (D.contents lent.new.files.now) }
+    ensures files { KeepsNodeFiles (Some task) (D.contents lent.old.files.now) (D.contents lent.new.files.now) }
 {
     match task {
         NodeTask::Send { profile, instance } => end_send(rt, alloc, profile, instance, lent),
@@ -84,7 +88,7 @@ fn end_other<R: Threads + Wait + Sync, S: Source, K: Sink, F: Fabric, D: Files, 
 ) -> Ending
     requires { IfSome task FitsNode }
     ensures ends { GivesBack S.Source K.Sink F.Fabric D.Files C.Clock (EndsNode task result) lent.old lent.new }
-    ensures files { KeepsFiles task (D.contents lent.old.files.now) (D.contents lent.new.files.now) }
+    ensures files { KeepsNodeFiles task (D.contents lent.old.files.now) (D.contents lent.new.files.now) }
 {
     match task {
         Some(task) => end_node(rt, alloc, task, lent),
@@ -104,7 +108,7 @@ fn end_others<R: Threads + Wait + Sync, S: Source, K: Sink, F: Fabric, D: Files,
     lent: &mut Lent<'_, S, K, F, D, C>,
 ) -> Ending
     ensures ends { GivesBack S.Source K.Sink F.Fabric D.Files C.Clock (EndsOther result (map string_bytes words.now.items)) lent.old lent.new }
-    ensures files { KeepsFiles (node_task_of (map string_bytes words.now.items)) (D.contents lent.old.files.now) (D.contents lent.new.files.now) }
+    ensures files { KeepsNodeFiles (node_task_of (map string_bytes words.now.items)) (D.contents lent.old.files.now) (D.contents lent.new.files.now) }
 {
     match node_task_of(alloc, words) {
         Ok(task) => end_other(rt, alloc, task, lent),
@@ -121,7 +125,7 @@ fn end_of<R: Threads + Wait + Sync, S: Source, K: Sink, F: Fabric, D: Files, C: 
     lent: &mut Lent<'_, S, K, F, D, C>,
 ) -> Ending
     ensures ends { GivesBack S.Source K.Sink F.Fabric D.Files C.Clock (EndsBy result (map string_bytes words.now.items)) lent.old lent.new }
-    ensures files { KeepsFiles (node_task_of (map string_bytes words.now.items)) (D.contents lent.old.files.now) (D.contents lent.new.files.now) }
+    ensures files { KeepsFiles (task_of (map string_bytes words.now.items)) (node_task_of (map string_bytes words.now.items)) (D.contents lent.old.files.now) (D.contents lent.new.files.now) }
 {
     match task_of(alloc, words) {
         Ok(Some(task)) => end_task(rt, alloc, task, lent),
@@ -131,7 +135,7 @@ fn end_of<R: Threads + Wait + Sync, S: Source, K: Sink, F: Fabric, D: Files, C: 
 }
 
 /// Runs the program and returns its exit status; what each status says is in `EndsWith`. `words` are those after the program's name. The files keep
-/// their contents, except if the words ask for a receiver, which puts the files that it hands up.
+/// their contents, except if the words ask for a receiver, which puts the files that it hands up, or for `mirror`, which puts those of all receivers.
 pub fn norm_main<R: Threads + Wait + Sync, S: Source, K: Sink, F: Fabric, D: Files, C: Clock>(
     rt: &R,
     alloc: Global,
@@ -147,7 +151,7 @@ pub fn norm_main<R: Threads + Wait + Sync, S: Source, K: Sink, F: Fabric, D: Fil
         (called_as (F.told fabric.old) (D.contents files.old) (C.moments clock.old) (F.fault_count fabric.old) (D.fault_count files.old)))
         (outside (S.left input.new) (K.pieces output.new) (S.fault_count input.new) (K.fault_count output.new)
         (called_as (F.told fabric.new) (D.contents files.new) (C.moments clock.new) (F.fault_count fabric.new) (D.fault_count files.new))) }
-    ensures files { KeepsFiles (node_task_of (map string_bytes words.now.items)) (D.contents files.old) (D.contents files.new) }
+    ensures files { KeepsFiles (task_of (map string_bytes words.now.items)) (node_task_of (map string_bytes words.now.items)) (D.contents files.old) (D.contents files.new) }
 {
     let mut lent = Lent::of(input, output, fabric, files, clock);
     end_of(rt, alloc, words, &mut lent).status()
@@ -172,7 +176,7 @@ pub fn run<R: Threads + Wait + Sync + Eprint, S: Source, K: Sink, F: Fabric, D: 
         (called_as (F.told fabric.new) (D.contents files.new) (C.moments clock.new) (F.fault_count fabric.new) (D.fault_count files.new)) in
         MatchResult words (λ words. EndsWith (exit_status result) (map string_bytes words.items) before after)
         (λ fault. EndsUnread fault (exit_status result) before after) }
-    ensures files { MatchResult words (λ words. KeepsFiles (node_task_of (map string_bytes words.items)) (D.contents files.old) (D.contents files.new))
+    ensures files { MatchResult words (λ words. KeepsFiles (task_of (map string_bytes words.items)) (node_task_of (map string_bytes words.items)) (D.contents files.old) (D.contents files.new))
         (λ fault. D.contents files.new ≡ D.contents files.old) }
 {
     let words = match words {
