@@ -1200,6 +1200,74 @@ if (ulimit -v 200000) 2>/dev/null; then
     said 'a script that does not fit in memory'
 fi
 
+# Folders whose rows are not printed whole here: the first line and the last are compared, and each copy. Octets are those of one short file.
+# folders NAME STATUS FIRST LAST: the input stands in $scratch/in, and the program runs in the folder $scratch/many.
+mkdir "$scratch/many" || exit 1
+folders() {
+    (cd "$scratch/many" && exec "$program" mirror) <"$scratch/in" >"$scratch/out" 2>"$scratch/err"
+    ended $? "$1" "$2"
+    [ "$(head -n 1 "$scratch/out")" = "$3" ] || { echo "program: $1 began with"; head -n 1 "$scratch/out"; exit 1; }
+    [ "$(tail -n 1 "$scratch/out")" = "$4" ] || { echo "program: $1 ended with"; tail -n 1 "$scratch/out"; exit 1; }
+    said "$1"
+}
+
+# copies NAME COUNT: so many copies are there, each with the octets of the file, and nothing else is.
+copies() {
+    [ "$(find "$scratch/many" -name 'n[23]-*' | wc -l)" -eq "$2" ] || { echo "program: $1 put another number of copies"; exit 1; }
+    find "$scratch/many" -type f | while read -r copy; do printf 'abc' | cmp -s - "$copy" || echo "$copy"; done >"$scratch/other"
+    [ ! -s "$scratch/other" ] || { echo "program: $1 left other octets in"; cat "$scratch/other"; exit 1; }
+}
+
+# The longest names: of 64 characters, whose copies have 67.
+long=$(digits 63)
+printf 'abc' >"$scratch/many/a$long"
+printf 'abc' >"$scratch/many/b$long"
+printf 'set receivers 2\nb%s\na%s\n' "$long" "$long" >"$scratch/in"
+folders 'a folder with names of 64 characters' 0 'enq 1 1 1 0 data 264' 'mirrored 2 files to 2 receivers'
+copies 'a folder with names of 64 characters' 4
+for node in 2 3; do
+    for name in a b; do
+        [ -e "$scratch/many/n$node-$name$long" ] || { echo "program: n$node-$name$long is not there"; exit 1; }
+    done
+done
+rm -f "$scratch/many"/*
+
+# The most files. The manifest has more octets than a line of a script may give as data.
+: >"$scratch/in"
+for number in $(seq 1001 2024); do
+    printf 'abc' >"$scratch/many/$number"
+    echo "$number" >>"$scratch/in"
+done
+folders 'a folder of 1,024 files' 0 'enq 1 1 1 0 data 73728' 'mirrored 1024 files to 1 receivers'
+copies 'a folder of 1,024 files' 1024
+rm -f "$scratch/many"/n2-*
+echo 2025 >>"$scratch/in"
+reason='line 1025: a folder has at most 1024 files\n'
+folders 'a folder of 1,025 files' 3 'refused line 1025' 'refused line 1025'
+rm -f "$scratch/many"/*
+
+# One small file, and each way in which it is not mirrored. Nothing is put.
+printf 'abc' >"$scratch/many/a.txt"
+small='set instance 7\nset e 64\nset b 4\n'
+printf '%b' "${small}set turns 20\na.txt\n" >"$scratch/in"
+folders 'a small folder, and 20 turns' 8 'enq 1 1 7 0 data 73' 'turns spent'
+printf '%b' "${small}set fabric chance\nset loss 900\na.txt\n" >"$scratch/in"
+reason='watermark 1 expired, and the number of receivers that had not confirmed it is 1: its line `done` names them\n'
+folders 'a small folder, of which nine copies in ten are lost' 11 'enq 1 1 7 0 data 73' 'not satisfied'
+printf '%b' "${small}set octets 72\na.txt\n" >"$scratch/in"
+reason='the manifest does not fit the octets of the profile\n'
+folders 'a small folder whose manifest is too long' 14 'no 1 1 too-big 73' 'not accepted'
+printf '%b' "${small}set octets 128\nb.txt\n" >"$scratch/in"
+head -c 129 /dev/zero >"$scratch/many/b.txt"
+reason='b.txt has 129 octets, which do not fit the octets of the profile\n'
+folders 'a small folder whose file is too long' 14 'enq 1 1 7 0 data 75' 'not accepted'
+: >"$scratch/many/b.txt"
+printf '%b' "${small}a.txt\nb.txt\n" >"$scratch/in"
+reason='b.txt has 0 octets, and a file of a folder has 1 to 16777216\n'
+folders 'a small folder with an empty file' 14 'not accepted b.txt' 'not accepted b.txt'
+rm -f "$scratch/many/b.txt"
+copies 'small folders that are not mirrored' 0
+
 awaits unheard.err 'the hub is to be'
 kill "$unheard"
 wait "$unheard" 2>/dev/null
