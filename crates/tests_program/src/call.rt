@@ -1,5 +1,6 @@
 //! What the program is called with. The lines of a row fill a [`Call`], and `playing` makes the objects from it.
 
+use crate::changing::{Change, ChangingFiles};
 use norm_memory::{MemFiles, MemSink, MemSource};
 use row_words::{Fault, Words};
 use std::alloc::{AllocError, Global};
@@ -83,12 +84,25 @@ pub(crate) fn numbers(alloc: Global, number: Option<u64>) -> Result<Vec<u64>, Al
     Ok(numbers)
 }
 
+/// The file that a line names, and its octets.
+fn named_file(alloc: Global, words: &mut Words<'_>) -> Result<Option<(String, Vec<u8>)>, Fault> {
+    let Some(name) = words.word() else {
+        return Ok(None);
+    };
+    let name = String::from_str(alloc, name)?;
+    match words.octets(alloc)? {
+        Some(octets) => Ok(Some((name, octets.into_inner()))),
+        None => Ok(None),
+    }
+}
+
 /// The words, the input and the files of a call, and which call of the outside fails.
 #[derive(Drop)]
 pub(crate) struct Call {
     words: Vec<String>,
     input: Vec<u8>,
     files: Vec<(String, Vec<u8>)>,
+    change: Option<Change>,
     pub(crate) fails: Fails,
 }
 
@@ -99,6 +113,7 @@ impl Call {
             words: Vec::new(alloc),
             input: Vec::new(alloc),
             files: Vec::new(alloc),
+            change: None,
             fails: Fails::Nothing,
         }
     }
@@ -113,6 +128,7 @@ impl Call {
         match what {
             "words" => self.add_words(alloc, words),
             "file" => self.add_file(alloc, words),
+            "change" => self.change(alloc, words),
             "fail" => Ok(self.fail(words)),
             _ => Ok(false),
         }
@@ -136,14 +152,22 @@ impl Call {
 
     /// Adds a file. Returns `false` if the line names none.
     fn add_file(&mut self, alloc: Global, words: &mut Words<'_>) -> Result<bool, Fault> {
-        let Some(name) = words.word() else {
+        let Some(file) = named_file(alloc, words)? else {
             return Ok(false);
         };
-        let name = String::from_str(alloc, name)?;
-        let Some(octets) = words.octets(alloc)? else {
+        self.files.push(file)?;
+        Ok(true)
+    }
+
+    /// Lets a file have other octets from a call of the files on. Returns `false` if the line names none.
+    fn change(&mut self, alloc: Global, words: &mut Words<'_>) -> Result<bool, Fault> {
+        let Some(at) = words.number() else {
             return Ok(false);
         };
-        self.files.push((name, octets.into_inner()))?;
+        let Some((name, octets)) = named_file(alloc, words)? else {
+            return Ok(false);
+        };
+        self.change = Some(Change { at, name, octets });
         Ok(true)
     }
 
@@ -177,14 +201,34 @@ impl Call {
         Ok(MemSink::of(Vec::new(alloc), failing))
     }
 
-    /// The files. The call of them that the row names fails.
-    pub(crate) fn files(&self, alloc: Global) -> Result<MemFiles, AllocError> {
+    /// A copy of the files.
+    fn copied(&self, alloc: Global) -> Result<Vec<(String, Vec<u8>)>, AllocError> {
         let mut files = Vec::new(alloc);
         for (name, octets) in &self.files {
             let name = String::from_str(alloc, name.as_str())?;
             let octets = Vec::from_slice(alloc, octets.as_slice())?;
             files.push((name, octets))?;
         }
+        Ok(files)
+    }
+
+    /// The files. The call of them that the row names fails.
+    pub(crate) fn files(&self, alloc: Global) -> Result<MemFiles, AllocError> {
+        let files = self.copied(alloc)?;
         Ok(MemFiles::of(files, numbers(alloc, self.fails.file())?))
+    }
+
+    /// The files, of which one changes, if the row says so. No call of them fails for its number then.
+    pub(crate) fn changing_files(
+        &self,
+        alloc: Global,
+    ) -> Result<Option<ChangingFiles>, AllocError> {
+        match &self.change {
+            Some(change) => {
+                let files = self.copied(alloc)?;
+                Ok(Some(ChangingFiles::of(alloc, files, change.copy(alloc)?)))
+            }
+            None => Ok(None),
+        }
     }
 }

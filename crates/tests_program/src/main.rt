@@ -3,6 +3,7 @@
 
 mod asked;
 mod call;
+mod changing;
 mod disturbed;
 mod hostile;
 mod left;

@@ -4,8 +4,8 @@ use crate::asked::Asked;
 use crate::call::Call;
 use crate::left::{Left, print_counts, print_files, print_left, print_no_offer, print_offer};
 use crate::net::{Kind, Net};
-use norm_base::{Fabric, Sink, Source};
-use norm_memory::{FeedFabric, ListFabric, MemClock, MemFiles};
+use norm_base::{Fabric, Files, Sink, Source};
+use norm_memory::{FeedFabric, ListFabric, MemClock, MemSink};
 use norm_program::{Status, norm_main};
 use row_words::Fault;
 use std::alloc::Global;
@@ -16,45 +16,53 @@ use std::thread::Threads;
 const MOST_OFFERS: usize = 100;
 
 /// The status of the program. Nothing follows the call here, so no goal has the long contract of `norm_main`.
-fn status_of<R: Threads + Wait + Sync, S: Source, K: Sink, F: Fabric>(
+fn status_of<R: Threads + Wait + Sync, S: Source, K: Sink, F: Fabric, D: Files>(
     rt: &R,
     alloc: Global,
     words: &Vec<String>,
     input: &mut S,
     output: &mut K,
     fabric: &mut F,
-    files: &mut MemFiles,
+    files: &mut D,
     clock: &mut MemClock,
 ) -> Status {
     norm_main(rt, alloc, words, input, output, fabric, files, clock)
 }
 
 /// The program's status as a number.
-fn status_code<R: Threads + Wait + Sync, S: Source, K: Sink, F: Fabric>(
+fn status_code<R: Threads + Wait + Sync, S: Source, K: Sink, F: Fabric, D: Files>(
     rt: &R,
     alloc: Global,
     words: &Vec<String>,
     input: &mut S,
     output: &mut K,
     fabric: &mut F,
-    files: &mut MemFiles,
+    files: &mut D,
     clock: &mut MemClock,
 ) -> u8 {
     let status = status_of(rt, alloc, words, input, output, fabric, files, clock);
     status.code()
 }
 
-/// Calls the program over a network, and returns what it left. Its clock stands still.
-fn called<R: Threads + Wait + Sync, F: Fabric>(
+/// What a call of the program left, but for its files.
+#[derive(Drop)]
+struct Ended {
+    status: u8,
+    reads: u64,
+    output: MemSink,
+}
+
+/// Calls the program over a network and files. Its clock stands still.
+fn called_with<R: Threads + Wait + Sync, F: Fabric, D: Files>(
     rt: &R,
     alloc: Global,
     call: &Call,
     fabric: &mut F,
-) -> Result<Left, Fault> {
+    files: &mut D,
+) -> Result<Ended, Fault> {
     let words = call.words(alloc)?;
     let mut input = call.source(alloc)?;
     let mut output = call.sink(alloc)?;
-    let mut files = call.files(alloc)?;
     let mut clock = MemClock::of(Vec::new(alloc));
     let status = status_code(
         rt,
@@ -63,14 +71,39 @@ fn called<R: Threads + Wait + Sync, F: Fabric>(
         &mut input,
         &mut output,
         fabric,
-        &mut files,
+        files,
         &mut clock,
     );
     let reads = input.reads();
-    Ok(Left {
+    Ok(Ended {
         status,
         reads,
         output,
+    })
+}
+
+/// Calls the program over a network, and returns what it left.
+fn called<R: Threads + Wait + Sync, F: Fabric>(
+    rt: &R,
+    alloc: Global,
+    call: &Call,
+    fabric: &mut F,
+) -> Result<Left, Fault> {
+    let (ended, files) = match call.changing_files(alloc)? {
+        Some(mut files) => {
+            let ended = called_with(rt, alloc, call, fabric, &mut files)?;
+            (ended, files.into_files())
+        }
+        None => {
+            let mut files = call.files(alloc)?;
+            let ended = called_with(rt, alloc, call, fabric, &mut files)?;
+            (ended, files)
+        }
+    };
+    Ok(Left {
+        status: ended.status,
+        reads: ended.reads,
+        output: ended.output,
         files,
     })
 }
