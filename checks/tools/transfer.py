@@ -1,12 +1,13 @@
 #!/usr/bin/env python3
 """tools/send, tools/receive and tools/bridge with the built program: a folder goes to two receivers over sockets of this machine, as a group too,
-and where network namespaces can be made, to receivers on other machines, in a group and behind bridges; and what is refused. examples/cast with
-a file that goes in pieces, through a hub and to a group.
+and where network namespaces can be made, to receivers on other machines, in a group, and behind bridges beside others that listen to the hub; what
+starts a thread; and what is refused. examples/cast with a file that goes in pieces, through a hub and to a group.
 
 transfer.py [--program NORMD] [--port PORT] [--machines N] [--gap MICROSECONDS] [--group]
 
-With --group only the group on other machines is tried. --machines are those beside the sender's, at most 14 in a group. The bridges are programs in
-Python, so with many machines on one --gap wants to be larger (400 for sixteen). What a receiver's folder has to hold is what was put into the sender's.
+With --group only the group on other machines is tried. --machines are those beside the sender's, at most 14 in a group and 16 behind bridges, beside
+which eight receivers listen, or as many as there are left of sixteen. The bridges are programs in Python, so with many machines on one --gap wants to
+be larger (400 for sixteen). What a receiver's folder has to hold is what was put into the sender's.
 Says which part did not run, and why."""
 from __future__ import annotations
 
@@ -31,6 +32,10 @@ SECONDS, REFUSED, TAKEN, NOT_ALL = 60, 2, 3, 4
 # Below the ports that the system gives out itself, and apart from those of other checks. A bridge's lie a hundred above its member's.
 LOWEST, PORTS, PROCESSES = 16400, 128, 28
 LOOPBACK_GROUP = '127.255.255.255'
+# The most receivers, and how many of them listen to the hub beside those behind bridges.
+MOST_RECEIVERS, LISTENING = 16, 8
+# The fewest processors with which a thread sends.
+LEAST_PROCESSORS = 4
 # How long a machine is away at a time, and the round trip with which no watermark expires meanwhile: that takes forty of them without an answer.
 AWAY, GRTT_OF_AWAY = 3, 200_000
 
@@ -118,6 +123,20 @@ def to_two_in_a_group(program: str, port: int, room: Path) -> str:
             ended(receiver, 0, f'receive {node} in a group')
             holds(there(room / f'in{node}') == files, f'the folder of {node} in a group has what was sent')
     return 'a folder of four files to a group of two receivers'
+
+
+def threads(program: str, port: int, room: Path) -> str:
+    """A hub and a sender have a thread that sends, where there are processors for it; a sender of a group has none."""
+    more = 1 if len(os.sched_getaffinity(0)) >= LEAST_PROCESSORS else 0
+    with Nodes(program, port, 1, room) as nodes:
+        for words, wanted in ((('hub', nodes.profile), 1 + more), (('send', nodes.profile, '--instance', 1), 1 + more),
+                              (('send', nodes.profile, '--instance', 2, '--group', LOOPBACK_GROUP), 1)):
+            node = subprocess.Popen([str(it) for it in (program, *words)], stdin=subprocess.PIPE, stdout=subprocess.DEVNULL, stderr=subprocess.DEVNULL, env=nodes.env)
+            nodes.running.append(node)
+            time.sleep(0.3)
+            found = len(os.listdir(f'/proc/{node.pid}/task'))
+            holds(found == wanted, f'{words[0]} {" ".join(map(str, words[2:]))} has {wanted} threads, not {found}')
+    return f'a hub and a sender have {1 + more} threads, and a sender of a group one'
 
 
 def instance(program: str, port: int, room: Path) -> str:
@@ -232,30 +251,37 @@ class Machines:
             ip('netns', 'del', space)
 
 
+def listen_at(port: int) -> int:
+    """How many sockets of this machine are at its broadcast address and this port."""
+    return sum(it.split()[1] == f'FFFFFF7F:{port:04X}' for it in Path('/proc/net/udp').read_text().splitlines()[1:])
+
+
 def over_bridges(program: str, port: int, room: Path, number: int, gap: int) -> str | None:
-    """Each receiver is on another machine than the sender and the hub."""
+    """At one hub: receivers that listen, and receivers on other machines behind bridges."""
     if not shutil.which('ip') or os.geteuid() != 0:
         return None
-    files, members = made(room / 'photos'), range(2, 2 + number)
+    beside = min(LISTENING, MOST_RECEIVERS - number)
+    files, near, members = made(room / 'photos'), range(2, 2 + beside), range(2 + beside, 2 + beside + number)
     with Machines(number) as machines:
         if not machines.make():
             return None
-        with Nodes(program, port, number, room, gap) as nodes:
+        with Nodes(program, port, beside + number, room, gap) as nodes:
             nodes.start(program, 'hub', nodes.profile)
-            receivers = []
+            receivers = [nodes.tool('receive', nodes.profile, node, room / f'in{node}', '--linger', 5) for node in near]
             for at, node in enumerate(members):
                 inside = ('ip', 'netns', 'exec', machines.spaces[at])
                 nodes.tool('bridge', 'hub', nodes.profile, node, machines.there(at))
                 nodes.tool('bridge', 'member', nodes.profile, node, machines.here(at), before=inside)
                 receivers.append(nodes.tool('receive', nodes.profile, node, room / f'in{node}', '--linger', 5, before=inside))
-            time.sleep(1 + number / 4)  # what is sent before the bridges stand is lost, and costs a repair
+            time.sleep(1 + (beside + number) / 4)  # what is sent before the bridges stand is lost, and costs a repair
+            holds(listen_at(port) == beside, f'{beside} receivers listen to the hub, not {listen_at(port)}')
             began = time.monotonic()
             ended(nodes.tool('send', room / 'photos', nodes.profile), 0, 'send over bridges')
             took = time.monotonic() - began
-            for node, receiver in zip(members, receivers):
-                ended(receiver, 0, f'receive {node} behind a bridge')
-                holds(there(room / f'in{node}') == files, f'the folder of {node} behind a bridge has what was sent')
-    return f'the folder to {number} receivers on other machines, behind bridges, in {took:.1f} seconds'
+            for node, receiver in zip((*near, *members), receivers):
+                ended(receiver, 0, f'receive {node} at a hub with bridges')
+                holds(there(room / f'in{node}') == files, f'the folder of {node} at a hub with bridges has what was sent')
+    return f'the folder to {beside} receivers that listen and to {number} on other machines, behind bridges, in {took:.1f} seconds'
 
 
 def away(subnet: Subnet, at: int, seconds: float) -> None:
@@ -311,7 +337,7 @@ def main() -> int:
     parser.add_argument('--group', action='store_true')
     given = parser.parse_args()
     failed = 0
-    everywhere = ((to_two, ()), (to_two_in_a_group, ()), (two_sends, ()), (instance, ()), (in_pieces, ()), (in_pieces, ('--group', LOOPBACK_GROUP)),
+    everywhere = ((to_two, ()), (to_two_in_a_group, ()), (two_sends, ()), (threads, ()), (instance, ()), (in_pieces, ()), (in_pieces, ('--group', LOOPBACK_GROUP)),
                   (refusals, ()), (over_bridges, (given.machines, given.gap)))
     for part, more in (*(() if given.group else everywhere), (in_a_group, (given.machines,))):
         with tempfile.TemporaryDirectory(prefix='transfer-') as room:

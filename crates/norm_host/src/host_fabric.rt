@@ -11,7 +11,7 @@ ghost use Rattle.norm_udp.specs.Passing.{passed_by, misfit_by};
 
 use norm_base::{Datagram, Fabric, FabricFault, FabricKind, Local, Memory, NodeId, Profile};
 use norm_memory::{ChanceFabric, DirectFabric};
-use norm_udp::{Senders, SocketCause, UdpFabric};
+use norm_udp::{SendingThread, SocketCause, UdpFabric};
 use std::alloc::Global;
 use std::marker::Model;
 use std::net::{Ipv4Addr, Net};
@@ -67,7 +67,7 @@ fn is_within(profile: &Profile, local: &Local) -> bool
     }
 }
 
-/// The network that a profile names: in memory, or of sockets. In this order: [`start_threads`](HostFabric::start_threads) if threads are
+/// The network that a profile names: in memory, or of sockets. In this order: [`start_thread`](HostFabric::start_thread) if a thread is
 /// to send, `start`, `offer` and `take` at will, and [`drain`](HostFabric::drain) before the process ends. Offers and takes go to the
 /// network of the last start that was `Ok`, and before one to a direct network. A node of its own and the hub start only over sockets.
 /// Over sockets contracts cannot rely on what was sent or received, and a call may fail.
@@ -120,7 +120,7 @@ impl<R: Net + Wait + Clock + Drop> HostFabric<R> {
         self.udp.join(address, port);
     }
 
-    /// Waits until threads have sent all that was offered, and returns why one could not, as [`UdpFabric::drain`] does. Call it before the
+    /// Waits until a thread has sent all that was offered, and returns why it could not, as [`UdpFabric::drain`] does. Call it before the
     /// process ends.
     pub fn drain(&self) -> Option<SocketCause>
         ensures { tells_sending result ≡ true }
@@ -162,15 +162,15 @@ impl<R: Net + Wait + Clock + Drop> HostFabric<R> {
 }
 
 impl<R: Net + Threads + Wait + Clock + Copy + Send + Drop + 'static> HostFabric<R> {
-    /// Starts threads that send over sockets, for a hub and for a sender alone, as many as [`Senders::start`] does. Call it before `start`.
+    /// Starts a thread that sends over sockets, for a hub or for a sender alone, if [`SendingThread::start`] does. Call it before `start`.
     ///
     /// # Errors
     ///
-    /// `Memory` if memory runs out or a thread cannot be made. Nothing changes then.
-    pub fn start_threads(&mut self, alloc: Global, rt: R) -> Result<(), Memory>
+    /// `Memory` if memory runs out or the thread cannot be made. Nothing changes then.
+    pub fn start_thread(&mut self, alloc: Global, rt: R) -> Result<(), Memory>
         ensures { self.new ≡ self.old }
     {
-        self.udp.send_by(Senders::start(alloc, rt)?);
+        self.udp.send_by(SendingThread::start(alloc, rt)?);
         Ok(())
     }
 }

@@ -1,16 +1,15 @@
--- The receivers of each way, and that all ways together have each once.
-use Rattle.std.proofs.Common.{◌≡◌, ℕ, zero, suc, ◌+◌, ◌-◌, ◌%◌, ◌<◌, ◌≤◌, Bool, true, false, cond, List, [], ◌∷◌, ◌++◌, map, length, take, get_or, refl, sym, ap, subst, ◌∙◌, arith}
-use Rattle.std.specs.Prelude.{◌==◌, ◌&&◌, ◌||◌, not, nat_lt, nat_le, filter, IsPermutation}
-use Rattle.std.proofs.lemmas.Bool.{eq-eqb, lt-ltb}
+-- The members that sockets lead to, and how many get what one offers.
+use Rattle.std.proofs.Common.{◌≡◌, ℕ, zero, suc, ◌+◌, ◌-◌, ◌<◌, ◌≤◌, Bool, true, false, cond, List, [], ◌∷◌, ◌++◌, map, length, take, get_or, refl, sym, ap, ◌∙◌, arith}
+use Rattle.std.specs.Prelude.{◌==◌, ◌&&◌, ◌||◌, not, nat_lt, nat_le}
 use Rattle.std.proofs.lemmas.Bool.Decides.{nat_tests}
 use Rattle.std.proofs.lemmas.List.{map-append, take_more}
-use Rattle.std.proofs.lemmas.List.Elements.{filter-append}
 use Rattle.std.proofs.lemmas.List.Sums.{sum_by-cons, sum_by_push}
-use Rattle.std.proofs.lemmas.List.Sorted.{IsPermutation-refl, IsPermutation-sym, IsPermutation-cons, IsPermutation-middle, IsPermutation-trans, IsPermutation-append_left}
 use Rattle.norm_base.specs.Members.{receivers_of, members_of, is_node}
 use Rattle.norm_base.specs.Settings.{Settings}
 use Rattle.udp_rules.specs.Addresses.{gets_copy}
-use Rattle.norm_udp.specs.Ways.{nodes_of, copies, is_on_way, way_within, way_from, ways_joined, WayLaws}
+use Rattle.udp_rules.specs.Listening.{gets_own_copy, hears_broadcast, BroadcastLaws}
+use Rattle.udp_rules.proofs.ListeningLemmas.{broadcast_laws}
+use Rattle.norm_udp.specs.Ways.{nodes_of, copies, own_copies, hearing, WayLaws}
 use Rattle.norm_udp.specs.declared.member.Member.{Member}
 
 -- a socket more
@@ -25,6 +24,18 @@ members_more p place members m before is =
     ∙ ap (λ (ns : List ℕ). ns ++ m.located.node ∷ []) before
     ∙ ap (λ (n : ℕ). p.sender ∷ (receivers_of p place ++ n ∷ [])) is
     ∙ ap (λ (k : ℕ). p.sender ∷ receivers_of p k) one_more
+  where
+    one_more : suc place ≡ place + 1
+    one_more = omega arith
+
+-- the receivers so far, and the next one
+pub receivers_more : (p : Settings) (place : ℕ) (each : List Member) (m : Member) → nodes_of each ≡ receivers_of p place
+    → m.located.node ≡ p.sender + 1 + place → nodes_of (each ++ m ∷ []) ≡ receivers_of p (place + 1)
+receivers_more p place each m before is =
+    nodes_more each m
+    ∙ ap (λ (ns : List ℕ). ns ++ m.located.node ∷ []) before
+    ∙ ap (λ (n : ℕ). receivers_of p place ++ n ∷ []) is
+    ∙ ap (receivers_of p) one_more
   where
     one_more : suc place ≡ place + 1
     one_more = omega arith
@@ -47,92 +58,26 @@ pub copies_no : (p : Settings) (from : ℕ) (members : List Member) (i : ℕ) (m
 copies_no p from members i m lt is gets =
     let more = copies_more p from members i m lt is ∙ ap (λ (b : Bool). copies p from (nodes_of (take i members)) + cond b 1 0) gets in omega (arith, more)
 
--- the place of a receiver is that of its id
-own_place : (sender place : ℕ) → sender + 1 + place - (sender + 1) ≡ place
-own_place sender place = omega arith
+-- the same of those that get a copy of their own
+own_more : (p : Settings) (ls : List Bool) (from : ℕ) (members : List Member) (i : ℕ) (m : Member) → i < length members → m ≡ get_or members i m
+    → own_copies p ls from (nodes_of (take (i + 1) members))
+    ≡ own_copies p ls from (nodes_of (take i members)) + cond (gets_own_copy p ls from m.located.node) 1 0
+own_more p ls from members i m lt is =
+    ap (λ (ms : List Member). own_copies p ls from (nodes_of ms)) (take_more members i m lt ∙ ap (λ (n : Member). take i members ++ n ∷ []) (sym is))
+    ∙ ap (own_copies p ls from) (nodes_more (take i members) m)
+    ∙ sum_by_push (λ to. cond (gets_own_copy p ls from to) 1 0) (nodes_of (take i members)) m.located.node
 
--- one receiver more, if its place is on the way
-pub way_more : (p : Settings) (from apart place : ℕ)
-    → way_within p from apart (place + 1) ≡ way_within p from apart place ++ cond (is_on_way from apart place) ((p.sender + 1 + place) ∷ []) []
-way_more p from apart place =
-    ap (way_within p from apart) one_more
-    ∙ filter-append (λ node. is_on_way from apart (node - (p.sender + 1))) (receivers_of p place) ((p.sender + 1 + place) ∷ [])
-    ∙ ap (λ (at : ℕ). way_within p from apart place ++ cond (is_on_way from apart at) ((p.sender + 1 + place) ∷ []) []) (own_place p.sender place)
-  where
-    one_more : place + 1 ≡ suc place
-    one_more = omega arith
+pub own_yes : (p : Settings) (ls : List Bool) (from : ℕ) (members : List Member) (i : ℕ) (m : Member) → i < length members → m ≡ get_or members i m
+    → gets_own_copy p ls from m.located.node ≡ true
+    → own_copies p ls from (nodes_of (take (i + 1) members)) ≡ own_copies p ls from (nodes_of (take i members)) + 1
+own_yes p ls from members i m lt is gets =
+    own_more p ls from members i m lt is ∙ ap (λ (b : Bool). own_copies p ls from (nodes_of (take i members)) + cond b 1 0) gets
 
--- a filter that every item passes keeps all
-all_pass : (test : ℕ → Bool) → ((n : ℕ) → test n ≡ true) → (ns : List ℕ) → filter test ns ≡ ns
-all_pass test each [] = refl
-all_pass test each (n ∷ ns) =
-    ap (λ (b : Bool). cond b (n ∷ filter test ns) (filter test ns)) (each n) ∙ ap (λ (xs : List ℕ). n ∷ xs) (all_pass test each ns)
-
--- one that no item passes keeps none
-none_pass : (test : ℕ → Bool) → ((n : ℕ) → test n ≡ false) → (ns : List ℕ) → filter test ns ≡ []
-none_pass test each [] = refl
-none_pass test each (n ∷ ns) = ap (λ (b : Bool). cond b (n ∷ filter test ns) (filter test ns)) (each n) ∙ none_pass test each ns
-
--- an item that passes one of two tests, and never both
-joined : (n : ℕ) (whole low high : List ℕ) (a b : Bool) → (a && b) ≡ false → IsPermutation whole (low ++ high)
-    → IsPermutation (cond (a || b) (n ∷ whole) whole) (cond a (n ∷ low) low ++ cond b (n ∷ high) high)
-joined n whole low high true true not_both is = absurd (clash not_both)
-  where
-    clash : true ≡ false → ⊥
-    clash e = cc
-joined n whole low high true false not_both is = IsPermutation-cons n whole (low ++ high) is
-joined n whole low high false true not_both is =
-    IsPermutation-trans (n ∷ whole) (n ∷ (low ++ high)) (low ++ n ∷ high)
-    (IsPermutation-cons n whole (low ++ high) is)
-    (IsPermutation-sym (low ++ n ∷ high) (n ∷ (low ++ high)) (IsPermutation-middle low n high))
-joined n whole low high false false not_both is = is
-
--- what passes either of two tests, of which no item passes both, is what passes the one and what passes the other
-either : (one low high : ℕ → Bool) → ((n : ℕ) → one n ≡ (low n || high n)) → ((n : ℕ) → (low n && high n) ≡ false) → (ns : List ℕ)
-    → IsPermutation (filter one ns) (filter low ns ++ filter high ns)
-either one low high is not_both [] = IsPermutation-refl []
-either one low high is not_both (n ∷ ns) =
-    subst (λ (b : Bool). IsPermutation (cond b (n ∷ filter one ns) (filter one ns)) (filter low (n ∷ ns) ++ filter high (n ∷ ns))) (sym (is n))
-    (joined n (filter one ns) (filter low ns) (filter high ns) (low n) (high n) (not_both n) (either one low high is not_both ns))
-
-below_more : (a k : ℕ) → nat_lt a (suc k) ≡ (nat_lt a k || (a == k))
-below_more a k = grind (arith, nat_tests)
-
-below_or_at : (a k : ℕ) → (nat_lt a k && (a == k)) ≡ false
-below_or_at a k = grind (arith, nat_tests)
-
-none_below : (a : ℕ) → nat_lt a 0 ≡ false
-none_below a = grind (arith, nat_tests)
-
-below_apart : (a apart : ℕ) → 0 < apart → nat_lt (a % apart) apart ≡ true
-below_apart a apart some = lt-ltb (a % apart) apart (omega arith)
-
--- the first so many ways are the receivers at a place that leaves less than their number over
-first_ways : (p : Settings) (apart n : ℕ)
-    → IsPermutation (filter (λ node. nat_lt ((node - (p.sender + 1)) % apart) n) (receivers_of p p.receivers)) (ways_joined p apart n)
-first_ways p apart zero =
-    subst (λ (ns : List ℕ). IsPermutation ns [])
-    (sym (none_pass (λ node. nat_lt ((node - (p.sender + 1)) % apart) 0) (λ node. none_below ((node - (p.sender + 1)) % apart)) (receivers_of p p.receivers)))
-    (IsPermutation-refl [])
-first_ways p apart (suc n) =
-    IsPermutation-trans
-    (filter (λ node. nat_lt ((node - (p.sender + 1)) % apart) (suc n)) (receivers_of p p.receivers))
-    (filter (λ node. nat_lt ((node - (p.sender + 1)) % apart) n) (receivers_of p p.receivers) ++ way_from p n apart)
-    (ways_joined p apart n ++ way_from p n apart)
-    (either (λ node. nat_lt ((node - (p.sender + 1)) % apart) (suc n)) (λ node. nat_lt ((node - (p.sender + 1)) % apart) n)
-    (λ node. is_on_way n apart (node - (p.sender + 1)))
-    (λ node. below_more ((node - (p.sender + 1)) % apart) n) (λ node. below_or_at ((node - (p.sender + 1)) % apart) n) (receivers_of p p.receivers))
-    (IsPermutation-append_left (way_from p n apart) _ (ways_joined p apart n) (first_ways p apart n))
-
-together : (p : Settings) (apart : ℕ) → 0 < apart → IsPermutation (receivers_of p p.receivers) (ways_joined p apart apart)
-together p apart some =
-    subst (λ (ns : List ℕ). IsPermutation ns (ways_joined p apart apart))
-    (all_pass (λ node. nat_lt ((node - (p.sender + 1)) % apart) apart) (λ node. below_apart (node - (p.sender + 1)) apart some) (receivers_of p p.receivers))
-    (first_ways p apart apart)
-
-pub single : (p : Settings) → way_from p 0 1 ≡ receivers_of p p.receivers
-single p =
-    all_pass (λ node. is_on_way 0 1 (node - (p.sender + 1))) (λ node. eq-eqb ((node - (p.sender + 1)) % 1) 0 (omega arith)) (receivers_of p p.receivers)
+pub own_no : (p : Settings) (ls : List Bool) (from : ℕ) (members : List Member) (i : ℕ) (m : Member) → i < length members → m ≡ get_or members i m
+    → gets_own_copy p ls from m.located.node ≡ false
+    → own_copies p ls from (nodes_of (take (i + 1) members)) ≡ own_copies p ls from (nodes_of (take i members))
+own_no p ls from members i m lt is gets =
+    let more = own_more p ls from members i m lt is ∙ ap (λ (b : Bool). own_copies p ls from (nodes_of (take i members)) + cond b 1 0) gets in omega (arith, more)
 
 -- among members, every other one gets a copy
 gets : (p : Settings) (from to : ℕ) → is_node p from ≡ true → is_node p to ≡ true → gets_copy p from to ≡ not (to == from)
@@ -170,11 +115,49 @@ receivers_copies p from is (suc many) le =
 sender_node : (p : Settings) → is_node p p.sender ≡ true
 sender_node p = grind (arith, nat_tests)
 
-others : (p : Settings) (from : ℕ) → is_node p from ≡ true → copies p from (members_of p) ≡ p.receivers
-others p from is =
+-- of all members all but the one that offers get a copy
+all_others : (p : Settings) (from : ℕ) → is_node p from ≡ true → copies p from (p.sender ∷ receivers_of p p.receivers) ≡ p.receivers
+all_others p from is =
     sum_by-cons (λ to. cond (gets_copy p from to) 1 0) p.sender (receivers_of p p.receivers)
     ∙ ap (λ (b : Bool). cond b 1 0 + copies p from (receivers_of p p.receivers)) (gets p from p.sender is (sender_node p))
     ∙ all_copies p.sender from p.receivers (copies p from (receivers_of p p.receivers)) is (receivers_copies p from is p.receivers (omega arith))
 
+-- one of two, and not both
+one_of_two : (own heard all : Bool) → (own || heard) ≡ all → (own && heard) ≡ false → cond own 1 0 + cond heard 1 0 ≡ cond all 1 0
+one_of_two true true all is not_both = absurd (clash not_both)
+  where
+    clash : true ≡ false → ⊥
+    clash e = cc
+one_of_two true false all is not_both = ap (λ (b : Bool). cond b 1 0) is
+one_of_two false true all is not_both = ap (λ (b : Bool). cond b 1 0) is
+one_of_two false false all is not_both = ap (λ (b : Bool). cond b 1 0) is
+
+add_both : (a b c own heard all : ℕ) → own + heard ≡ all → a + b ≡ c → own + a + (heard + b) ≡ all + c
+add_both a b c own heard all one rest = omega (arith, one, rest)
+
+-- whoever gets it gets a copy of its own or hears it
+in_two_ways : (p : Settings) (ls : List Bool) (from : ℕ) (nodes : List ℕ) → own_copies p ls from nodes + hearing p ls from nodes ≡ copies p from nodes
+in_two_ways p ls from [] = refl
+in_two_ways p ls from (n ∷ ns) =
+    ap (λ (k : ℕ). k + hearing p ls from (n ∷ ns)) (sum_by-cons (λ to. cond (gets_own_copy p ls from to) 1 0) n ns)
+    ∙ ap (λ (k : ℕ). cond (gets_own_copy p ls from n) 1 0 + own_copies p ls from ns + k) (sum_by-cons (λ to. cond (hears_broadcast p ls from to) 1 0) n ns)
+    ∙ add_both (own_copies p ls from ns) (hearing p ls from ns) (copies p from ns) (cond (gets_own_copy p ls from n) 1 0)
+    (cond (hears_broadcast p ls from n) 1 0) (cond (gets_copy p from n) 1 0)
+    (one_of_two (gets_own_copy p ls from n) (hears_broadcast p ls from n) (gets_copy p from n) (broadcast_laws.reaches p ls from n) (broadcast_laws.once p ls from n))
+    (in_two_ways p ls from ns)
+    ∙ sym (sum_by-cons (λ to. cond (gets_copy p from to) 1 0) n ns)
+
+turned : (sender receivers many alone : ℕ) → alone ≡ sender + 0 → sender + receivers ≡ many → receivers + alone ≡ many
+turned sender receivers many alone one all = omega (arith, one, all)
+
+others : (p : Settings) (listeners : List Bool) (from : ℕ) → is_node p from ≡ true
+    → own_copies p listeners from (receivers_of p p.receivers) + hearing p listeners from (receivers_of p p.receivers) + copies p from (p.sender ∷ [])
+    ≡ p.receivers
+others p ls from is =
+    ap (λ (k : ℕ). k + copies p from (p.sender ∷ [])) (in_two_ways p ls from (receivers_of p p.receivers))
+    ∙ turned (cond (gets_copy p from p.sender) 1 0) (copies p from (receivers_of p p.receivers)) p.receivers (copies p from (p.sender ∷ []))
+    (sum_by-cons (λ to. cond (gets_copy p from to) 1 0) p.sender [])
+    (sym (sum_by-cons (λ to. cond (gets_copy p from to) 1 0) p.sender (receivers_of p p.receivers)) ∙ all_others p from is)
+
 pub way_laws : WayLaws
-way_laws = record { together = together; single = single; others = others }
+way_laws = record { others = others }

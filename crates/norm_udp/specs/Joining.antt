@@ -3,7 +3,9 @@ use Rattle.std.specs.Prelude.{◌≡◌, ℕ, ◌-◌, ◌==◌, Bool, true, fal
 use Rattle.std.specs.declared.net.socket_addr.SocketAddr.{SocketAddr}
 use Rattle.std.specs.declared.io.Error.{Error}
 use Rattle.std.specs.IoError.{raw_os_error}
+use Rattle.norm_base.specs.Members.{is_receiver}
 use Rattle.norm_base.specs.Settings.{Settings}
+use Rattle.udp_rules.specs.Addresses.{IsForAll}
 use Rattle.udp_rules.specs.Groups.{IsIn, hears_at, speaks_to}
 use Rattle.udp_rules.specs.Losses.{is_group_loss}
 use Rattle.udp_rules.specs.declared.group.Group.{Group}
@@ -38,6 +40,11 @@ pub record IsJoined (g : Group) (p : Settings) (own : ℕ) (j : Joined) : Type 0
   pub node : j.member.located.node ≡ own
   pub hears : AreIn g (heard_at j.offers j.feedback) (hears_at p g.port own)
   pub speaks : IsIn g j.to (speaks_to p g.port own)
+
+-- a member alone that offers to a hub hears what goes to all only if it is a receiver, and then at this machine's broadcast address
+abbrev pub HearsAll : Settings → ℕ → Option Listener → Type 0
+HearsAll p node None = ⊤
+HearsAll p node (Some l) = (is_receiver p node ≡ true) × IsForAll l.address p.port
 
 -- a datagram was sent, or is lost; any other error is a fault
 abbrev pub is_sent : Result ℕ Error → Bool

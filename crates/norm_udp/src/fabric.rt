@@ -8,21 +8,24 @@ ghost use Rattle.norm_udp.specs.Failures.{is_sending, tells_sending};
 ghost use Rattle.udp_rules.specs.Hearing.{heard_in};
 ghost use Rattle.udp_rules.specs.Misfits.{is_cut_off};
 ghost use Rattle.norm_udp.specs.Passing.{passed_by, misfit_by};
-ghost use Rattle.norm_udp.specs.Pausing.{is_answered};
+ghost use Rattle.udp_rules.specs.Pausing.{is_answered};
 ghost use Rattle.norm_udp.specs.Untold.{untold};
 
 use crate::cause::SocketCause;
-use crate::pace::{Pace, Pause, moment, sleep_since};
-use crate::senders::Senders;
+use crate::open_fault::OpenFault;
+use crate::sending_thread::SendingThread;
 use crate::socket::{BUFFER, MOST_PASSED};
-use crate::sockets::{Open, OpenFault, open_for};
+use crate::sockets::{Open, open_for};
 use norm_base::{Datagram, Fabric, FabricFault, Local, Memory, NodeId, Profile};
 use std::alloc::Global;
 use std::net::{Ipv4Addr, Net};
 use std::sync::Wait;
 use std::thread;
 use std::time::{Clock, Duration};
-use udp_rules::{Asked, GroupNews, Located, Misfit, PassesOver, Sieve, TellsGroup};
+use udp_rules::{
+    Asked, GroupNews, Located, Misfit, Pace, PassesOver, Pause, Sieve, TellsGroup, moment,
+    sleep_since,
+};
 
 /// The most times that a sender looks again in one `take`, while its gap lasts.
 // Our own choice, so that the look ends even if the clock stands still. A millisecond has time for fewer calls of the system.
@@ -70,10 +73,10 @@ fn look_through<R: Clock>(
 }
 
 /// A network of UDP sockets at 127.0.0.1: the hub at the profile's port, and the members at the next ports, in the order of their ids. In
-/// this order: [`send_by`](UdpFabric::send_by) if threads are to send, `start`, `offer` and `take` at will, and [`drain`](UdpFabric::drain)
+/// this order: [`send_by`](UdpFabric::send_by) if a thread is to send, `start`, `offer` and `take` at will, and [`drain`](UdpFabric::drain)
 /// before the process ends. To whom datagrams go depends on the members in this process. If all are here, what one offers goes to each
-/// other. A member alone offers to the hub. The hub offers a member's datagram to each other member, and its `take` returns the member that
-/// sent one. A member alone that was told to [`join`](UdpFabric::join) a group offers to all of it, and there is no hub.
+/// other. A member alone offers to the hub. The hub offers a member's datagram to each other member, what the sender offers once to all
+/// receivers that listen at 127.255.255.255, and its `take` returns the member that sent one. A member alone that was told to [`join`](UdpFabric::join) a group offers to all of it, and there is no hub.
 ///
 /// A datagram is lost if nobody is there to receive it, or if a buffer or the lane of a thread is full; in a group also if the network cannot
 /// be reached. Any other error of a send or a
@@ -84,7 +87,7 @@ fn look_through<R: Clock>(
 pub struct UdpFabric<R> {
     rt: R,
     alloc: Global,
-    senders: Senders,
+    thread: SendingThread,
     asked: Option<Asked>,
     open: Open,
     sieve: Sieve,
@@ -108,7 +111,7 @@ impl<R: Net + Wait + Clock + Drop> UdpFabric<R> {
         Ok(UdpFabric {
             rt,
             alloc,
-            senders: Senders::none(alloc),
+            thread: SendingThread::none(),
             asked: None,
             open: Open::Nothing,
             sieve: Sieve::open(),
@@ -119,14 +122,14 @@ impl<R: Net + Wait + Clock + Drop> UdpFabric<R> {
         })
     }
 
-    /// Has these threads send for a hub, to its receivers, and for a sender alone. Call it before `start`.
-    // Not a part of `start`: threads need an `R` that may go to another thread, which a network without threads does not ask for.
-    pub fn send_by(&mut self, senders: Senders)
+    /// Has this thread send for a hub, to its receivers, or for a sender alone. Call it before `start`.
+    // Not a part of `start`: a thread needs an `R` that may go to another thread, which a network without one does not ask for.
+    pub fn send_by(&mut self, thread: SendingThread)
         ensures faults { self.new.faults ≡ self.old.faults }
         ensures passed { passed_by self.new ≡ passed_by self.old }
         ensures misfit { misfit_by self.new ≡ misfit_by self.old }
     {
-        self.senders = senders;
+        self.thread = thread;
     }
 
     /// Has a node alone join the group at this broadcast address, in place of a hub, at the starts from now on. `port` is that to which the
@@ -139,25 +142,25 @@ impl<R: Net + Wait + Clock + Drop> UdpFabric<R> {
         self.asked = Some(Asked { address, port });
     }
 
-    /// Closes the node's sockets. Each thread still sends what was offered before, and then closes its own; only after that is a sender's
-    /// port free. A thread whose lane stays full for some ten milliseconds keeps them.
+    /// Closes the node's sockets. A thread still sends what was offered before, and then closes its own; only after that is a sender's
+    /// port free. If its lane stays full for some ten milliseconds it keeps them.
     pub fn close(&mut self)
         ensures faults { self.new.faults ≡ self.old.faults }
         ensures passed { passed_by self.new ≡ 0 }
         ensures misfit { misfit_by self.new ≡ None }
     {
-        // Through the lane, after what was offered before. Each thread has sockets of its own, so that this still goes out.
-        self.senders.leave(&self.rt);
+        // Through the lane, after what was offered before. The thread has sockets of its own, so that this still goes out.
+        self.thread.leave(&self.rt);
         self.open = Open::Nothing;
         self.sieve = Sieve::open();
     }
 
-    /// Waits until threads have sent all that was offered, for some seconds at most for each thread. Call it before the process ends,
-    /// because its threads end with it. Returns why a thread could not send, if a failure was not reported yet.
+    /// Waits until a thread has sent all that was offered, for some seconds at most. Call it before the process ends, because its thread
+    /// ends with it. Returns why the thread could not send, if a failure was not reported yet.
     pub fn drain(&self) -> Option<SocketCause>
         ensures { tells_sending result ≡ true }
     {
-        self.senders.drain(&self.rt)
+        self.thread.drain(&self.rt)
     }
 
     /// Returns what the last failed call was about, apart from those for want of memory. `None` if there was none.
@@ -271,18 +274,18 @@ impl<R: Net + Wait + Clock + Drop> UdpFabric<R> {
         }
     }
 
-    /// Sends a member's datagram, or has a thread send it. Fails, and sends nothing, if it finds a thread's failure that no call reported.
+    /// Sends a member's datagram, or has a thread send it. Fails, and sends nothing, if it finds the thread's failure that no call reported.
     fn send(&mut self, from: NodeId, bytes: &[u8]) -> Result<(), SocketCause>
         requires { length bytes.now ≤ datagram_room }
         ensures err { IfErr result (λ cause. is_sending cause ≡ true) }
         ensures faults { self.new.faults ≡ self.old.faults }
     {
         // So that a later call reports what a thread failed at. If none did, a fault would pass for data that the network lost.
-        self.senders.check(&self.rt)?;
-        self.open.send(&self.rt, &self.senders, from, bytes)
+        self.thread.check(&self.rt)?;
+        self.open.send(&self.rt, &self.thread, from, bytes)
     }
 
-    /// Takes the next datagram, at once or after a pause. Fails also if it finds a thread's failure that no call reported.
+    /// Takes the next datagram, at once or after a pause. Fails also if it finds the thread's failure that no call reported.
     fn find(&mut self, into: &mut Datagram) -> Result<Option<Located>, SocketCause>
         requires { into.old ≡ [] }
         ensures none { IfOk result (λ node. IfNone node (into.new ≡ [])) }
@@ -290,7 +293,7 @@ impl<R: Net + Wait + Clock + Drop> UdpFabric<R> {
         ensures answered { IfOk result (λ node. IfNone node (is_answered self.new.pace ≡ true)) }
         ensures faults { self.new.faults ≡ self.old.faults }
     {
-        self.senders.check(&self.rt)?;
+        self.thread.check(&self.rt)?;
         let mut found = self.look(into)?;
         if found.is_none() {
             found = self.look_later(into)?;
@@ -319,7 +322,7 @@ impl<R: Net + Wait + Clock + Drop> Fabric for UdpFabric<R> {
         match open_for(
             &self.rt,
             self.alloc,
-            &self.senders,
+            &self.thread,
             &self.asked,
             profile,
             local,

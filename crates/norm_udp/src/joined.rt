@@ -10,29 +10,30 @@ ghost use Rattle.udp_rules.specs.Losses.{is_group_loss};
 
 use crate::cause::SocketCause;
 use crate::member::{Member, open_own};
-use crate::pace::moment;
 use crate::socket::{MOST_PASSED, bind_shared, check_broadcast, receive_from};
 use norm_base::{Datagram, NodeId, Profile};
 use std::io;
 use std::net::{Net, SocketAddr, SocketAddrV4, UdpSocket};
 use std::time::Clock;
-use udp_rules::{Group, GroupNews, Located, Machines, Unsent, is_loss, is_unreachable, other_in};
+use udp_rules::{
+    Group, GroupNews, Located, Machines, Unsent, is_loss, is_unreachable, moment, other_in,
+};
 
 /// At one look in this many a receiver looks first at what other receivers send.
 // Our own choice. While the sender's datagrams come faster than they are taken, a receiver would else never hear that another one asked
 // for the same, and ask too.
-const LOOKS: u32 = 16;
+pub(crate) const LOOKS: u32 = 16;
 
-/// A socket that is bound to this address of a group, beside others.
-#[derive(Debug, Drop)]
+/// A socket that is bound to this broadcast address, beside others.
+#[derive(Drop)]
 pub(crate) struct Listener {
     pub(crate) address: SocketAddr,
-    socket: UdpSocket,
+    pub(crate) socket: UdpSocket,
 }
 
 /// A member alone in a group. Its own socket holds the member's port at 127.0.0.1, and is neither read nor used to send.
 // Held, so that one machine cannot run a number twice.
-#[derive(Debug, Drop)]
+#[derive(Drop)]
 pub(crate) struct Joined {
     pub(crate) member: Member,
     /// What the sender offers. `None` at the sender.
@@ -162,7 +163,7 @@ fn unsent_then(
 }
 
 /// Returns how many looks there are until one begins with what receivers send, after one with this many.
-fn looks_then(left: u32) -> u32
+pub(crate) fn looks_then(left: u32) -> u32
     ensures { result ≡ looks_then left }
 {
     if left == 0 { LOOKS - 1 } else { left - 1 }

@@ -14,9 +14,10 @@ use std::sync::atomic::{AtomicBool, Ordering};
 use std::thread;
 use std::thread::Parker;
 use std::time::{Clock, Duration};
+use udp_rules::Listeners;
 
 /// The slots of a lane.
-// Our own choice: half a second of datagrams at the default gap of one millisecond, and under 1 MB for each thread.
+// Our own choice: half a second of datagrams at the default gap of one millisecond, and under 1 MB.
 const PLACES: usize = 512;
 
 /// The most failures of a thread that are kept until they are reported.
@@ -37,11 +38,13 @@ const MOST_SLEEPS: u32 = 200;
 // ever.
 const MOST_DRAINING: u32 = 100_000;
 
-/// What a slot of a lane holds: a new way for the thread, or a member's datagram. On its way back it holds why sending failed, if it did.
+/// What a slot of a lane holds: a new way for the thread, or a member's datagram with who listened when it was posted. On its way back it
+/// holds why sending failed, if it did.
 #[derive(Drop)]
 pub(crate) struct Posted {
     pub(crate) way: Option<Way>,
     pub(crate) from: NodeId,
+    pub(crate) listeners: Listeners,
     pub(crate) datagram: Datagram,
     pub(crate) failed: Option<SocketCause>,
     ghost sending: { tells_sending failed ≡ true },
@@ -83,6 +86,7 @@ impl Lane {
                 way: None,
                 // Any node: each post writes over it.
                 from: NodeId::of(1).unwrap(),
+                listeners: Listeners::none(),
                 datagram: Datagram::new(alloc)?,
                 failed: None,
             };
@@ -126,13 +130,20 @@ impl Lane {
     }
 
     /// Posts a member's datagram. It is lost if no slot becomes free in some ten milliseconds.
-    pub(crate) fn post<R: Wait + Clock>(&self, rt: &R, from: NodeId, bytes: &[u8])
+    pub(crate) fn post<R: Wait + Clock>(
+        &self,
+        rt: &R,
+        from: NodeId,
+        listeners: Listeners,
+        bytes: &[u8],
+    )
         requires { length bytes.now ≤ datagram_room }
     {
         let Some(mut place) = self.place(rt) else {
             return;
         };
         place.from = from;
+        place.listeners = listeners;
         place.failed = None;
         place.datagram.clear();
         place.datagram.push(bytes);

@@ -2,8 +2,8 @@
 
 ghost use Rattle.norm_udp.specs.Ways.{WayLaws};
 
-/// The ways of a hub's threads together have each receiver once, and the single way of a hub without threads has all. All
-/// members except the one that offers get a copy.
+/// All members but the one that offers get what it offers from a hub: by a copy of their own, by the broadcast, or, the sender, by a copy
+/// back.
 #[tactic(auto, using(crate::proofs::WayLemmas::way_laws))]
 pub fn ways()
     ensures { WayLaws }

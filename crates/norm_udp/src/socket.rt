@@ -66,17 +66,46 @@ pub(crate) fn bind<R: Net>(rt: &R, address: SocketAddr) -> Result<UdpSocket, Soc
     Ok(socket)
 }
 
+/// Lets a socket that is bound to this address send to broadcast addresses too.
+fn allowing_broadcast(socket: UdpSocket, own: SocketAddr) -> Result<UdpSocket, SocketCause> {
+    match socket.set_broadcast(true) {
+        Ok(()) => Ok(socket),
+        Err(error) => Err(SocketCause::Bind {
+            address: own,
+            error,
+        }),
+    }
+}
+
+/// As [`bind`]. The socket may also send to broadcast addresses.
+pub(crate) fn bind_to_ask<R: Net>(rt: &R, own: SocketAddr) -> Result<UdpSocket, SocketCause> {
+    allowing_broadcast(bind(rt, own)?, own)
+}
+
+/// Connects a socket, which then sends to this address alone.
+fn connected(socket: UdpSocket, address: SocketAddr) -> Result<UdpSocket, SocketCause> {
+    match socket.connect(address) {
+        Ok(()) => Ok(socket),
+        Err(error) => Err(SocketCause::Connect { address, error }),
+    }
+}
+
 /// Opens a socket at `own` that sends to `address` alone.
 pub(crate) fn connect<R: Net>(
     rt: &R,
     own: SocketAddr,
     address: SocketAddr,
 ) -> Result<UdpSocket, SocketCause> {
-    let socket = at(rt, own)?;
-    match socket.connect(address) {
-        Ok(()) => Ok(socket),
-        Err(error) => Err(SocketCause::Connect { address, error }),
-    }
+    connected(at(rt, own)?, address)
+}
+
+/// As [`connect`], for a broadcast address.
+pub(crate) fn connect_to_all<R: Net>(
+    rt: &R,
+    own: SocketAddr,
+    address: SocketAddr,
+) -> Result<UdpSocket, SocketCause> {
+    connected(allowing_broadcast(at(rt, own)?, own)?, address)
 }
 
 /// Returns the last error of the system.

@@ -69,33 +69,36 @@ fn sends_much(words: &Result<Vec<String>, WordsFault>) -> bool {
     }
 }
 
-/// Has the network join the group that the words name. Does nothing if they name none, or were not read.
+/// Has the network join the group that the words name. Returns whether it does: not if they name none, or were not read.
 fn join<R: Net + Wait + Clock + Drop>(
     alloc: Global,
     words: &Result<Vec<String>, WordsFault>,
     fabric: &mut HostFabric<R>,
-) -> Result<(), Memory> {
-    if let Ok(words) = words {
-        if let Some(group) = group_asked(alloc, words)? {
-            fabric.join(group.address, group.port);
-        }
-    }
-    Ok(())
+) -> Result<bool, Memory> {
+    let Ok(words) = words else {
+        return Ok(false);
+    };
+    let Some(group) = group_asked(alloc, words)? else {
+        return Ok(false);
+    };
+    fabric.join(group.address, group.port);
+    Ok(true)
 }
 
-/// Returns the network of the process, which joins the group that the words name. If the words ask for a node that sends much, threads send for
-/// it over sockets, if they can be made and the machine has four processors or more.
+/// Returns the network of the process, which joins the group that the words name. If they name none and ask for a node that sends much, a
+/// thread sends for it over sockets, if it can be made and the machine has four processors or more.
 fn network<R: Net + Threads + Wait + Clock + Copy + Send + Drop + 'static>(
     rt: R,
     alloc: Global,
     words: &Result<Vec<String>, WordsFault>,
 ) -> Result<HostFabric<R>, Memory> {
     let mut fabric = HostFabric::new(alloc, rt)?;
-    if sends_much(words) {
-        // Without threads the node sends by itself, only slower.
-        let _ = fabric.start_threads(alloc, rt);
+    let is_in_group = join(alloc, words, &mut fabric)?;
+    // A member of a group sends each datagram once, by itself.
+    if sends_much(words) && !is_in_group {
+        // Without a thread the node sends by itself, only slower.
+        let _ = fabric.start_thread(alloc, rt);
     }
-    join(alloc, words, &mut fabric)?;
     Ok(fabric)
 }
 
@@ -137,7 +140,7 @@ fn main(rt: HostRuntime) -> ExitCode {
         &mut files,
         &mut clock,
     );
-    // Before the process ends, and its threads with it: what was offered last is often what a receiver waits for.
+    // Before the process ends, and its thread with it: what was offered last is often what a receiver waits for.
     let left = fabric.watched().drain();
     end_progress(&rt, &tally);
     if code == ExitCode::SUCCESS {

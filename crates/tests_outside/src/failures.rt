@@ -6,7 +6,7 @@ use crate::causes::{Says, UNKNOWN, sentence};
 use crate::networks::{port_of, profile_of};
 use norm_base::{Datagram, Fabric, FabricKind, Local, NodeId};
 use norm_host::HostFabric;
-use norm_udp::{Senders, SocketCause, UdpFabric};
+use norm_udp::{SendingThread, SocketCause, UdpFabric};
 use std::alloc::{AllocError, Global};
 use std::net::Net;
 use std::sync::Wait;
@@ -105,23 +105,23 @@ fn compare_sender<F: Says, C: Clock>(
     compare_told(alloc, clock, fabric, node, row, wanted.as_str())
 }
 
-/// Returns a network of sockets with threads that send.
+/// Returns a network of sockets with a thread that sends.
 fn sockets<R: Net + Threads + Wait + Clock + Copy + Send + Drop + 'static>(
     alloc: Global,
     rt: R,
 ) -> Result<UdpFabric<R>, Fail> {
     let mut fabric = UdpFabric::new(alloc, rt)?;
-    fabric.send_by(Senders::start(alloc, rt)?);
+    fabric.send_by(SendingThread::start(alloc, rt)?);
     Ok(fabric)
 }
 
-/// Returns a `HostFabric` with threads that send.
+/// Returns a `HostFabric` with a thread that sends.
 fn hosted<R: Net + Threads + Wait + Clock + Copy + Send + Drop + 'static>(
     alloc: Global,
     rt: R,
 ) -> Result<HostFabric<R>, Fail> {
     let mut fabric = HostFabric::new(alloc, rt)?;
-    fabric.start_threads(alloc, rt)?;
+    fabric.start_thread(alloc, rt)?;
     Ok(fabric)
 }
 

@@ -13,6 +13,8 @@ mod groups;
 #[cfg(test)]
 mod hosted;
 #[cfg(test)]
+mod listening;
+#[cfg(test)]
 mod networks;
 #[cfg(test)]
 mod passed_over;

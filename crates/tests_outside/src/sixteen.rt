@@ -1,11 +1,11 @@
 //! Tests `UdpFabric` with sixteen receivers, the most that a session has. Each datagram of a member arrives whole at each other member, and
-//! never at the member itself: through a hub, through a hub whose threads send, with all members in one network, and in a group.
+//! never at the member itself: through a hub, through a hub whose thread sends, with all members in one network, and in a group.
 
 use crate::networks::{everyone, port_of, profile_of};
 use norm_base::{
     DATAGRAM_ROOM, Datagram, Fabric, FabricFault, FabricKind, Local, Memory, NodeId, Profile,
 };
-use norm_udp::{Senders, UdpFabric};
+use norm_udp::{SendingThread, UdpFabric};
 use std::alloc::Global;
 use std::net::Net;
 use std::process;
@@ -302,13 +302,13 @@ fn compare_group<R: Net + Wait + Clock + Copy + Drop>(
     compare_in_group(alloc, &mut members, port)
 }
 
-/// Returns a hub whose threads send.
+/// Returns a hub whose thread sends.
 fn hub_with_threads<R: Net + Threads + Wait + Clock + Copy + Send + Drop + 'static>(
     alloc: Global,
     rt: R,
 ) -> Result<UdpFabric<R>, Memory> {
     let mut hub = UdpFabric::new(alloc, rt)?;
-    hub.send_by(Senders::start(alloc, rt)?);
+    hub.send_by(SendingThread::start(alloc, rt)?);
     Ok(hub)
 }
 

@@ -2,7 +2,7 @@
 
 use crate::networks::{At, Networks, Step, port_of};
 use norm_base::Memory;
-use norm_udp::{Senders, UdpFabric};
+use norm_udp::{SendingThread, UdpFabric};
 use std::alloc::Global;
 use std::net::Net;
 use std::process;
@@ -69,7 +69,7 @@ fn compare<R: Net + Wait + Clock + Copy + Drop>(
     networks.compare(alloc, steps, wanted)
 }
 
-/// Does the same with threads that send for the hub and for the sender.
+/// Does the same with a thread that sends for the hub, and one for the sender.
 fn compare_with_threads<R: Net + Threads + Wait + Clock + Copy + Send + Drop + 'static>(
     alloc: Global,
     rt: R,
@@ -78,8 +78,8 @@ fn compare_with_threads<R: Net + Threads + Wait + Clock + Copy + Send + Drop + '
     wanted: &[u8],
 ) -> Result<(), Fail> {
     let mut networks = networks(alloc, rt, port)?;
-    networks.hub.send_by(Senders::start(alloc, rt)?);
-    networks.sender.send_by(Senders::start(alloc, rt)?);
+    networks.hub.send_by(SendingThread::start(alloc, rt)?);
+    networks.sender.send_by(SendingThread::start(alloc, rt)?);
     networks.compare(alloc, steps, wanted)
 }
 

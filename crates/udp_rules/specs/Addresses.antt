@@ -27,6 +27,15 @@ abbrev pub IsAt : SocketAddr → ℕ → Type 0
 IsAt (V4 a) port = (ipv4_octets (v4_ip a) ≡ here) × (v4_port a ≡ port)
 IsAt (V6 a) port = ⊥
 
+-- the octets of this machine's broadcast address, where receivers hear what a hub sends to all
+abbrev pub everyone_here : List ℕ
+everyone_here = 127 ∷ 255 ∷ 255 ∷ 255 ∷ []
+
+-- that address with this port
+abbrev pub IsForAll : SocketAddr → ℕ → Type 0
+IsForAll (V4 a) port = (ipv4_octets (v4_ip a) ≡ everyone_here) × (v4_port a ≡ port)
+IsForAll (V6 a) port = ⊥
+
 -- the member at an address: the one that has its port, where it is one of this machine
 abbrev pub member_from : Settings → SocketAddr → Option ℕ
 member_from p (V4 a) = if pointwise ◌==◌ (ipv4_octets (v4_ip a)) here then member_with p (v4_port a) else None

@@ -2,8 +2,9 @@
 
 ghost use Rattle.std.specs.Prelude.{◌≡◌, ◌≤◌, ◌+◌, ◌<◌, true, if◌then◌else◌, IfSome, IfNone, Some, None};
 ghost use Rattle.std.proofs.Props.{props};
+ghost use Rattle.std.specs.Net.Addr.{ipv4_octets};
 ghost use Rattle.norm_base.specs.Members.{is_node};
-ghost use Rattle.udp_rules.specs.Addresses.{port_of, member_with, member_from, IsAt, gets_copy};
+ghost use Rattle.udp_rules.specs.Addresses.{port_of, member_with, member_from, IsAt, everyone_here, IsForAll, gets_copy};
 
 use norm_base::{NodeId, Profile};
 use std::net::{Ipv4Addr, SocketAddr, SocketAddrV4};
@@ -24,6 +25,20 @@ pub fn address_at(port: u16) -> SocketAddr
 {
     // Nothing but this machine: nobody is authenticated, so what comes from outside could speak in any member's name.
     SocketAddr::V4(SocketAddrV4::new(Ipv4Addr::new(127, 0, 0, 1), port))
+}
+
+/// Returns this machine's broadcast address, at which receivers hear what a hub sends to all.
+pub fn everyone_here() -> Ipv4Addr
+    ensures { ipv4_octets result ≡ everyone_here }
+{
+    Ipv4Addr::new(127, 255, 255, 255)
+}
+
+/// Returns this machine's broadcast address with this port.
+pub fn for_all_at(port: u16) -> SocketAddr
+    ensures { IsForAll result port }
+{
+    SocketAddr::V4(SocketAddrV4::new(everyone_here(), port))
 }
 
 /// Whether a node is a member of the profile: its sender or a receiver.

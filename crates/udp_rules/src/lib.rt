@@ -10,21 +10,28 @@ mod address;
 mod group;
 mod heard;
 pub mod laws;
+mod listening;
 mod loss;
 mod machine;
 mod misfit;
 mod news;
+mod pace;
 mod sieve;
 mod source;
 
 pub use crate::address::{
-    Located, address_at, address_of, gets_copy, heard_from, is_node, member_at, with_address,
+    Located, address_at, address_of, everyone_here, for_all_at, gets_copy, heard_from, is_node,
+    member_at, with_address,
 };
 pub use crate::group::{Asked, Group};
 pub use crate::heard::{Heard, heard_in};
+pub use crate::listening::{
+    Answering, Listeners, Listening, Questions, gets_own_copy, is_broadcast,
+};
 pub use crate::loss::{is_loss, is_unreachable};
 pub use crate::machine::{Machine, Machines, SecondMachine};
 pub use crate::misfit::{Difference, Misfit, Sizes};
 pub use crate::news::{GroupNews, TellsGroup, Unsent};
+pub use crate::pace::{Pace, Pause, moment, sleep_since};
 pub use crate::sieve::{PassesOver, Sieve};
 pub use crate::source::other_in;

@@ -1,7 +1,7 @@
 //! How a network of sockets pauses if nothing is there: [`Pace`].
 
 ghost use Rattle.std.specs.Prelude.{◌≡◌};
-ghost use Rattle.norm_udp.specs.Pausing.{look_until, sleep_since, pause_of, new_pace, with_offer_at, made_busy, found_empty};
+ghost use Rattle.udp_rules.specs.Pausing.{look_until, sleep_since, pause_of, new_pace, with_offer_at, made_busy, found_empty};
 
 use std::time::Clock;
 
@@ -22,7 +22,7 @@ const SHORT_SLEEP: u64 = 250;
 const LONG_SLEEP: u64 = 1_000;
 
 /// Returns the clock's microseconds, or 0 if it fails.
-pub(crate) fn moment<R: Clock>(rt: &R) -> u64 {
+pub fn moment<R: Clock>(rt: &R) -> u64 {
     match rt.monotonic() {
         Ok(time) => u64::try_from(time.as_micros()).unwrap_or(0),
         // A clock that fails costs pauses of another length, and a receiver then keeps its sender's machine.
@@ -32,7 +32,7 @@ pub(crate) fn moment<R: Clock>(rt: &R) -> u64 {
 
 /// What to do if nothing is there to take.
 #[derive(Clone, Copy, Debug, PartialEq, Eq)]
-pub(crate) enum Pause {
+pub enum Pause {
     /// Look until this moment, in microseconds of the clock.
     Look(u64),
     /// Answer at once that nothing is there.
@@ -46,7 +46,7 @@ pub(crate) enum Pause {
 /// [`pause`](Pace::pause) says, and call [`note_empty`](Pace::note_empty) if it ends with the answer that nothing is there; after a sleep
 /// this call may be left out.
 #[derive(Clone, Copy, Debug)]
-pub(crate) struct Pace {
+pub struct Pace {
     /// Microseconds between the datagrams of a sender alone. 0 at any other node.
     pub gap: u64,
     /// When a sender with a gap offered last. `None` if it offered nothing since the last answer that nothing is there, and without a gap.
@@ -65,7 +65,7 @@ fn look_until(gap: u64, offered: u64) -> u64
 }
 
 /// Returns how many microseconds a sleep lasts that begins now. `last` is [`Pace::last`]; without it, the sleep is long.
-pub(crate) fn sleep_since(last: Option<u64>, now: u64) -> u64
+pub fn sleep_since(last: Option<u64>, now: u64) -> u64
     ensures { result ≡ sleep_since last now }
 {
     match last {
@@ -76,7 +76,7 @@ pub(crate) fn sleep_since(last: Option<u64>, now: u64) -> u64
 
 impl Pace {
     /// Returns the pace of a node before anything was offered or taken.
-    pub(crate) fn new(gap: u64) -> Pace
+    pub fn new(gap: u64) -> Pace
         ensures { result ≡ new_pace gap }
     {
         Pace {
@@ -88,7 +88,7 @@ impl Pace {
     }
 
     /// Notes that a sender offered a datagram at this moment. Only a node with a gap calls it.
-    pub(crate) fn note_offer_at(&mut self, now: u64)
+    pub fn note_offer_at(&mut self, now: u64)
         ensures { self.new ≡ with_offer_at self.old now }
     {
         self.offered = Some(now);
@@ -96,14 +96,14 @@ impl Pace {
     }
 
     /// Notes that a datagram was taken, or offered by a node without a gap.
-    pub(crate) fn note_busy(&mut self)
+    pub fn note_busy(&mut self)
         ensures { self.new ≡ made_busy self.old }
     {
         self.busy = true;
     }
 
     /// Notes the answer, at this moment, that nothing is there.
-    pub(crate) fn note_empty(&mut self, now: u64)
+    pub fn note_empty(&mut self, now: u64)
         ensures { self.new ≡ found_empty self.old now }
     {
         if self.busy {
@@ -115,7 +115,7 @@ impl Pace {
 
     /// Returns what to do after a look that found nothing: look if [`offered`](Pace::offered) is set, answer if only [`busy`](Pace::busy)
     /// is, and else sleep.
-    pub(crate) fn pause(&self) -> Pause
+    pub fn pause(&self) -> Pause
         ensures { result ≡ pause_of self.now }
     {
         match self.offered {

@@ -1,8 +1,8 @@
 -- How a network of sockets pauses where nothing is there to be taken: it never waits in a read.
 use Rattle.std.specs.Prelude.{ℕ, ◌+◌, ◌-◌, min, nat_le, Bool, true, false, not, ◌&&◌, is_none, Option, None, Some, if◌then◌else◌}
-use Rattle.norm_udp.specs.declared.pace.Pace.{Pace}
-use Rattle.norm_udp.specs.declared.pace.Pause.{Pause}
-use Rattle.norm_udp.specs.declared.pace.Pause.TheVariants as pause
+use Rattle.udp_rules.specs.declared.pace.Pace.{Pace}
+use Rattle.udp_rules.specs.declared.pace.Pause.{Pause}
+use Rattle.udp_rules.specs.declared.pace.Pause.TheVariants as pause
 
 -- a sender that offered at this moment looks again until its gap is over, and at most for a millisecond
 abbrev pub look_until : ℕ → ℕ → ℕ
