@@ -2,7 +2,7 @@
 """Evaluates the definitions of the protocol (crates/*/specs) on recorded runs.
 
     checks/definitions.py [--runs DIR] [--count N] [--safe] [--laws] [--cases] [--damaged] [--journals] [--steady] [--tails] [--relays] [--gathers]
-                          [--manifests] [--folders] [--errors] [--rules [--write]] [--gate] [NAME ..]
+                          [--manifests] [--folders] [--persist] [--errors] [--rules [--write]] [--gate] [NAME ..]
 
 A recorded run is a list of events with what each gave, and where the nodes stood at its end (checks/runs). For each run
 antt computes the defined steps, event by event, and compares each answer and the end state with the record: the proof of
@@ -18,7 +18,8 @@ accepted event by event, to end as recorded and to print the recorded text, and 
 its number of turns can be told from its script, and that it ended whole by then. `--tails` compares each recorded tail
 (checks/runs/tails) with the defined one, and damages of the shortest, which have to be refused. `--relays` compares each recorded relay (checks/runs/relays), and lists of calls made by hand. `--gathers` compares
 what is printed of each recorded input of `gather` (checks/runs/gathers), and of the shortest two damages. `--manifests` compares rows of manifests and
-of checks made by hand, and `--folders` scripts of folders; it makes runs of them, in which the folder has to arrive. `--gate` compares the rows, ten
+of checks made by hand, and `--folders` scripts of folders; it makes runs of them, in which the folder has to arrive. `--persist` runs a sender by the rule of
+runs that persist, and compares each recorded one (checks/runs/persist); with `--errors` each wrong rule has to part from the run that it names. `--gate` compares the rows, ten
 runs, the four shortest tails, the relays, manifests and scripts of folders made by hand, one run of a folder and the shortest inputs of `gather`, and
 evaluates the cases, the damaged runs, all journals and the damaged ones of the ten shortest. NAME is a part of a run's name, or with
 `--errors` of an error's words, and `--count N` takes N runs evenly (with `--tails` and `--gathers` the N shortest).
@@ -92,7 +93,7 @@ def main():
     a.add_argument('--runs', default=os.path.join(HERE, 'runs'))
     a.add_argument('--count', type=int, default=0)
     a.add_argument('--work')
-    for flag in ('safe', 'laws', 'cases', 'damaged', 'journals', 'steady', 'tails', 'relays', 'gathers', 'manifests', 'folders', 'errors', 'rules', 'write',
+    for flag in ('safe', 'laws', 'cases', 'damaged', 'journals', 'steady', 'tails', 'relays', 'gathers', 'manifests', 'folders', 'persist', 'errors', 'rules', 'write',
                  'gate'):
         a.add_argument('--' + flag, action='store_true')
     a = a.parse_args()
@@ -102,7 +103,11 @@ def main():
         try:
             space = Workspace(a.work or scratch)
             lawful = [(n, r) for n, r in runs if r.get('lawful', True)]
-            if a.errors:
+            if a.persist:
+                from evaluate import persisting
+                look = persisting.look_at_wrong if a.errors else persisting.look
+                said, differ = look(persisting.Persisting(tempfile.mkdtemp(dir=scratch)), persisting.runs_of(a.runs, () if a.errors else a.names, a.count))
+            elif a.errors:
                 import errors
                 said, differ = errors.look(space, runs, a.names)
             elif a.journals:

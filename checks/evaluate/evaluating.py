@@ -62,12 +62,17 @@ class Workspace:
 
     def evaluate_variants(self, variants, cases, per_batch=200):
         """The same for each variant of the definitions, in one run."""
+        return self.evaluate_each([(variant, cases) for variant in variants], per_batch)
+
+    def evaluate_each(self, pairs, per_batch=200):
+        """The same for each variant with the cases of its own."""
+        variants = [variant for variant, _ in pairs]
         crate = os.path.join(self.work, 'crates', 'evaluated')
         shutil.rmtree(crate, ignore_errors=True)
         os.makedirs(crate + '/src')
         os.makedirs(crate + '/proofs')
         where = {}
-        for n, variant in enumerate(variants):
+        for n, (variant, cases) in enumerate(pairs):
             self.write_shared(crate, n, variant)
             for i in range(0, len(cases), per_batch):
                 where['Batch%d_%d' % (n, i)] = (n, self.write_batch(crate, n, variant, 'Batch%d_%d' % (n, i), cases[i:i + per_batch]))

@@ -1,0 +1,9 @@
+mod Tests
+mod Loops
+mod Steps
+mod Reasons
+mod Statuses
+mod EventKinds
+mod Accepted
+mod Moves
+mod Deciding
