@@ -20,8 +20,8 @@ its number of turns can be told from its script, and that it ended whole by then
 what is printed of each recorded input of `gather` (checks/runs/gathers), and of the shortest two damages. `--manifests` compares rows of manifests and
 of checks made by hand, and `--folders` scripts of folders; it makes runs of them, in which the folder has to arrive. `--persist` runs a sender by the rule of
 runs that persist, and compares each recorded one (checks/runs/persist); with `--errors` each wrong rule has to part from the run that it names. `--gate` compares the rows, ten
-runs, the four shortest tails, the relays, manifests and scripts of folders made by hand, one run of a folder and the shortest inputs of `gather`, and
-evaluates the cases, the damaged runs, all journals and the damaged ones of the ten shortest. NAME is a part of a run's name, or with
+runs, the four shortest tails, the relays, manifests and scripts of folders made by hand, one run of a folder, the shortest inputs of `gather` and runs
+that persist, and evaluates the cases, the damaged runs, all journals and the damaged ones of the ten shortest. NAME is a part of a run's name, or with
 `--errors` of an error's words, and `--count N` takes N runs evenly (with `--tails` and `--gathers` the N shortest).
 Exit status: 0 where all is as expected, 1 where something differs, 2 where the evaluation failed.
 """
@@ -40,6 +40,8 @@ UNEVALUATED = 'hostile-008'
 GATE_TAILS = 4
 # and so many inputs of `gather`, the shortest
 GATE_GATHERS = 20
+# and so many runs that persist, the shortest
+GATE_PERSIST = 12
 
 
 def runs_of(folder, names, count):
@@ -149,15 +151,16 @@ def main():
                 more += [tails.case(*t) for t in tails.runs_of(a.runs, (), GATE_TAILS)] if a.gate else []
                 said, differ = compare(space, [runs[i * len(runs) // 10] for i in range(10)] if a.gate else [], more)
                 if a.gate:
-                    from evaluate import folders, gathers, manifests, relays, rules
+                    from evaluate import folders, gathers, manifests, persisting, relays, rules
                     judged, refused = judge(a, 10)
                     relayed, parted = relays.look(relays.Relays(tempfile.mkdtemp(dir=scratch)), [])
                     heard, misheard = gathers.look(gathers.Gathers(tempfile.mkdtemp(dir=scratch)), gathers.runs_of(a.runs, (), GATE_GATHERS))
                     spelt, other = manifests.look(manifests.Manifests(tempfile.mkdtemp(dir=scratch)))
                     arrived, lost = folders.look(folders.Folders(tempfile.mkdtemp(dir=scratch)), ['a run'])
+                    persisted, other_lines = persisting.look(persisting.Persisting(tempfile.mkdtemp(dir=scratch)), persisting.runs_of(a.runs, (), GATE_PERSIST))
                     there, astray = rules.look()
-                    said = '%s, %s, %s, %s, %s, %s, %s' % (said, judged, relayed, heard, spelt, arrived, there)
-                    differ += refused + parted + misheard + other + lost + astray
+                    said = '%s, %s, %s, %s, %s, %s, %s, %s' % (said, judged, relayed, heard, spelt, arrived, persisted, there)
+                    differ += refused + parted + misheard + other + lost + other_lines + astray
             else:
                 said, differ = compare(space, runs)
         except Failed as e:

@@ -1,6 +1,6 @@
 -- No own command is refused.
 use Rattle.std.proofs.Common.{◌≡◌, ℕ, zero, suc, List, [], ◌∷◌, length, map, Bool, true, false, Option, None, Some, Result, Ok, Err, ◌++◌, refl, sym, ap, subst, ◌∙◌, arith, inl, inr}
-use Rattle.std.specs.Prelude.{◌&&◌, ◌||◌, ◌==◌, ◌+◌, not, nat_le, filter, Contains, ◌⊎◌, option_and_then}
+use Rattle.std.specs.Prelude.{◌||◌, ◌==◌, ◌+◌, not, nat_le, filter, Contains, ◌⊎◌}
 use Rattle.std.specs.List.{list_any, AllByRecursion}
 use Rattle.std.proofs.lemmas.Bool.{eqb-true}
 use Rattle.std.proofs.lemmas.Bool.Decides.{Decides-eqb}
@@ -12,7 +12,7 @@ use Rattle.norm_base.specs.declared.node.Origin.{Origin}
 use Rattle.norm_order.specs.First.{first_where}
 use Rattle.norm_order.specs.Segments.{unclosed}
 use Rattle.norm_order.specs.Shapes.{last_source}
-use Rattle.norm_send_rules.specs.Commanding.{commanded, answered, refused_as}
+use Rattle.norm_send_rules.specs.Commanding.{commanded, refused_as}
 use Rattle.norm_send_rules.specs.InWindow.{current_shapes}
 use Rattle.norm_send_rules.specs.Marking.{watermark_at, with_watermark, most_open}
 use Rattle.norm_send_rules.specs.SenderState.{SenderState, Listing, Watermark}
@@ -29,7 +29,6 @@ use Rattle.norm_send_rules.specs.declared.job.Job.{Job}
 use Rattle.norm_send_rules.specs.declared.job.Job.TheVariants as job
 use Rattle.norm_send_rules.specs.declared.job.Receipt.{Receipt}
 use Rattle.norm_send_rules.specs.declared.job.Receipt.TheVariants as receipt
-use Rattle.norm_send_rules.specs.declared.news.News.{News}
 use Rattle.norm_send_rules.specs.declared.news.News.TheVariants as news
 use Rattle.norm_send_rules.specs.declared.news.Outcome.TheVariants as outcome
 use Rattle.norm_safety.proofs.FreshRun.{Differ, receivers_rise}
@@ -40,8 +39,8 @@ use Rattle.norm_journal.specs.Printed.{left_of}
 use Rattle.norm_persist.specs.declared.account.Account.{Account}
 use Rattle.norm_persist.specs.Accepting.{accepts_persisting, persisted_from}
 use Rattle.norm_persist.specs.Accounts.{opened, begun_anew, excused_by, risen, passed_by, lacks, last_position, is_silent}
-use Rattle.norm_persist.specs.Laws.{OfMember, IsSilent, IsHeard, IsLacking, MarkCalledFor, IsDueBy, OwnAreAccepted}
-use Rattle.norm_persist.specs.Persisted.{Persisted, persisted_opening, accounts_after, led_to, own_due, own_name, is_own}
+use Rattle.norm_persist.specs.Laws.{IsSilent, IsHeard, MarkCalledFor, IsDueBy, OwnAreAccepted}
+use Rattle.norm_persist.specs.Persisted.{Persisted, persisted_opening, accounts_after, own_name, is_own}
 use Rattle.norm_persist.proofs.EventKinds.{Kind, Own, Bound, AsEver, kind_of}
 use Rattle.norm_persist.proofs.Reasons.{own_have_reasons}
 use Rattle.norm_persist.proofs.Tests.{clash, either_in, in_nothing}

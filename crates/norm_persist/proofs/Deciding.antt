@@ -1,14 +1,9 @@
 -- What is due, by who is silent first, whether all are, and whether a mark is called for.
-use Rattle.std.proofs.Common.{◌≡◌, ℕ, Bool, true, false, Option, None, Some, refl, sym, ap, ◌∙◌}
-use Rattle.std.specs.Prelude.{◌&&◌, ◌==◌, length}
+use Rattle.std.proofs.Common.{◌≡◌, ℕ, Bool, true, false, Option, None, Some, refl, sym, ap}
+use Rattle.std.specs.Prelude.{◌&&◌}
 use Rattle.std.specs.Option.{option_map}
 use Rattle.std.proofs.lemmas.Option.{none-some, same_Some}
-use Rattle.norm_base.specs.Settings.{Settings}
-use Rattle.norm_send_rules.specs.SenderState.{SenderState}
-use Rattle.norm_send_rules.specs.Ticking.{is_idle}
-use Rattle.norm_send_rules.specs.Watermarks.{open_watermarks}
 use Rattle.norm_send_rules.specs.declared.job.Job.{Job}
-use Rattle.norm_send_rules.specs.declared.job.Job.TheVariants as job
 use Rattle.norm_persist.specs.declared.account.Account.{Account}
 use Rattle.norm_persist.specs.Persisting.{struck_unless, marked_if}
 use Rattle.norm_persist.proofs.Tests.{clash}

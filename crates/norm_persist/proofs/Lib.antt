@@ -7,3 +7,5 @@ mod EventKinds
 mod Accepted
 mod Moves
 mod Deciding
+mod Listed
+mod Confirmed

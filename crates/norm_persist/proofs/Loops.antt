@@ -1,5 +1,5 @@
 -- Loops over accounts: one more is passed over, or settles it.
-use Rattle.std.proofs.Common.{◌≡◌, ℕ, ◌+◌, ◌<◌, ◌≤◌, List, [], ◌∷◌, length, drop, get_or, cond, Bool, true, false, Option, None, Some, refl, sym, ap, ◌∙◌, arith}
+use Rattle.std.proofs.Common.{◌≡◌, ℕ, ◌+◌, ◌<◌, ◌≤◌, List, ◌∷◌, length, drop, get_or, cond, Bool, true, false, None, Some, refl, sym, ap, ◌∙◌}
 use Rattle.std.specs.Prelude.{◌||◌, ◌&&◌, not, find, filter}
 use Rattle.std.specs.List.{list_any, list_all}
 use Rattle.std.proofs.lemmas.List.{at_drop_more, drop_all}

@@ -1,20 +1,20 @@
 -- A journal of a run that persists, in the nodes' world.
-use Rattle.std.proofs.Common.{◌≡◌, List, [], ◌∷◌, ◌++◌, Option, None, Some, refl, sym, ap, subst, ◌∙◌, inl, inr}
-use Rattle.std.specs.Prelude.{option_and_then, ◌⊎◌, ◌==◌, ℕ}
+use Rattle.std.proofs.Common.{◌≡◌, List, [], ◌∷◌, Option, None, Some, refl, sym, ap, subst, ◌∙◌, inl, inr}
+use Rattle.std.specs.Prelude.{◌⊎◌, ℕ}
 use Rattle.std.specs.Option.{option_to_list}
 use Rattle.std.proofs.lemmas.Option.{same_Some, option_and_then_some}
 use Rattle.std.proofs.lemmas.List.Sums.{fold-append}
-use Rattle.norm_safety.specs.Events.{Event as WorldEvent, Commanded}
+use Rattle.norm_safety.specs.Events.{Event as WorldEvent}
 use Rattle.norm_safety.specs.WorldStep.{world_step, run_from}
 use Rattle.norm_journal.specs.declared.event.Event.{Event}
 use Rattle.norm_journal.specs.declared.event.Event.TheVariants as event
-use Rattle.norm_journal.specs.InWorld.{world_after, at}
+use Rattle.norm_journal.specs.InWorld.{at}
 use Rattle.norm_journal.specs.Judged.{Judged}
 use Rattle.norm_journal.specs.Places.{Over}
 use Rattle.norm_journal.specs.Turns.{in_turn}
 use Rattle.norm_journal.specs.WorldEvents.{world_event}
 use Rattle.norm_journal.proofs.WorldLemmas.{event_moves}
-use Rattle.norm_persist.specs.Accepting.{own_gave, own_made, accepts_persisting, persisted_from}
+use Rattle.norm_persist.specs.Accepting.{accepts_persisting, persisted_from}
 use Rattle.norm_persist.specs.InWorld.{world_events_persisting}
 use Rattle.norm_persist.specs.Laws.{PersistingMovesTheWorld}
 use Rattle.norm_persist.specs.Persisted.{Persisted, led_to, own_name}

@@ -1,7 +1,6 @@
 -- Why own commands are due, and that they are.
 use Rattle.std.proofs.Common.{◌≡◌, ℕ, List, [], ◌∷◌, length, Bool, true, false, Option, None, Some, refl, sym, ap, subst, ◌∙◌, arith, inl, inr}
-use Rattle.std.specs.Prelude.{◌&&◌, ◌||◌, ◌==◌, not, find, filter, Contains, ◌⊎◌, ◌≢◌, is_some}
-use Rattle.std.specs.List.{list_any, list_all}
+use Rattle.std.specs.Prelude.{◌&&◌, ◌||◌, ◌==◌, Contains, ◌⊎◌, ◌≢◌, is_some}
 use Rattle.std.proofs.lemmas.Option.{none-some, same_Some}
 use Rattle.norm_script.specs.declared.script.Line.{Line}
 use Rattle.norm_send_rules.specs.Ticking.{is_idle}
@@ -9,10 +8,10 @@ use Rattle.norm_send_rules.specs.Watermarks.{open_watermarks, has_member}
 use Rattle.norm_send_rules.specs.declared.job.Job.{Job}
 use Rattle.norm_send_rules.specs.declared.job.Job.TheVariants as job
 use Rattle.norm_persist.specs.declared.account.Account.{Account}
-use Rattle.norm_persist.specs.Accounts.{is_silent, of_members, lacks, last_position}
-use Rattle.norm_persist.specs.Laws.{OfMember, IsSilent, IsHeard, IsLacking, MarkCalledFor, IsDueBy, OwnHaveReasons, OwnComeInTime}
+use Rattle.norm_persist.specs.Accounts.{is_silent, of_members}
+use Rattle.norm_persist.specs.Laws.{OfMember, IsSilent, IsHeard, MarkCalledFor, IsDueBy, OwnHaveReasons, OwnComeInTime}
 use Rattle.norm_persist.specs.Persisted.{Persisted, has_stopped, may_own, own_due, lacks_now}
-use Rattle.norm_persist.specs.Persisting.{one_lacks, all_silent, first_silent, calls_for_mark, own_job}
+use Rattle.norm_persist.specs.Persisting.{all_silent, first_silent, calls_for_mark, own_job}
 use Rattle.norm_persist.proofs.Tests.{clash, any_found, any_finds, all_broken, all_breaks, first_found, none_found, is_kept, keeps}
 
 pub both : (a b : Bool) → (a && b) ≡ true → (a ≡ true) × (b ≡ true)

@@ -1,15 +1,14 @@
 -- What an exit status says.
-use Rattle.std.proofs.Common.{◌≡◌, ℕ, List, [], ◌∷◌, Bool, true, false, Option, None, Some, refl, sym, ap, subst, ◌∙◌, inl, inr}
-use Rattle.std.specs.Prelude.{◌&&◌, not, Contains, ◌⊎◌, ◌↔◌}
-use Rattle.std.specs.List.{list_any}
+use Rattle.std.proofs.Common.{◌≡◌, ℕ, Bool, true, false, Option, None, Some, refl, sym, ap, subst, ◌∙◌, inl, inr}
+use Rattle.std.specs.Prelude.{◌&&◌, not, ◌⊎◌, ◌↔◌}
 use Rattle.std.proofs.lemmas.Option.{none-some, same_Some}
 use Rattle.fec_plan.specs.Points.{reaches}
 use Rattle.fec_plan.specs.declared.position.Position.{Position}
 use Rattle.norm_persist.specs.declared.account.Account.{Account}
 use Rattle.norm_persist.specs.Accounts.{has_confirmed, lacks, last_position}
-use Rattle.norm_persist.specs.Laws.{HasConfirmedAll, AllConfirmed, StatusSays, StatusesSay}
+use Rattle.norm_persist.specs.Laws.{AllConfirmed, StatusSays, StatusesSay}
 use Rattle.norm_persist.specs.Persisted.{Persisted, lacks_now}
-use Rattle.norm_persist.specs.PersistRun.{Ending, Whole, GivenUp, Spent, Absent, is_lacking, status_of}
+use Rattle.norm_persist.specs.PersistRun.{is_lacking}
 use Rattle.norm_persist.proofs.Tests.{clash, any_found, any_finds}
 
 -- whoever confirmed a position

@@ -1,12 +1,12 @@
 -- Runs that persist, event by event.
-use Rattle.std.proofs.Common.{◌≡◌, ℕ, List, [], ◌∷◌, ◌++◌, Bool, true, false, Option, None, Some, refl, sym, ap, ◌∙◌}
+use Rattle.std.proofs.Common.{◌≡◌, [], ◌∷◌, ◌++◌, false, Option, None, Some, refl, sym, ap, ◌∙◌}
 use Rattle.std.specs.Prelude.{option_and_then}
 use Rattle.std.specs.Option.{option_map}
 use Rattle.norm_send_rules.specs.declared.job.Job.{Job}
 use Rattle.norm_send_rules.specs.declared.news.News.{News}
 use Rattle.norm_journal.specs.declared.event.Event.{Event}
 use Rattle.norm_journal.specs.declared.event.Event.TheVariants as event
-use Rattle.norm_journal.specs.Accepting.{accepts, accepts_news, accepts_next}
+use Rattle.norm_journal.specs.Accepting.{accepts_news, accepts_next}
 use Rattle.norm_journal.specs.Judged.{Judged, news_due}
 use Rattle.norm_persist.specs.Accepting.{accepts_own, goes_on, accepts_persisting, persisted_from}
 use Rattle.norm_persist.specs.Laws.{RunsByFronts, OthersAsEver, is_bound}

@@ -2,7 +2,6 @@
 -- otherwise.
 use Rattle.std.specs.Prelude.{ℕ, ◌+◌, ◌==◌, ◌&&◌, not, List, [], ◌∷◌, Bool, true, false, Option, None, Some, Result, option_and_then}
 use Rattle.std.specs.Option.{option_map}
-use Rattle.norm_base.specs.declared.node.Origin.{Origin}
 use Rattle.norm_send_rules.specs.declared.fault.SendFault.{SendFault}
 use Rattle.norm_send_rules.specs.declared.job.Job.{Job}
 use Rattle.norm_send_rules.specs.declared.job.Job.TheVariants as job

@@ -1,5 +1,5 @@
 -- What a run that persists keeps of each receiver: what its lines said in the sender's current instance.
-use Rattle.std.specs.Prelude.{ℕ, ◌+◌, ◌==◌, ◌&&◌, not, List, [], ◌∷◌, map, filter, Bool, true, false, nat_lt, nat_le, Option, None, Some, Ok}
+use Rattle.std.specs.Prelude.{ℕ, ◌+◌, ◌==◌, not, List, map, filter, Bool, true, false, nat_lt, nat_le, Option, None, Some}
 use Rattle.std.specs.List.{list_any}
 use Rattle.norm_base.specs.Members.{receivers_of}
 use Rattle.norm_base.specs.Settings.{Settings}

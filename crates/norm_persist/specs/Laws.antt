@@ -1,5 +1,5 @@
 -- What is promised of the rule and its judge.
-use Rattle.std.specs.Prelude.{◌≡◌, ◌≢◌, ◌⊎◌, ◌↔◌, ℕ, ◌==◌, List, [], ◌∷◌, ◌++◌, Contains, All, Bool, true, false, Option, None, Some, Ok, option_and_then, ⊤}
+use Rattle.std.specs.Prelude.{◌≡◌, ◌≢◌, ◌⊎◌, ◌↔◌, ℕ, ◌==◌, List, [], ◌++◌, Contains, Bool, true, false, Option, None, Some, Ok, option_and_then}
 use Rattle.std.specs.List.{list_any}
 use Rattle.std.specs.Option.{option_map}
 use Rattle.fec_plan.specs.Points.{reaches}
@@ -17,7 +17,6 @@ use Rattle.norm_journal.specs.declared.event.Event.TheVariants as event
 use Rattle.norm_safety.specs.WorldStep.{run_from}
 use Rattle.norm_journal.specs.Accepting.{accepts}
 use Rattle.norm_journal.specs.Jobs.{Told}
-use Rattle.norm_journal.specs.Judged.{Judged}
 use Rattle.norm_persist.specs.declared.account.Account.{Account}
 use Rattle.norm_persist.specs.Accepting.{accepts_persisting, persisted_from}
 use Rattle.norm_persist.specs.Accounts.{is_silent, last_position}

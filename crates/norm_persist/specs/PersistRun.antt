@@ -1,5 +1,5 @@
 -- A run that persists, how it ended, and the exit status that this gives.
-use Rattle.std.specs.Prelude.{◌≡◌, ℕ, ◌==◌, ◌&&◌, not, List, Bool, true, false, Option, None, Some, IsSome}
+use Rattle.std.specs.Prelude.{◌≡◌, ℕ, ◌&&◌, not, List, Bool, true, false, Option, None, Some}
 use Rattle.std.specs.List.{list_any}
 use Rattle.norm_script.specs.Commands.{Commands}
 use Rattle.norm_script.specs.declared.script.Verb.{Verb}
@@ -8,7 +8,6 @@ use Rattle.norm_journal.specs.declared.event.Event.{Event}
 use Rattle.norm_journal.specs.Jobs.{Told, may_be_absent}
 use Rattle.norm_journal.specs.Places.{Place, Giving, Again, Over}
 use Rattle.norm_persist.specs.Accepting.{persisted_from}
-use Rattle.norm_persist.specs.declared.account.Account.{Account}
 use Rattle.norm_persist.specs.Persisted.{Persisted, persisted_opening, is_complete, is_given_up, lacks_now}
 
 -- the judge's state after a journal

@@ -1,5 +1,5 @@
 -- What the judge of a run that persists knows beside the judge of journals, and what an event changes in it.
-use Rattle.std.specs.Prelude.{ℕ, ◌+◌, ◌==◌, ◌&&◌, ◌||◌, not, List, [], ◌∷◌, length, map, Bool, true, false, nat_le, Option, None, Some, is_some, Ok}
+use Rattle.std.specs.Prelude.{ℕ, ◌+◌, ◌==◌, ◌&&◌, ◌||◌, not, List, length, map, Bool, true, false, nat_le, Option, None, is_some, Ok}
 use Rattle.norm_base.specs.declared.node.Origin.{Origin}
 use Rattle.norm_script.specs.Commands.{Commands}
 use Rattle.norm_send_rules.specs.declared.job.Job.{Job}

@@ -1,5 +1,5 @@
 -- The rule of a run that persists: when it makes a command of its own, and when it ends.
-use Rattle.std.specs.Prelude.{ℕ, ◌==◌, ◌&&◌, ◌||◌, not, List, length, find, Bool, true, false, Option, None, Some}
+use Rattle.std.specs.Prelude.{ℕ, ◌==◌, ◌&&◌, List, length, find, Bool, true, false, Option, None, Some}
 use Rattle.std.specs.List.{list_all, list_any}
 use Rattle.norm_base.specs.Settings.{Settings}
 use Rattle.norm_send_rules.specs.SenderState.{SenderState}

@@ -3,7 +3,6 @@ use Rattle.std.specs.Prelude.{ℕ, List, [], ◌∷◌, ◌++◌, map, filter, c
 use Rattle.std.specs.Fmt.{decimal}
 use Rattle.std.specs.Option.{option_to_list}
 use Rattle.fec_plan.specs.declared.position.Position.{Position}
-use Rattle.norm_base.specs.declared.node.Origin.{Origin}
 use Rattle.norm_script.specs.declared.script.Verb.{Verb}
 use Rattle.norm_script.specs.declared.script.Verb.TheVariants as verb
 use Rattle.norm_send_rules.specs.declared.job.Job.{Job}
@@ -11,7 +10,6 @@ use Rattle.norm_send_rules.specs.declared.job.Job.TheVariants as job
 use Rattle.norm_text.specs.Words.{line}
 use Rattle.norm_journal.specs.declared.event.Event.{Event}
 use Rattle.norm_journal.specs.declared.event.Event.TheVariants as event
-use Rattle.norm_journal.specs.Judged.{news_due}
 use Rattle.norm_journal.specs.Lines.{gave_line}
 use Rattle.norm_journal.specs.Printed.{instance_now, line_of}
 use Rattle.norm_journal.specs.Words.{position_words}

@@ -1,6 +1,6 @@
 //! What is promised of the rule and its judge. Each law is the contract of a function that does nothing.
 
-ghost use Rattle.norm_persist.specs.Laws.{RunsByFronts, OthersAsEver, OwnHaveReasons, OwnComeInTime, OwnAreAccepted, StatusesSay, PersistingMovesTheWorld};
+ghost use Rattle.norm_persist.specs.Laws.{RunsByFronts, OthersAsEver, OwnHaveReasons, OwnComeInTime, OwnAreAccepted, StatusesSay, PersistingMovesTheWorld, ConfirmedIsListed};
 
 /// A run goes on from the state that its prefix leaves.
 #[tactic(auto, using(crate::proofs::Steps::runs_by_fronts))]
@@ -31,6 +31,12 @@ pub fn own_come_in_time()
 #[tactic(auto, using(crate::proofs::Accepted::own_are_accepted))]
 pub fn own_are_accepted()
     ensures { OwnAreAccepted }
+{}
+
+/// What a member confirmed is what it is listed past, unless a rise of it is still to be told.
+#[tactic(auto, using(crate::proofs::Confirmed::confirmed_is_listed))]
+pub fn confirmed_is_listed()
+    ensures { ConfirmedIsListed }
 {}
 
 /// A journal leaves the judge's nodes as its events leave them in their world, own commands too.
