@@ -256,6 +256,13 @@ def listen_at(port: int) -> int:
     return sum(it.split()[1] == f'FFFFFF7F:{port:04X}' for it in Path('/proc/net/udp').read_text().splitlines()[1:])
 
 
+def await_listening(port: int, number: int) -> None:
+    end = time.monotonic() + SECONDS
+    while listen_at(port) != number and time.monotonic() < end:
+        time.sleep(0.1)
+    holds(listen_at(port) == number, f'{number} receivers listen to the hub, not {listen_at(port)}')
+
+
 def over_bridges(program: str, port: int, room: Path, number: int, gap: int) -> str | None:
     """At one hub: receivers that listen, and receivers on other machines behind bridges."""
     if not shutil.which('ip') or os.geteuid() != 0:
@@ -274,7 +281,7 @@ def over_bridges(program: str, port: int, room: Path, number: int, gap: int) -> 
                 nodes.tool('bridge', 'member', nodes.profile, node, machines.here(at), before=inside)
                 receivers.append(nodes.tool('receive', nodes.profile, node, room / f'in{node}', '--linger', 5, before=inside))
             time.sleep(1 + (beside + number) / 4)  # what is sent before the bridges stand is lost, and costs a repair
-            holds(listen_at(port) == beside, f'{beside} receivers listen to the hub, not {listen_at(port)}')
+            await_listening(port, beside)
             began = time.monotonic()
             ended(nodes.tool('send', room / 'photos', nodes.profile), 0, 'send over bridges')
             took = time.monotonic() - began
