@@ -334,6 +334,32 @@ fails 7 '' "${set}1 data 01\n1 file none.txt\n1 data 02\n" 'enq 1 1 7 0 data 1\n
 fails 7 'cannot use the file ./folder: is a directory\n' '1 file folder\n' 'fault files\n'
 fails 0 '' "set fabric udp\nset port $port\n1 data 61\n1 mark\n" 'enq 1 1 1 0 data 1\nup 2 1 0 data 1 - 61\nmark 1 2 1 1 0 0 0\npast 2 1 0 0 0\ndone 1 satisfied\nend objects 1 octets 1 handed 1 lost 0 satisfied 1 expired 0 cut 0\n'
 
+# Over a direct network a script of data, files and marks tells how many turns are enough (docs/scripts.md). It ends whole with so many, and with as few
+# as it takes; with one fewer they are spent. The least numbers are those of checks/plain.
+first="enq 1 1 7 0 data 5\nup 2 7 0 data 5 - $text\n"
+marked="${first}mark 1 2 7 1 0 0 0\n"
+for turns in 4 1; do
+    script "${set}set turns $turns\n1 data $text\n" "${first}end objects 1 octets 5 handed 1 lost 0 satisfied 0 expired 0 cut 0\n"
+done
+for turns in 27 3; do
+    script "${set}set turns $turns\n1 data $text\n1 mark\n" "${marked}past 2 7 0 0 0\ndone 1 satisfied\nend objects 1 octets 5 handed 1 lost 0 satisfied 1 expired 0 cut 0\n"
+done
+fails 8 '' "${set}set turns 2\n1 data $text\n1 mark\n" "${marked}end objects 1 octets 5 handed 1 lost 0 satisfied 0 expired 0 cut 0\nturns spent\n"
+for turns in 2 1; do script "set turns $turns\n" "$none"; done
+# Of 17 marks in a row one waits. If a step is a microsecond shorter than the gap, eight symbols take more turns than that; nothing tells how many.
+marks=$(printf '1 mark\\n%.0s' 1 2 3 4 5 6 7 8 9 10 11 12 13 14 15 16 17)
+for turns in 395 18; do
+    printf '%b' "set turns $turns\n1 data 61\n$marks" >"$scratch/in"
+    (cd "$files" && exec "$program" session) <"$scratch/in" >"$scratch/all" 2>"$scratch/err"
+    ended $? "17 marks in $turns turns" 0
+    tail -n 1 "$scratch/all" | grep -qx 'end objects 1 octets 1 handed 1 lost 0 satisfied 17 expired 0 cut 0' ||
+        { echo "program: 17 marks in $turns turns ended so"; tail -n 1 "$scratch/all"; exit 1; }
+    said "17 marks in $turns turns"
+done
+symbols=$(printf '41%.0s' $(seq 512))
+script "set e 64\nset turns 11\n1 data $symbols\n" "enq 1 1 1 0 data 512\nup 2 1 0 data 512 - $symbols\nend objects 1 octets 512 handed 1 lost 0 satisfied 0 expired 0 cut 0\n"
+fails 8 '' "set e 64\nset step 999\nset turns 11\n1 data $symbols\n" 'enq 1 1 1 0 data 512\nend objects 1 octets 512 handed 0 lost 0 satisfied 0 expired 0 cut 0\nturns spent\n'
+
 # Commands of streams that are refused.
 fails 0 '' '1 mark\n1 open\n1 data 01\n' 'no 1 1 nothing-enqueued\nenq 1 2 1 0 open\nno 1 3 stream-open 0\nend objects 1 octets 0 handed 0 lost 0 satisfied 0 expired 0 cut 0\n'
 script 'set octets 4096\n1 open\n' "no 1 1 too-big 1048576\n$none"

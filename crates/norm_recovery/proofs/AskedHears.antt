@@ -1,6 +1,6 @@
 -- A receiver that needs nothing and hears a flush that asks it owes an acknowledgement, and the sender that hears that lists it.
 use Rattle.std.proofs.Common.{◌≡◌, ℕ, zero, suc, ◌≤◌, List, [], ◌∷◌, ◌++◌, filter, drop, length, Bool, true, false, Option, None, Some, Ok, refl, sym, ap, ◌∙◌, subst, arith, inl, inr}
-use Rattle.std.specs.Prelude.{◌==◌, ◌&&◌, ◌⊎◌, cond, IfSome}
+use Rattle.std.specs.Prelude.{◌==◌, ◌⊎◌, cond, IfSome}
 use Rattle.std.specs.List.{list_any}
 use Rattle.norm_base.specs.Settings.{Settings, InRange}
 use Rattle.fec_plan.specs.Points.{Point, point, position, position_before, reaches}
@@ -44,7 +44,6 @@ use Rattle.norm_safety.specs.World.{World, world_opening, receiver_at}
 use Rattle.norm_safety.specs.WorldLaws.{to_receiver}
 use Rattle.norm_safety.specs.WorldStep.{world_step, run}
 use Rattle.norm_safety.proofs.DropsLemmas.{dropped_parts}
-use Rattle.norm_safety.proofs.EntryLemmas.{clash}
 use Rattle.norm_safety.proofs.Feedback.{ack_of}
 use Rattle.norm_safety.proofs.OrderRun.{run_of}
 use Rattle.norm_safety.proofs.PlaceLemmas.{current_found}
@@ -56,6 +55,7 @@ use Rattle.norm_safety.proofs.Through.{Handed}
 use Rattle.norm_safety.proofs.TickTrue.{SentTrue, tick_true}
 use Rattle.norm_safety.proofs.WorldHolds.{AtReceiver, AtNode, WorldHolds}
 use Rattle.norm_safety.proofs.WorldLemmas.{world_laws}
+use Rattle.norm_journal.proofs.NameLemmas.{both_true}
 use Rattle.norm_laws.proofs.PassingWords.{goes_higher}
 use Rattle.norm_laws.proofs.WholeOrders.{IsWhole, AreWhole}
 use Rattle.norm_recovery.specs.Flush.{KnowsFlush}
@@ -151,10 +151,6 @@ none_streams n order all = none (drop n order) (dropped n order all)
         no_stream : (o : Object) → IsWhole o → is_stream (record x { object = o }) ≡ false
         no_stream (Whole kind info octets) h = refl
         no_stream (Stream parts) h = absurd h
-
-both_true : (a b : Bool) → a ≡ true → b ≡ true → (a && b) ≡ true
-both_true true b e f = f
-both_true false b e f = absurd (clash e)
 
 same_node : (r t : ReceiverState) (id : ℕ) → entered r id ≡ Some t → t.node ≡ r.node
 same_node r t id = go (is_in r id) (goes_to r id)

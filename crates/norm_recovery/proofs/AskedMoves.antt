@@ -3,6 +3,7 @@ use Rattle.std.proofs.Common.{◌≡◌, ℕ, zero, suc, ◌+◌, ◌<◌, ◌�
 use Rattle.std.specs.Prelude.{◌==◌, ◌&&◌, ◌||◌, ◌⊎◌, find, filter, nat_lt, nat_le, min, ⊤}
 use Rattle.std.specs.List.{AllByRecursion, list_any, range_with_len}
 use Rattle.std.proofs.lemmas.Bool.Decides.{Decides-eqb, Decides-ltb, leb_tells}
+use Rattle.std.proofs.lemmas.Option.{none-some, same_Some}
 use Rattle.norm_base.specs.Members.{receivers_of}
 use Rattle.norm_base.specs.Settings.{Settings}
 use Rattle.norm_base.specs.declared.kinds.Kind.{Kind}
@@ -185,10 +186,10 @@ command_keeps p s by Kept here joins marks given is whole = go given is
     go (job.Strike node) is = absurd is
 
 -- a watermark that is made
-abbrev new_mark : SenderState → Origin → Option ℕ → Position → Watermark
+abbrev pub new_mark : SenderState → Origin → Option ℕ → Position → Watermark
 new_mark s by quorum at = record { mark = length s.watermarks + 1; by = by; at = at; quorum = quorum; ended = None }
 
-abbrev with_mark : SenderState → Origin → Option ℕ → Position → SenderState
+abbrev pub with_mark : SenderState → Origin → Option ℕ → Position → SenderState
 with_mark s by quorum at = record s { watermarks = s.watermarks ++ new_mark s by quorum at ∷ [] }
 
 pub event_goes : (p : Settings) (w : World) (e : Event) → IsPlainEvent e → AreWhole w.sender.current.order → Goes w.sender (world_step p w e).0.sender
@@ -244,27 +245,21 @@ numbers_rise k (w ∷ ws) e =
     less (v ∷ vs) all = ((let lt = all.0 in omega (arith, lt)), less vs all.1)
 
 -- a watermark that is satisfied by a test
-abbrev ends_by : (Watermark → Bool) → Watermark → Watermark
+abbrev pub ends_by : (Watermark → Bool) → Watermark → Watermark
 ends_by test w = cond (is_open w && test w) (ended_with Satisfied w) w
 
-none_some : {X : Type 0} (x : X) → None ≡ Some x → ⊥
-none_some x e = cc
-
-same_some : {X : Type 0} (x y : X) → Some x ≡ Some y → x ≡ y
-same_some x y e = cc
-
 found_above : (k : ℕ) (ws : List Watermark) (w : Watermark) → AllAbove k ws → find is_open ws ≡ Some w → k < w.mark
-found_above k [] w all e = absurd (none_some w e)
+found_above k [] w all e = absurd (none-some w e)
 found_above k (x ∷ ws) w all e = go (is_open x) e (λ more. found_above k ws w all.1 more)
   where
     go : (b : Bool) → cond b (Some x) (find is_open ws) ≡ Some w → (find is_open ws ≡ Some w → k < w.mark) → k < w.mark
-    go true e next = subst (λ (y : Watermark). k < y.mark) (same_some x w e) all.0
+    go true e next = subst (λ (y : Watermark). k < y.mark) (same_Some x w e) all.0
     go false e next = next e
 
 -- If some watermarks end, and some are more, the oldest is the one that was, or has a higher number.
 still_first : (test : Watermark → Bool) (ws more : List Watermark) (v w : Watermark) → Rising (map (ends_by test) (ws ++ more)) → find is_open ws ≡ Some v
     → find is_open (map (ends_by test) (ws ++ more)) ≡ Some w → (v ≡ w) ⊎ (v.mark < w.mark)
-still_first test [] more v w rising e f = absurd (none_some v e)
+still_first test [] more v w rising e f = absurd (none-some v e)
 still_first test (x ∷ ws) more v w rising e f = go (is_open x) (test x) refl e rising.0 f (λ e. still_first test ws more v w rising.1 e)
   where
     rest : List Watermark
@@ -275,9 +270,9 @@ still_first test (x ∷ ws) more v w rising e f = go (is_open x) (test x) refl e
         → cond (is_open (cond (a && b) (ended_with Satisfied x) x)) (Some (cond (a && b) (ended_with Satisfied x) x)) (find is_open (map (ends_by test) (ws ++ more))) ≡ Some w
         → (find is_open ws ≡ Some v → find is_open (map (ends_by test) (ws ++ more)) ≡ Some w → (v ≡ w) ⊎ (v.mark < w.mark))
         → (v ≡ w) ⊎ (v.mark < w.mark)
-    go true true is e above f next = inr (subst (λ (y : Watermark). y.mark < w.mark) (same_some x v e) (found_above x.mark (map (ends_by test) (ws ++ more)) w above f))
+    go true true is e above f next = inr (subst (λ (y : Watermark). y.mark < w.mark) (same_Some x v e) (found_above x.mark (map (ends_by test) (ws ++ more)) w above f))
     go true false is e above f next =
-        inl (sym (same_some x v e) ∙ same_some x w (ap (λ (c : Bool). cond c (Some x) (find is_open rest)) (sym is) ∙ f))
+        inl (sym (same_Some x v e) ∙ same_Some x w (ap (λ (c : Bool). cond c (Some x) (find is_open rest)) (sym is) ∙ f))
     go false b is e above f next = next e (ap (λ (c : Bool). cond c (Some x) (find is_open rest)) (sym is) ∙ f)
 
 rising_maps : (test : Watermark → Bool) (ws : List Watermark) → Rising ws → Rising (map (ends_by test) ws)
@@ -599,11 +594,11 @@ all_listed_met ls wm rising all = by wm.quorum (all_past_them wm.at ls rising al
     by (Some n) same = le_test (min n (length ls)) (length (filter (is_past wm.at) ls)) (omega (arith, same))
 
 open_unmet : (test : Watermark → Bool) (ws : List Watermark) (wm : Watermark) → NonePass test ws → find is_open ws ≡ Some wm → test wm ≡ false
-open_unmet test [] wm all e = absurd (none_some wm e)
+open_unmet test [] wm all e = absurd (none-some wm e)
 open_unmet test (w ∷ ws) wm all e = by (is_open w) refl e (λ more. open_unmet test ws wm all.1 more)
   where
     by : (b : Bool) → is_open w ≡ b → cond b (Some w) (find is_open ws) ≡ Some wm → (find is_open ws ≡ Some wm → test wm ≡ false) → test wm ≡ false
-    by true is e next = subst (λ (x : Watermark). test x ≡ false) (same_some w wm e) (all.0 is)
+    by true is e next = subst (λ (x : Watermark). test x ≡ false) (same_Some w wm e) (all.0 is)
     by false is e next = next e
 
 pub oldest_unmet : (s : SenderState) (wm : Watermark) → NoneMet s → oldest s ≡ Some wm → met_by s.listings wm ≡ false

@@ -40,7 +40,7 @@ use Rattle.norm_safety.proofs.MetLemmas.{NoneMet}
 use Rattle.norm_safety.proofs.Spoken.{current_order}
 use Rattle.norm_safety.proofs.WorldLemmas.{world_laws}
 use Rattle.norm_journal.specs.declared.event.Event.{Event}
-use Rattle.norm_journal.specs.Commands.{telling, offered}
+use Rattle.norm_journal.specs.Commands.{telling}
 use Rattle.norm_journal.specs.Follows.{OfferedAndTold, OfferedAgain}
 use Rattle.norm_journal.specs.Jobs.{Told, job_of}
 use Rattle.norm_journal.specs.Judged.{Judged}

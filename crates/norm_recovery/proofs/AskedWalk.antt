@@ -1,6 +1,6 @@
 -- Whom a flush asks: in its turn each of them hears it and acknowledges it, and in the next turn the sender hears that.
 use Rattle.std.proofs.Common.{◌≡◌, ℕ, zero, suc, ◌+◌, ◌≤◌, List, [], ◌∷◌, ◌++◌, length, map, cond, Bool, true, false, Option, None, Some, refl, sym, ap, ◌∙◌, subst, arith, inl, inr}
-use Rattle.std.specs.Prelude.{◌==◌, ◌&&◌, ◌⊎◌, find, slice_get, ⊤}
+use Rattle.std.specs.Prelude.{◌==◌, ◌⊎◌, find, slice_get, ⊤}
 use Rattle.std.specs.List.{AllByRecursion}
 use Rattle.std.proofs.lemmas.Bool.Decides.{Decides-eqb}
 use Rattle.std.proofs.lemmas.List.{map-append}
@@ -23,6 +23,7 @@ use Rattle.norm_safety.proofs.FrontLemmas.{list_itself, same_list}
 use Rattle.norm_safety.proofs.WorldHolds.{all_contains}
 use Rattle.norm_journal.specs.Laws.{octets_given}
 use Rattle.norm_journal.specs.Places.{Place, Starting, Between, Pulling, Giving, Again, Sending, Offering, Taking, Handing, Over, handing}
+use Rattle.norm_journal.proofs.NameLemmas.{both, both_true}
 use Rattle.norm_recovery.proofs.AskedHears.{FlushAsk, Lists}
 use Rattle.norm_recovery.proofs.AskedMoves.{Goes, goes_itself, goes_both}
 use Rattle.norm_recovery.proofs.DirectKept.{copies_push, slice_behind, copy_for, no_sender}
@@ -203,14 +204,6 @@ settles_so p taken w at place node (inl is) = Listed is
 settles_so p taken w at place node (inr a) = Acks a
 
 -- ---- an offer makes copies
-
-both : (a b : Bool) → (a && b) ≡ true → (a ≡ true) × (b ≡ true)
-both true b e = (refl, e)
-both false b e = absurd (clash e)
-
-both_true : (a b : Bool) → a ≡ true → b ≡ true → (a && b) ≡ true
-both_true true b e f = f
-both_true false b e f = absurd (clash e)
 
 none_found : (test : ℕ × Written → Bool) (gs : List (ℕ × Written)) → find test gs ≡ None → AllByRecursion (λ (g : ℕ × Written). test g ≡ false) gs
 none_found test [] e = tt

@@ -4,6 +4,7 @@ use Rattle.std.specs.Prelude.{◌==◌, ◌&&◌, ◌⊎◌, not, find, nat_lt, 
 use Rattle.std.proofs.lemmas.Bool.Decides.{Decides-eqb}
 use Rattle.std.proofs.lemmas.List.{length-append, length-map, map-append}
 use Rattle.std.proofs.lemmas.List.Elements.{filter-append}
+use Rattle.std.proofs.lemmas.Option.{none-some}
 use Rattle.norm_base.specs.Settings.{Settings}
 use Rattle.norm_base.specs.declared.kinds.Kind.{Kind}
 use Rattle.norm_base.specs.declared.kinds.Kind.TheVariants as kind
@@ -42,6 +43,7 @@ use Rattle.norm_send_rules.specs.declared.want.Want.{Want}
 use Rattle.norm_safety.proofs.EntryLemmas.{clash}
 use Rattle.norm_laws.proofs.WholeOrders.{AreWhole, none_open, cut_nothing}
 use Rattle.norm_recovery.specs.RunsOut.{all_new}
+use Rattle.norm_recovery.proofs.AskedMoves.{ends_by, new_mark, with_mark}
 use Rattle.norm_recovery.proofs.SteadyJobs.{IsPlainJob}
 
 -- ---- watermarks that ended
@@ -54,9 +56,6 @@ unfoldable pub ended_in : List Watermark → ℕ
 ended_in ws = length (filter is_ended ws)
 
 -- If some are satisfied, more ended; or none was.
-abbrev ends_by : (Watermark → Bool) → Watermark → Watermark
-ends_by test w = cond (is_open w && test w) (ended_with Satisfied w) w
-
 ended_more : (test : Watermark → Bool) (ws : List Watermark) → (ended_in ws < ended_in (map (ends_by test) ws)) ⊎ (map (ends_by test) ws ≡ ws)
 unfolding ended_in
 ended_more test [] = inr refl
@@ -130,10 +129,7 @@ pub itself_counts : (s : SenderState) → CountsOn s s
 itself_counts s = same_counts s s refl refl refl refl refl [] (sym (append-nil s.current.order))
 
 find_front : (ws more : List Watermark) (v : Watermark) → find is_open ws ≡ Some v → find is_open (ws ++ more) ≡ Some v
-find_front [] more v e = absurd (none_some e)
-  where
-    none_some : None ≡ Some v → ⊥
-    none_some e = cc
+find_front [] more v e = absurd (none-some v e)
 find_front (w ∷ ws) more v e = go (is_open w) e (find_front ws more v)
   where
     go : (b : Bool) → cond b (Some w) (find is_open ws) ≡ Some v → (find is_open ws ≡ Some v → find is_open (ws ++ more) ≡ Some v)
@@ -295,12 +291,6 @@ pub data CommandOn (s : SenderState) (n : ℕ) (step : SenderState × Result Rec
   Refuses : (fault : EnqueueFault) → step.1 ≡ Err (Enqueue fault) → CommandOn s n step
   Declines : (fault : SendFault) → step ≡ (s, Err fault) → (may_wait fault ≡ true → nat_le most_open (length (open_watermarks s)) ≡ true) → CommandOn s n step
   Accepts : (gave : Receipt) → step.1 ≡ Ok gave → CountsOn s step.0 → length step.0.watermarks ≡ length s.watermarks + n → CommandOn s n step
-
-abbrev new_mark : SenderState → Origin → Option ℕ → Position → Watermark
-new_mark s by quorum at = record { mark = length s.watermarks + 1; by = by; at = at; quorum = quorum; ended = None }
-
-abbrev with_mark : SenderState → Origin → Option ℕ → Position → SenderState
-with_mark s by quorum at = record s { watermarks = s.watermarks ++ new_mark s by quorum at ∷ [] }
 
 anew_many : (s t : SenderState) → length (counted_anew s t).watermarks ≡ length t.watermarks
 anew_many s t = go (keeps_oldest s t)

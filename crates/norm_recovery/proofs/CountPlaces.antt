@@ -28,6 +28,7 @@ use Rattle.norm_journal.specs.Follows.{IsJobOf}
 use Rattle.norm_journal.specs.Jobs.{Told as Files, job_of}
 use Rattle.norm_journal.specs.Judged.{Judged, is_whole, is_done}
 use Rattle.norm_journal.specs.Places.{Place, Starting, Between, Pulling, Giving, Again, Sending, Offering, Taking, Handing, Over, handing, after_tick, command_due}
+use Rattle.norm_journal.proofs.NameLemmas.{both_true}
 use Rattle.norm_recovery.specs.Steady.{is_mark, marks_of}
 use Rattle.norm_recovery.specs.SteadyNothing.{AsksNothing}
 use Rattle.norm_recovery.proofs.CountMoves.{ended_in, made_by}
@@ -346,10 +347,6 @@ idle_so p s calm none =
 
     by_squelch : Bool → Bool
     by_squelch b = elim b [ true ↦ false | false ↦ by_wants s.wants ]
-
-both_true : (a b : Bool) → a ≡ true → b ≡ true → (a && b) ≡ true
-both_true true b e f = f
-both_true false b e f = absurd (clash e)
 
 -- a turn in which nothing was to do would have been the last
 pub not_whole : (j : Judged) → AsksNothing j.world.sender → is_done j ≡ false → 1 ≤ j.turn → j.left ≡ [] → j.waiting ≡ None → oldest j.world.sender ≡ None
