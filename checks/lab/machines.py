@@ -1,4 +1,4 @@
-"""The lab's machines: one subnet whose cables may lose, delay, reorder and repeat, the processes on it, and what a lab left that was killed."""
+"""The lab's machines: one subnet whose cables may lose, delay, reorder and repeat, and the processes on it. Takes away what a killed lab left."""
 from __future__ import annotations
 
 import contextlib
@@ -60,7 +60,7 @@ def end_all(space: str) -> None:
 
 
 def clear() -> None:
-    """Takes away what a lab made, also one that was killed, and gives the system its limit of receive buffers back."""
+    """Takes away what this lab or a killed one made, and gives the system its limit of receive buffers back."""
     for space in sorted(it.name for it in SPACES.glob(f'{MARK}-*')):
         end_all(space)
         ip('netns', 'del', space)

@@ -18,7 +18,8 @@ if TYPE_CHECKING:
     from rows import Row
 
 AMID = 3  # a transfer is amid once a machine's interface took one part in this many
-SMALL_DISK, UNNAMED = '8m', '.norm'  # folders of normd and libnorm with files that are not whole begin so
+SMALL_DISK = 0.4  # of the file
+UNNAMED = '.norm'  # folders of normd and libnorm with files that are not whole begin so
 POLL, READY, COPIES, LINGER = 0.05, 1.0, 6.0, 30.0  # seconds
 
 
@@ -83,7 +84,7 @@ class Transfer:
         self.folder(at).mkdir(exist_ok=True)
         words = self.way.receiver(at, self.folder(at), self.source)
         if at in self.small_disks:
-            mount = f'mount -t tmpfs -o size={SMALL_DISK} none {self.folder(at)} && exec "$@"'
+            mount = f'mount -t tmpfs -o size={int(SMALL_DISK * self.given.octets)} none {self.folder(at)} && exec "$@"'
             words = ['sh', '-c', mount, 'sh', *words]
         self.receivers[at] = self.lab.start(at, words, self.room / f'{at}.log', env=self.env)
 
