@@ -14,6 +14,10 @@
 
 enum { PORT = 6003, OWN_NODE = 100, SYMBOL = 1400, BLOCK = 64, PARITY = 32, BUFFER = 64 << 20, SOCKET_BUFFER = 4 << 20, MOST_OBJECTS = 100000 };
 static const char GROUP[] = "224.1.2.3";
+/* In seconds; it measures others. With its own 0.5 repairs come later. */
+static const double FIRST_ROUND_TRIP = 0.05;
+/* How often it asks for what is not acknowledged. With its own 20 it gives a machine up that is stopped for 10 seconds. */
+enum { ASKS = 120 };
 
 /* Raises the limit of open files: libnorm has each enqueued file open. */
 static void allow_files() {
@@ -60,6 +64,8 @@ int main(int count, char **words) {
     NormSessionHandle session = NormCreateSession(instance, GROUP, PORT, OWN_NODE);
     NormSetMulticastInterface(session, words[1]);
     NormSetTxRate(session, atof(words[3]));
+    NormSetGrttEstimate(session, FIRST_ROUND_TRIP);
+    NormSetTxRobustFactor(session, ASKS);
     for (char *node = strtok(words[2], ","); node; node = strtok(NULL, ",")) NormAddAckingNode(session, atoi(node));
     /* A sender that starts again has another number of its own, by which receivers tell the two apart. */
     if (!NormStartSender(session, (NormSessionId)time(NULL), BUFFER, SYMBOL, BLOCK, PARITY, 0)) return 1;

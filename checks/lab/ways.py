@@ -16,8 +16,10 @@ RATE = 40_000_000  # bits a second
 E, HEADERS = 1400, 32 + 8 + 20
 PORT, USUAL_B, OTHER_B = 20000, 100, 64
 LEAST_GRTT = 20_000
-# uftp counts 1,024 bits as a kilobit.
-KILOBIT, SOCKET_BUFFER, MOST_WAIT = 1024, 4_194_304, 8
+# uftp's kilobit has 1,024 bits. The round trip with which it begins, and the least and most that it may come to, are in seconds: with its own ones it waits
+# longer for a machine that is gone.
+KILOBIT, ROUND_TRIPS = 1024, '0.05:0.01:1'
+SOCKET_BUFFER, MOST_WAIT = 4_194_304, 8
 
 
 @dataclass(frozen=True)
@@ -126,7 +128,7 @@ class Uftp(Way):
 
     def sender(self, source: Path) -> list[object]:
         hosts = ','.join(f'0x{at:08x}' for at in self.receivers())
-        return ['uftp', '-I', Lab.CABLE, '-R', RATE // KILOBIT, '-B', SOCKET_BUFFER, '-H', hosts, source]
+        return ['uftp', '-I', Lab.CABLE, '-R', RATE // KILOBIT, '-b', E, '-r', ROUND_TRIPS, '-B', SOCKET_BUFFER, '-H', hosts, source]
 
     def named(self, said: str) -> set[int]:
         """Hosts with another status than that they have it."""
