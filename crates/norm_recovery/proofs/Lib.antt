@@ -91,3 +91,6 @@ pub mod CountPlaces
 pub mod CountTurns
 pub mod WatchSpent
 pub mod WatchClean
+pub mod NodeTurn
+pub mod TickDone
+pub mod WatchTicked

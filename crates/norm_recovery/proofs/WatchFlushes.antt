@@ -41,9 +41,9 @@ use Rattle.norm_recovery.proofs.RunsOutTurns.{IsAt, tells_keep, round_keeps}
 use Rattle.norm_recovery.proofs.WatchTurn.{goes, later, within, runs_out, apart}
 
 -- no flush more is counted, and the last one stays
-record NoMore (s t : SenderState) : Type 0 where
-  few : t.flushes ≤ s.flushes
-  last : t.last_flush ≡ s.last_flush
+pub record NoMore (s t : SenderState) : Type 0 where
+  pub few : t.flushes ≤ s.flushes
+  pub last : t.last_flush ≡ s.last_flush
 
 same_count : (s : SenderState) → NoMore s s
 same_count s = record { few = omega arith; last = refl }
@@ -52,7 +52,7 @@ fewer_both : (s t u : SenderState) → NoMore s t → NoMore t u → NoMore s u
 fewer_both s t u h g = record { few = (let a = h.few in let b = g.few in omega (arith, a, b)); last = g.last ∙ h.last }
 
 -- Or one more went at a moment at which it might.
-data Counts (p : Settings) (now : ℕ) (s t : SenderState) : Type 0 where
+pub data Counts (p : Settings) (now : ℕ) (s t : SenderState) : Type 0 where
   None_more : NoMore s t → Counts p now s t
   One_more : may_flush p s now ≡ true → t.flushes ≤ s.flushes + 1 → t.last_flush ≡ Some now → Counts p now s t
 
@@ -143,7 +143,7 @@ closed_count p now s = go s.round
     go None = same_count s
     go (Some r) = by r (nat_le r.closes now)
 
-tick_count : (p : Settings) (now : ℕ) (s : SenderState) → Counts p now s (ticked p s now).0
+pub tick_count : (p : Settings) (now : ℕ) (s : SenderState) → Counts p now s (ticked p s now).0
 tick_count p now s = go (sends_count p now (closed_where_due p now s))
   where
     c : SenderState
@@ -214,7 +214,7 @@ told_count s = go s.untold_nodes s.untold_marks
     go [] (mark ∷ marks) = record { few = omega arith; last = refl }
     go [] [] = same_count s
 
-event_count : (p : Settings) (w : World) (e : Event) → Quiet p e → NoMore w.sender (world_step p w e).0.sender
+pub event_count : (p : Settings) (w : World) (e : Event) → Quiet p e → NoMore w.sender (world_step p w e).0.sender
 event_count p w e quiet = subst (NoMore w.sender) (sym (sender_is p w e)) (after e quiet)
   where
     either : (b : Bool) (t : SenderState) → NoMore w.sender t → NoMore w.sender (elim b [ true ↦ t | false ↦ w.sender ])
@@ -236,7 +236,7 @@ data Apart (g c t : ℕ) (s : SenderState) : Type 0 where
   Few : s.flushes ≤ c → Apart g c t s
   By : (last : ℕ) → s.last_flush ≡ Some last → t + 2 * g * (s.flushes - c) ≤ last + 2 * g → Apart g c t s
 
-le_of : (a b : ℕ) → nat_le a b ≡ true → a ≤ b
+pub le_of : (a b : ℕ) → nat_le a b ≡ true → a ≤ b
 le_of a b e = go (leb_tells a b)
   where
     go : ((nat_le a b ≡ true) × (a ≤ b)) ⊎ ((nat_le a b ≡ false) × (b < a)) → a ≤ b

@@ -22,6 +22,7 @@ pub mod Watch
 pub mod WatchEnds
 pub mod WatchKeeps
 pub mod WatchCleans
+pub mod WatchTicks
 pub mod FlushLacks
 pub mod FlushReaches
 pub mod LeftHeard

@@ -39,9 +39,17 @@ flushed_at now s = elim s.last_flush [ Some last ↦ last == now | None ↦ fals
 abbrev pub most_held : Settings → Phase → ℕ
 most_held p ph = ph.began + (2 * p.k + 4) * p.grtt + 2 * p.step
 
+-- no acknowledgement is due
+abbrev pub owes_nothing : ReceiverState → Bool
+owes_nothing r = is_none r.knows.due
+
+-- a back-off that runs ends later, or this turn flushed
+abbrev pub has_waited : ℕ → SenderState → ReceiverState → Bool
+has_waited now s r = elim r.knows.backoff [ Some ends ↦ nat_lt now ends || flushed_at now s | None ↦ true ]
+
 -- no acknowledgement is due, and a back-off that runs ends later, or in this turn if that flushed
 abbrev pub has_ticked : Settings → ℕ → SenderState → ReceiverState → Bool
-has_ticked p now s r = is_none r.knows.due && elim r.knows.backoff [
+has_ticked p now s r = owes_nothing r && elim r.knows.backoff [
   | Some ends ↦ nat_lt now ends || flushed_at now s && nat_lt now (ends + p.step)
   | None ↦ true
 ]
@@ -94,7 +102,9 @@ pub record Watch (p : Settings) (ph : Phase) (now : ℕ) (w : World) : Type 0 wh
   pub within : (ph.began ≤ ph.since) × (ph.since ≤ now)
   -- nothing is put off further than the rules say
   pub timely : WorldTimely p now w
-  -- from three turns after its begin on, everybody did what was due
+  -- a turn after its begin nobody owes an acknowledgement; and from three turns on everybody did what was due
+  pub acked : (nat_lt now (ph.began + p.step) || list_all owes_nothing w.receivers) ≡ true
+  pub waited : (nat_lt now (ph.began + 2 * p.step) || list_all (has_waited now w.sender) w.receivers) ≡ true
   pub ticked : (nat_lt now (ph.began + 3 * p.step) || list_all (has_ticked p now w.sender) w.receivers) ≡ true
   pub later : closes_later now w.sender ≡ true
   -- all that is to be sent goes within a round trip of the last closing

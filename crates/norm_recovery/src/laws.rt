@@ -30,6 +30,7 @@ ghost use Rattle.norm_recovery.specs.TailLawful.{TailIsLawful};
 ghost use Rattle.norm_recovery.specs.WatchCleans.{WatchCleans};
 ghost use Rattle.norm_recovery.specs.WatchEnds.{WatchEnds};
 ghost use Rattle.norm_recovery.specs.WatchKeeps.{WatchKeeps};
+ghost use Rattle.norm_recovery.specs.WatchTicks.{WatchTicks};
 ghost use Rattle.norm_recovery.specs.Timely.{RunsAreTimely};
 
 /// No run, lawful or not, puts anything off further than the rules say. If no event passes a moment, then within a gap of it the sender may
@@ -156,6 +157,12 @@ pub fn watch_keeps()
 /// round trip after it, nothing new is left, and every member has everything that is wanted; and each back-off that began after that is clean.
 pub fn watch_cleans()
     ensures { WatchCleans }
+{}
+
+/// And a turn of a tail whose turns do not stand still keeps of a phase, after a run that may go on: everybody does what is due. A turn after its begin nobody
+/// owes an acknowledgement, and from three turns on each back-off that runs ends later, or it ended in this turn, which flushed.
+pub fn watch_ticks()
+    ensures { WatchTicks }
 {}
 
 /// With the position of an open watermark a part of the order ends: it is the last source symbol of data or a file, or a closed segment of a
