@@ -30,7 +30,7 @@ use Rattle.norm_recovery.specs.LeftHeard.{brings}
 use Rattle.norm_recovery.specs.Asking.{asks, all_have, have_wanted, with_closed}
 use Rattle.norm_recovery.specs.RoundAsks.{asks_open}
 use Rattle.norm_recovery.specs.Clean.{hears_of, is_clean, is_clean_from}
-use Rattle.norm_recovery.specs.Watch.{Phase, each_member, is_asked, flushed_at, most_held, has_ticked, closes_later, closes_apart, is_spent, are_apart, is_waiting}
+use Rattle.norm_recovery.specs.Watch.{Phase, each_member, is_asked, flushed_at, most_held, owes_nothing, has_waited, has_ticked, closes_later, closes_apart, is_spent, are_apart, is_waiting}
 use Rattle.std.specs.Prelude.{is_some}
 use Rattle.fec_plan.specs.Points.{same_point}
 use Rattle.norm_order.specs.Shapes.{is_source, has_info}
