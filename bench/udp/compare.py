@@ -1,14 +1,16 @@
 #!/usr/bin/env python3
 """Transfers by normd and by uftp in turns, and how fast the slowest receiver was.
 
-compare.py [--program NORMD] [--size MIB] [--runs N] [--only RECEIVERS:LOSS ..] [--set KEY=VALUE ..] [--no-uftp]
+compare.py [--program NORMD] [--size MIB] [--runs N] [--only RECEIVERS:LOSS ..] [--set KEY=VALUE ..] [--before NORMD PROFILES] [--group GAP ..] [--no-uftp]
 
-normd's nodes are processes on 127.0.0.1 with the profiles of examples/profiles, one for each row; --set changes keys of all. The file
+normd's nodes are processes on 127.0.0.1 with the profiles of examples/profiles, one for each row; --set changes keys of all. --before runs another
+program in the same turns, with the profiles of another folder, and --group this one as a group without a hub, with each of these gaps. The file
 goes as objects of 1 MiB with a watermark behind each window of sixteen or half of it (FROM_WATERMARK), with every line written to nothing. uftp's members have a network namespace
 each, joined by a bridge; its rate is swept once and its best is run. Files lie in memory (/dev/shm). MB/s is of 1,000,000 octets: normd's
 from the sender's start to the slowest receiver's last octet, uftp's by the time that it tells itself. Medians of the runs, with the least
 and greatest. With --no-uftp, and where uftp is not there, a bare copier of datagrams (copier.c) is run in its place, to 4 and 16 receivers without
-loss. Beside them: what a receiver's memory came to, and which part of a processor an idle node takes."""
+loss. Beside them: which processor time the hub took for a symbol, what its and a receiver's memory came to, and which part of a processor an idle
+node takes."""
 from __future__ import annotations
 
 import argparse
@@ -38,7 +40,22 @@ WANTED = {(1, 0): 1.4, (4, 0): 1.25, (16, 0): 1.0, (1, 5): 1.6, (4, 5): 1.5, (16
 WANTED_OF_COPIER = {(4, 0): 0.8, (16, 0): 0.8}
 RATES = ('400000', '700000', '1000000', '2000000', '-1')
 SENDER, INSTANCE = 1, 1
-SYMBOL, COPIER_PORT = 1400, 31000
+SYMBOL, COPIER_PORT, EVERYONE = 1400, 31000, '127.255.255.255'
+
+
+@dataclass(frozen=True)
+class Way:
+    """A program, its profiles, and the gap of a group. With no gap its nodes are joined by a hub, with the profile's own."""
+    name: str
+    program: str
+    profiles: Path = PROFILES
+    gap: str | None = None
+
+    def words(self) -> list[str]:
+        return ['--group', EVERYONE] if self.gap else []
+
+    def keys(self) -> dict[str, object]:
+        return {'gap': self.gap} if self.gap else {}
 
 
 @dataclass
@@ -50,8 +67,17 @@ class Bench:
     limit: float
     keys: dict[str, str]
     room: Path
+    before: tuple[str, str] | None = None
+    gaps: tuple[str, ...] = ()
     digest: str = ''
     memory: list[int] = field(default_factory=list)
+    hub_memory: list[int] = field(default_factory=list)
+
+    def ways(self, receivers: int, loss: float) -> list[Way]:
+        """The ways of a row, this program by a hub first. A group is compared without loss, and with more than one receiver."""
+        before = [Way('before', self.before[0], Path(self.before[1]))] if self.before else []
+        groups = [Way(f'a group with gap {gap}', self.program, gap=gap) for gap in self.gaps] if receivers > 1 and not loss else []
+        return [Way('normd', self.program), *before, *groups]
 
     @property
     def source(self) -> Path:
@@ -77,10 +103,10 @@ class Bench:
         return {**os.environ, 'RXLOSS': str(loss), 'LD_PRELOAD': str(self.library)} if loss else dict(os.environ)
 
 
-def profile_of(bench: Bench, name: str, receivers: int, **more: object) -> str:
+def profile_of(bench: Bench, name: str, receivers: int, folder: Path = PROFILES, **more: object) -> str:
     """The profile's text, with the keys that were asked for in place of its own."""
     keys = {'receivers': str(receivers), 'instance': str(INSTANCE), **bench.keys, **more}
-    kept = [it for it in (PROFILES / f'{name}.toml').read_text().splitlines() if it.split(' = ')[0] not in keys]
+    kept = [it for it in (folder / f'{name}.toml').read_text().splitlines() if it.split(' = ')[0] not in keys]
     return '\n'.join(kept + [f'{key} = {value}' for key, value in keys.items()]) + '\n'
 
 
@@ -99,13 +125,13 @@ def ended(processes: dict[object, subprocess.Popen]) -> dict[object, tuple[float
     return {name: (it.ru_utime + it.ru_stime, memory[name]) for name, it in used.items()}
 
 
-def normd(bench: Bench, receivers: int, loss: float) -> float | None:
-    """One transfer. Returns MB/s of the slowest receiver, or None where a copy is not the file."""
+def normd(bench: Bench, receivers: int, loss: float, way: Way) -> tuple[float, float] | None:
+    """One transfer. Returns MB/s of the slowest receiver and the hub's microseconds for a symbol, or None where a copy is not the file."""
     room = Path(tempfile.mkdtemp(prefix='normd-', dir=bench.room))
     nodes = range(SENDER + 1, SENDER + 1 + receivers)
     for name in ('hub', 'sender', *nodes):
         (room / str(name)).mkdir()
-        (room / str(name) / 'profile.toml').write_text(profile_of(bench, ROWS[receivers, 5 if loss else 0], receivers))
+        (room / str(name) / 'profile.toml').write_text(profile_of(bench, ROWS[receivers, 5 if loss else 0], receivers, way.profiles, **way.keys()))
     octets = bench.source.read_bytes()
     script, step = '', FROM_WATERMARK[receivers, 5 if loss else 0]
     for at in range(bench.size):
@@ -115,17 +141,18 @@ def normd(bench: Bench, receivers: int, loss: float) -> float | None:
 
     def start(name: object, words: list[str], **how) -> subprocess.Popen:
         with open(room / f'{name}.log', 'wb') as log:
-            running[name] = subprocess.Popen([bench.program, *words], cwd=room / str(name), stderr=log, **{'stdin': subprocess.DEVNULL, 'stdout': subprocess.DEVNULL, **how})
+            running[name] = subprocess.Popen([way.program, *words], cwd=room / str(name), stderr=log, **{'stdin': subprocess.DEVNULL, 'stdout': subprocess.DEVNULL, **how})
         return running[name]
 
-    start('hub', ['hub', 'profile.toml'])
+    if not way.gap:
+        start('hub', ['hub', 'profile.toml'])
     for node in nodes:
-        start(node, ['recv', 'profile.toml', str(node)], env=bench.losing(loss))
+        start(node, ['recv', 'profile.toml', str(node), *way.words()], env=bench.losing(loss))
     time.sleep(0.5)
     (room / 'script').write_text(script)
     began = time.time()
     with (room / 'script').open() as source:
-        sender = start('sender', ['send', 'profile.toml'], stdin=source, env={**os.environ, 'XDG_STATE_HOME': str(room)})
+        sender = start('sender', ['send', 'profile.toml', *way.words()], stdin=source, env={**os.environ, 'XDG_STATE_HOME': str(room)})
     try:
         sender.wait(timeout=bench.limit)
     except subprocess.TimeoutExpired:
@@ -135,6 +162,7 @@ def normd(bench: Bench, receivers: int, loss: float) -> float | None:
         sender.kill()
         sender.wait()
     bench.memory += [used[node][1] for node in nodes]
+    bench.hub_memory += [used['hub'][1]] if way.name == 'normd' else []
     last, same = 0.0, 0
     for node in nodes:
         digest = hashlib.sha256()
@@ -149,7 +177,8 @@ def normd(bench: Bench, receivers: int, loss: float) -> float | None:
             said = (room / f'{name}.log').read_text(errors='replace').strip()
             print(f'  node {name}: {said[-300:]}' if said else f'  node {name} said nothing', file=sys.stderr)
     shutil.rmtree(room)
-    return bench.size * MIB / (last - began) / 1e6 if same == receivers else None
+    symbols = bench.size * -(-MIB // SYMBOL)
+    return (bench.size * MIB / (last - began) / 1e6, 1e6 * used.get('hub', (0.0, 0))[0] / symbols) if same == receivers else None
 
 
 def uftp(bench: Bench, receivers: int, loss: float, rate: str, wires: list[int] | None = None) -> float | None:
@@ -215,6 +244,17 @@ def said_of(figures: list[float | None]) -> str:
     return f'{statistics.median(whole):.1f} ({min(whole):.1f} to {max(whole):.1f}{failed})' if whole else 'none came through'
 
 
+def hub_said(runs: list[tuple[float, float] | None]) -> str:
+    took = [it[1] for it in runs if it is not None]
+    return f', the hub {statistics.median(took):.1f} microseconds a symbol' if took else ''
+
+
+def share_of(ours: list[float | None], others: list[float | None]) -> float:
+    """How many times as fast normd is."""
+    whole = [[it for it in part if it is not None] for part in (ours, others)]
+    return statistics.median(whole[0]) / statistics.median(whole[1]) if all(whole) else 0
+
+
 def peer_of(bench: Bench, receivers: int, loss: int, with_uftp: bool) -> tuple[str, Callable[[], float | None], float] | None:
     """What a row is compared with: its name, a run of it, and how many times as fast normd is to be."""
     if with_uftp:
@@ -227,16 +267,19 @@ def peer_of(bench: Bench, receivers: int, loss: int, with_uftp: bool) -> tuple[s
 
 def row(bench: Bench, receivers: int, loss: int, with_uftp: bool) -> None:
     peer = peer_of(bench, receivers, loss, with_uftp)
-    ours, theirs = [], []
+    ways, theirs = bench.ways(receivers, loss), []
+    found: dict[Way, list[tuple[float, float] | None]] = {way: [] for way in ways}
     for _ in range(bench.runs):
-        ours.append(normd(bench, receivers, loss))
+        for way in ways:
+            found[way].append(normd(bench, receivers, loss, way))
         if peer:
             theirs.append(peer[1]())
-    line = f'{receivers} receivers, {loss:g} % lost: normd {said_of(ours)}'
+    ours, *others = ([it and it[0] for it in found[way]] for way in ways)
+    line = f'{receivers} receivers, {loss:g} % lost: normd {said_of(ours)}{hub_said(found[ways[0]])}'
+    for way, figures in zip(ways[1:], others):
+        line += f'; {way.name} {said_of(figures)}; {share_of(ours, figures):.2f} times'
     if peer:
-        whole = [[it for it in part if it is not None] for part in (ours, theirs)]
-        share = statistics.median(whole[0]) / statistics.median(whole[1]) if all(whole) else 0
-        line += f'; {peer[0]} {said_of(theirs)}; {share:.2f} times, wanted {peer[2]}'
+        line += f'; {peer[0]} {said_of(theirs)}; {share_of(ours, theirs):.2f} times, wanted {peer[2]}'
     print(line, flush=True)
 
 
@@ -265,16 +308,20 @@ def main() -> int:
     parser.add_argument('--limit', type=float, default=120)
     parser.add_argument('--only', nargs='*', default=[])
     parser.add_argument('--set', nargs='*', default=[])
+    parser.add_argument('--before', nargs=2, metavar=('NORMD', 'PROFILES'))
+    parser.add_argument('--group', nargs='*', default=[], metavar='GAP')
     parser.add_argument('--no-uftp', action='store_true')
     given = parser.parse_args()
     rows = [tuple(int(part) for part in it.split(':')) for it in given.only] or list(ROWS)
-    bench = Bench(given.program, given.size, given.runs, given.limit, dict(it.split('=', 1) for it in given.set), Path(tempfile.mkdtemp(prefix='bench-', dir='/dev/shm')))
+    bench = Bench(given.program, given.size, given.runs, given.limit, dict(it.split('=', 1) for it in given.set), Path(tempfile.mkdtemp(prefix='bench-', dir='/dev/shm')),
+                  given.before and tuple(given.before), tuple(given.group))
     try:
         bench.prepare()
         for receivers, loss in rows:
             row(bench, receivers, loss, not given.no_uftp and shutil.which('uftp') is not None)
         most = max(bench.memory, default=0)
         print(f'the greatest memory of a receiver: {most / MIB:.0f} MiB, {(most - 32 * MIB) / (bench.size * MIB):.2f} times the octets and 32 MiB')
+        print(f'the greatest memory of the hub: {max(bench.hub_memory, default=0) / MIB:.1f} MiB')
         idle(bench)
     finally:
         shutil.rmtree(bench.room, ignore_errors=True)
