@@ -14,6 +14,7 @@ use Rattle.norm_endings.specs.declared.status.Ending.TheVariants.{Done, Memory, 
 use Rattle.norm_program.specs.Asked.{Asked, is_alone}
 use Rattle.norm_program.specs.Boarded.{RunsScript, StopsScript, span}
 use Rattle.norm_program.specs.Ends.{EndsScript, EndsEarly, Prepared, IsTextEnding, RanSession, StoppedSession}
+use Rattle.norm_program.proofs.SteadyEnds.{RunnableWith, turns_tell}
 
 -- Each part that ends the program early, or at last, in plain variables: the input before and after (i, j), the output's pieces (u, v, w),
 -- the counts of failed reads (r, s) and writes (k, l, t), and what only a session calls (c, d).
@@ -66,39 +67,46 @@ abbrev pub counts : ℕ → Called → Counted
 counts writes called = counted writes called.network_faults called.file_faults
 
 ran_session : (a : Asked) (script : Commands) (journal : List Event) (whole : Bool) (i j : Option (List ℕ)) (u v w : Pieces)
-    (r s k t : ℕ) (c d : Called) → Prepared a script i j → Ran (is_alone a) script journal whole c d u v
+    (r s k t : ℕ) (c d : Called) → Prepared a script i j → RunnableWith a script → Ran (is_alone a) script journal whole c d u v
     → RanSession a (outside i u r k c) (outside j w s t d) whole v
-ran_session a script journal whole i j u v w r s k t c d p runs =
-    record { text = p.text; script = script; journal = journal; input = p.input; read = p.read; session = runs }
+ran_session a script journal whole i j u v w r s k t c d p can runs = record {
+  text = p.text;
+  script = script;
+  journal = journal;
+  input = p.input;
+  read = p.read;
+  session = runs;
+  turns = turns_tell a script c.files journal whole (span c.network d.network u v c.moments d.moments) runs can;
+}
 
 -- the session ran
 pub last_ends : (ending : Ending) (a : Asked) (script : Commands) (journal : List Event) (whole : Bool) (i j : Option (List ℕ))
-    (u v w : Pieces) (r s k l t : ℕ) (c d : Called) → Prepared a script i j → s ≡ r → Ran (is_alone a) script journal whole c d u v
-    → counts l d ≡ counts k c → IsLastEnding ending whole v w l t → EndsScript a ending (outside i u r k c) (outside j w s t d)
-last_ends Done a script journal whole i j u v w r s k l t c d p reads runs cause h =
+    (u v w : Pieces) (r s k l t : ℕ) (c d : Called) → Prepared a script i j → s ≡ r → RunnableWith a script
+    → Ran (is_alone a) script journal whole c d u v → counts l d ≡ counts k c → IsLastEnding ending whole v w l t → EndsScript a ending (outside i u r k c) (outside j w s t d)
+last_ends Done a script journal whole i j u v w r s k l t c d p reads can runs cause h =
     let B = outside i u r k c in
     let A = outside j w s t d in
     let P : Bool → Type 0 = λ b. RanSession a B A b v in
     let Q : Pieces → Type 0 = λ x. RanSession a B A true x in record {
-      session = subst Q (sym h.1) (subst P h.0 (ran_session a script journal whole i j u v w r s k t c d p runs));
+      session = subst Q (sym h.1) (subst P h.0 (ran_session a script journal whole i j u v w r s k t c d p can runs));
       undisturbed = record { reads = reads; calls = ap (λ n. n.network) cause; files = ap (λ n. n.files) cause };
       writes = h.2 ∙ ap (λ n. n.output) cause;
     }
-last_ends Spent a script journal whole i j u v w r s k l t c d p reads runs cause h =
+last_ends Spent a script journal whole i j u v w r s k l t c d p reads can runs cause h =
     let P : Bool → Type 0 = λ b. RanSession a (outside i u r k c) (outside j w s t d) b v in record {
       unsaid = v;
-      session = subst P h.0 (ran_session a script journal whole i j u v w r s k t c d p runs);
+      session = subst P h.0 (ran_session a script journal whole i j u v w r s k t c d p can runs);
       output = h.1;
       undisturbed = record { reads = reads; calls = ap (λ n. n.network) cause; files = ap (λ n. n.files) cause };
       writes = h.2 ∙ ap (λ n. n.output) cause;
     }
-last_ends Write a script journal whole i j u v w r s k l t c d p reads runs cause h =
+last_ends Write a script journal whole i j u v w r s k l t c d p reads can runs cause h =
     let P : Bool → Type 0 = λ b. RanSession a (outside i u r k c) (outside j w s t d) b v in record {
       cause = h.2 ∙ ap (λ n. one_more n.output) cause;
-      session = inr (record { unsaid = v; session = subst P h.0 (ran_session a script journal whole i j u v w r s k t c d p runs); output = h.1 });
+      session = inr (record { unsaid = v; session = subst P h.0 (ran_session a script journal whole i j u v w r s k t c d p can runs); output = h.1 });
       undisturbed = record { reads = reads; calls = ap (λ n. n.network) cause; files = ap (λ n. n.files) cause };
     }
-last_ends _ a script journal whole i j u v w r s k l t c d p reads runs cause h = absurd h
+last_ends _ a script journal whole i j u v w r s k l t c d p reads can runs cause h = absurd h
 
 stopped_session : (stop : SessionFault) (a : Asked) (script : Commands) (i j : Option (List ℕ)) (u v w : Pieces)
     (r s k t : ℕ) (c d : Called) → Prepared a script i j → Stopped (is_alone a) stop script c d u v

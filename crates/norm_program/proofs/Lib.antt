@@ -10,3 +10,4 @@ pub mod MirrorLemmas
 pub mod LawLemmas
 pub mod GatherEndLemmas
 pub mod RelayEndLemmas
+pub mod SteadyEnds

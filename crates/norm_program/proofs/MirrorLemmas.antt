@@ -203,7 +203,7 @@ pub mirror_spent : (ending : Ending) (script : Commands) (journal : List Event) 
 mirror_spent ending script journal whole i j u v w r s k l t c d p reads kept runs is cause h =
     let R : Bool → Type 0 = λ b. Ran false script journal b c d u v in
     scripted ending (outside i u r k c) (outside j w s t d) (last_not_done ending v w l t h) kept
-    (last_ends ending (Mirror c.files) script journal false i j u v w r s k l t c d p reads (subst R is runs) cause h)
+    (last_ends ending (Mirror c.files) script journal false i j u v w r s k l t c d p reads tt (subst R is runs) cause h)
 
 -- ---- a session that was whole
 
@@ -254,7 +254,7 @@ at_last d g y = called_as d.network g d.moments d.network_faults y
 abbrev sent : (script : Commands) (journal : List Event) (i j : Option (List ℕ)) (u v w : Pieces) (r s k t : ℕ) (c d : Called) (g : Told) (y : ℕ)
     → Sent script journal i j u v r s k c d → SentFolder (outside i u r k c) (outside j w s t (at_last d g y)) v
 sent script journal i j u v w r s k t c d g y h = record {
-  ran = record { text = h.prepared.text; script = script; journal = journal; input = h.prepared.input; read = h.prepared.read; session = h.runs };
+  ran = record { text = h.prepared.text; script = script; journal = journal; input = h.prepared.input; read = h.prepared.read; session = h.runs; turns = tt };
   changed = folder_changed c.files h.prepared.text script journal true _ h.prepared.read h.runs.2;
 }
 

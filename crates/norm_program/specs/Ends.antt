@@ -12,6 +12,7 @@ use Rattle.norm_endings.specs.declared.status.Ending.TheVariants.{Done, Memory, 
 use Rattle.norm_endings.specs.Outside.{refused_line, absent_line, Says, Called, Outside, Undisturbed, IsInput, FailedRead, Untouched, outside}
 use Rattle.norm_program.specs.Asked.{Asked, is_alone, IsAsked, IsRefusedLine}
 use Rattle.norm_program.specs.Boarded.{RunsScript, Span, StopsScript, span}
+use Rattle.norm_program.specs.SteadyEnds.{TurnsTell}
 
 abbrev pub usage_line : List ℕ
 usage_line = codes "usage: normd session | show | generate N | send PROFILE | recv PROFILE NODE | hub PROFILE | gather PROFILE NODE .. | relay UP NODE DOWN | mirror\n"
@@ -22,7 +23,8 @@ session_span before after written =
     span before.called.network after.called.network before.written written before.called.moments after.called.moments
 
 -- A session was run to its end, or a sender alone: the input is the script that is asked for, what was done is a run of it, and the
--- lines of that journal, of which the summary is the last, had then been written, one piece each.
+-- lines of that journal, of which the summary is the last, had then been written, one piece each. Over a direct network everyone was served if it ended
+-- whole; if its turns were spent, and its journal is steady, they were fewer than its script tells.
 pub record RanSession (a : Asked) (before after : Outside) (whole : Bool) (written : Pieces) : Type 0 where
   pub text : List ℕ
   pub script : Commands
@@ -30,6 +32,7 @@ pub record RanSession (a : Asked) (before after : Outside) (whole : Bool) (writt
   pub input : IsInput text before.input after.input
   pub read : IsAsked a text script
   pub session : RunsScript (is_alone a) script before.called.files journal whole (session_span before after written)
+  pub turns : TurnsTell a script before.called.files journal whole (session_span before after written) session
 
 -- A fault stopped it: the input is the script that is asked for, what was done is nothing or the beginning of a run of it, and that had
 -- then been written.

@@ -1,5 +1,6 @@
 pub mod Asked
 pub mod Boarded
+pub mod SteadyEnds
 pub mod Ends
 pub mod TailEnds
 pub mod Tailing

@@ -53,7 +53,7 @@ returns-in-Ok-run_session-clause-ends g c =
           o.written (pieces ran.output) (pieces c.end_session.new.output) o.read_faults (g.S.Source.fault_count c.prepare.new.input)
           o.write_faults (writes ran.output) (writes c.end_session.new.output) o.called
           (called_as (g.F.Fabric.told ran.fabric) (g.D.Files.contents ran.files) (g.C.Clock.moments ran.clock) (g.F.Fabric.fault_count ran.fabric) (g.D.Files.fault_count ran.files))
-          c.in-Ok.ensures.ready c.in-Ok.ensures.quiet.0 runs cause c.end_session.ensures);
+          c.in-Ok.ensures.ready c.in-Ok.ensures.quiet.0 c.in-Ok.ensures.runnable runs cause c.end_session.ensures);
     }
 
 pub run_until-requires-clause-turn : goal.run_until-requires-clause-turn
