@@ -16,6 +16,7 @@ use Rattle.norm_script.specs.Reading.{script_of as read_script}
 use Rattle.norm_script.specs.declared.script.Line.{Line}
 use Rattle.norm_script.specs.declared.script.Verb.{Verb}
 use Rattle.norm_script.specs.declared.script.Verb.TheVariants as verb
+use Rattle.norm_safety.specs.Fronts.{same_up}
 use Rattle.norm_journal.specs.declared.event.Event.{Event as JournalEvent}
 use Rattle.norm_journal.specs.declared.event.Event.TheVariants as journal
 use Rattle.norm_journal.specs.Accepting.{accepts, judged_from}
@@ -33,6 +34,7 @@ use Rattle.norm_record.specs.Counted.{is_refused}
 use Rattle.norm_record.specs.HandedUp.{handed_up}
 use Rattle.norm_mirror.specs.Checking.{checked, is_done as all_taken_in}
 use Rattle.norm_mirror.specs.declared.entry.Entry.{Entry as FileEntry}
+use Rattle.norm_arrival.specs.FolderHandsUp.{folder_ups}
 use Rattle.norm_arrival.specs.FolderScript.{folder_script}
 use Rattle.norm_arrival.specs.HandedBy.{ups_of}
 '''
@@ -76,7 +78,8 @@ RUNS = {'a run': ('one file', 0, {}), 'a run with two receivers': ('three files'
 
 
 def run_case(name, folder, lost, keys):
-    """A whole run, in which nothing is refused or expires, is safe; each receiver hands the folder up, and needs its last hand-up for that."""
+    """A whole run, in which nothing is refused or expires, is safe; each receiver hands up exactly the manifest and the files, and needs its last
+    hand-up for that."""
     declared, p, entries = folder_of(name, FOLDERS[folder], **keys)
     files = terms.lst(['(%s, %s)' % (text(n.encode()), text(octets)) for n, octets in FOLDERS[folder]])
     return name, declared, 'arrives %s %s %s %d ≡ ((((1, 0), 0), true), (true, false))' % (p, entries, files, lost or 1000000)
