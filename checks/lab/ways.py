@@ -96,7 +96,7 @@ class Group(Way):
     def named(self, said: str) -> set[int]:
         """Those of watermarks that expired, and in a table of nodes those without everything."""
         nodes = {int(it) for found in re.findall(r'\bexpired((?: \d+)+)', said) for it in found.split()}
-        nodes |= {int(it) for it in re.findall(r'\bnode (\d+) (?:confirmed|does not|lacks)', said)}
+        nodes |= {int(it) for it in re.findall(r'\bnode (\d+) (?:confirmed|lacks)', said)}
         nodes |= {int(it) for it in re.findall(r'^(\d+) +(?!.*\beverything\b)\S', said, re.M) if re.search(r'^node +machine', said, re.M)}
         return {node - 1 for node in nodes}
 
@@ -158,7 +158,8 @@ class Udpcast(Way):
 
     def named(self, said: str) -> set[int]:
         """Those that it dropped. One that never came is not named."""
-        return {int(it) - 1 for it in re.findall(r'^Dropping client #\d+ .*10\.9\.0\.(\d+)', said, re.M)}
+        came = {number: int(last) - 1 for last, number in re.findall(r'^New connection from [\d.]+\.(\d+) +\(#(\d+)\)', said, re.M)}
+        return {came[it] for it in re.findall(r'^Dropping client #(\d+)', said, re.M) if it in came}
 
 
 class Norm(Way):
