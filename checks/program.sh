@@ -496,7 +496,8 @@ grouped() {
 }
 printf 'fabric = "udp"\nport = %s\nreceivers = 2\nstep = 0\ninstance = 1\ngrtt = 100000\n' "$port" >"$scratch/profile"
 grouped group 127.255.255.255
-grouped group.port "127.255.255.255:$((port + 8))"
+# Not the port of the receiver that hears nothing: it listens at this address too.
+grouped group.port "127.255.255.255:$((port + 5))"
 
 # Addresses that are no broadcast addresses: this machine's own, none, and one of a multicast group. Of the last a machine without a way there says that it
 # cannot be reached.
