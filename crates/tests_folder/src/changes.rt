@@ -117,28 +117,30 @@ fn ran<R: Threads + Wait + Sync>(
     )
 }
 
-/// Why the check of a node refuses what it handed up. `None` if it does not.
-fn refusal_of(alloc: Global, journal: &Journal, node: u32) -> Option<CheckFault> {
+/// Why the check of a node refuses what it handed up, if it does, and whether it took the manifest and all its files.
+fn check_of(alloc: Global, journal: &Journal, node: u32) -> (Option<CheckFault>, bool) {
     let mut check = Check::new(alloc);
-    for i in 0..journal.hand_ups() as u64 {
-        if let Some((of, up)) = journal.up(i) {
-            if of.number() == node {
-                // The check keeps what it refuses.
-                let _ = check.take(up);
-            }
+    for i in 0..u64::MAX {
+        let Some((of, up)) = journal.up(i) else {
+            break;
+        };
+        if of.number() == node {
+            // The check keeps what it refuses.
+            let _ = check.take(up);
         }
     }
-    check.refused()
+    (check.refused(), check.done())
 }
 
-/// Whether the check of each receiver refuses this, and node 2 is named as the first if it is refused.
+/// Whether the check of each receiver refuses this, or is done if nothing is refused, and node 2 is named as the first that refuses.
 fn is_found(
     alloc: Global,
     journal: &Journal,
     profile: &Profile,
     wanted: Option<CheckFault>,
 ) -> Result<bool, Memory> {
-    let each = refusal_of(alloc, journal, 2) == wanted && refusal_of(alloc, journal, 3) == wanted;
+    let is = (wanted, wanted.is_none());
+    let each = check_of(alloc, journal, 2) == is && check_of(alloc, journal, 3) == is;
     let named = match first_unlike(alloc, journal, profile)? {
         Some(why) => why.node.number() == 2 && why.fault == wanted && wanted.is_some(),
         None => wanted.is_none(),
