@@ -1,7 +1,7 @@
 #!/usr/bin/env python3
 """tools/send, tools/receive and tools/bridge with the built program: a folder goes to two receivers over sockets of this machine, as a group too,
 and where network namespaces can be made, to receivers on other machines, in a group, and behind bridges beside others that listen to the hub; what
-starts a thread; and what is refused. examples/cast with a file that goes in pieces, through a hub and to a group.
+starts a thread; and what is refused. examples/cast with a file that goes in pieces, to a group and through a hub.
 
 transfer.py [--program NORMD] [--port PORT] [--machines N] [--gap MICROSECONDS] [--group]
 
@@ -190,7 +190,7 @@ def in_pieces(program: str, port: int, room: Path, *more: str) -> str:
     holds(said.count('the same') == 2, f'each copy is said to be the same: {said}')
     for node in (2, 3):
         holds(there(kept / str(node)) == {file.name: octets}, f'the folder of {node} has the copy and nothing else')
-    return 'a file of 17 pieces to two receivers by examples/cast' + (', as a group' if more else '')
+    return 'a file of 17 pieces to two receivers by examples/cast' + (', through a hub' if more else ', as a group')
 
 
 def refusals(program: str, port: int, room: Path) -> str:
@@ -344,7 +344,7 @@ def main() -> int:
     parser.add_argument('--group', action='store_true')
     given = parser.parse_args()
     failed = 0
-    everywhere = ((to_two, ()), (to_two_in_a_group, ()), (two_sends, ()), (threads, ()), (instance, ()), (in_pieces, ()), (in_pieces, ('--group', LOOPBACK_GROUP)),
+    everywhere = ((to_two, ()), (to_two_in_a_group, ()), (two_sends, ()), (threads, ()), (instance, ()), (in_pieces, ()), (in_pieces, ('--hub',)),
                   (refusals, ()), (over_bridges, (given.machines, given.gap)))
     for part, more in (*(() if given.group else everywhere), (in_a_group, (given.machines,))):
         with tempfile.TemporaryDirectory(prefix='transfer-') as room:
