@@ -1,5 +1,5 @@
 #!/bin/sh
-# Tries the tools, the manual and `make install`. It is run after `rt ci`, which leaves the program, and says of each part that
+# Tries the tools and the manual. It is run after `rt ci`, which leaves the program, and says of each part that
 # cannot run which tool is missing. The first part that fails ends it with status 1.
 cd "$(dirname "$0")/.." || exit 1
 program=crates/normd/out/normd
@@ -64,24 +64,11 @@ else
     missing 'the manual pages' 'neither mandoc nor groff is there'
 fi
 
-# Files and folders over sockets, by the tools that run nodes.
+# What the tools that run nodes say, with a stand-in for the program; and files and folders over sockets.
+python3 checks/tools/sending.py || exit 1
 if [ -x "$program" ]; then
     python3 checks/tools/transfer.py || exit 1
 else
     missing 'a transfer' "$program is not there"
-fi
-
-# Installing: what is put there is what the program is, and nothing is left when it is taken away.
-if there make && [ -x "$program" ]; then
-    make -s install PREFIX="$scratch/installed" || wrong 'make install failed'
-    "$scratch/installed/bin/normd" session <"$scratch/installed/share/doc/normd/examples/hello.norm" >"$scratch/out" ||
-        wrong 'the installed program failed'
-    grep -q '^up 2 7 0 data 5 - 68656c6c6f$' "$scratch/out" || wrong 'the installed program does not run examples/hello.norm'
-    cmp -s man/normd.1 "$scratch/installed/share/man/man1/normd.1" || wrong 'the manual is not installed'
-    make -s uninstall PREFIX="$scratch/installed" || wrong 'make uninstall failed'
-    [ -z "$(find "$scratch/installed" -type f)" ] || wrong 'make uninstall leaves files'
-    echo 'tools: installed, run and taken away'
-else
-    missing 'make install' "make or $program is not there"
 fi
 echo 'tools: passed'

@@ -4,8 +4,8 @@
 --   tshark -X lua_script:tools/norm.lua -r RUN.pcap        or put this file among Wireshark's personal Lua plugins
 --
 -- Wireshark has a dissector of its own for RFC 5740, whose protocol is `norm`; it reads other layouts of NACK, ACK and EXT_FTI.
--- This one is the protocol `normd`. It takes the UDP ports of a session with the default key `port`; others are set in
--- the preferences, or by "Decode as". Offsets and lengths are in octets, numbers are big-endian.
+-- This one is the protocol `normd`. It takes the UDP ports of a session with the default key `port`, and of one with that of the examples;
+-- others are set in the preferences, or by "Decode as". Offsets and lengths are in octets, numbers are big-endian.
 
 local normd = Proto("normd", "NORM, by normd")
 
@@ -87,7 +87,7 @@ local refused_expert = ProtoExpert.new("norm.expert.refused", "normd refuses thi
 local unknown_expert = ProtoExpert.new("norm.expert.extension", "An extension that is passed over", expert.group.UNDECODED, expert.severity.NOTE)
 normd.experts = { refused_expert, unknown_expert }
 
-normd.prefs.ports = Pref.range("UDP ports", "40000-40017", "The hub's port, then the sender's and the receivers'; a group has the first two", 65535)
+normd.prefs.ports = Pref.range("UDP ports", "20000-20017,40000-40017", "The hub's port, then the sender's and the receivers'; a group has the first two", 65535)
 
 -- What stands between the common header and the extensions: each part has its octets and the fields in it.
 local SENT = { { 2, "instance" }, { 1, "grtt" }, { 1, "backoff", "gsize" } }

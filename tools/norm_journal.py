@@ -28,6 +28,8 @@ LINES = {
     'end': re.compile(rf'end objects {NUMBER} octets {NUMBER} handed {NUMBER} lost {NUMBER} satisfied {NUMBER} expired {NUMBER} cut {NUMBER}'),
 }
 COUNTS = ('objects', 'octets', 'handed', 'lost', 'satisfied', 'expired', 'cut')
+# After the summary of a run that persists: a receiver that lacks something, and what it confirmed.
+LACKS = re.compile(rf'lacks ({NUMBER}) {NUMBER} (?:{PLACE}|-)')
 # What may stand behind the summary, or in its place where a fault came.
 LAST = re.compile(rf'turns spent|tail {NUMBER} {NUMBER}|tail refused [a-z-]+|fault (?:read|fabric|files)|absent \S+')
 REFUSED = re.compile('refused (?:line [0-9]+|profile)|usage: .*')
@@ -70,6 +72,7 @@ class Journal:
         self.receivers: dict[int, Receiver] = {}
         self.counts = dict.fromkeys(COUNTS, 0)
         self.said: dict[str, int] | None = None
+        self.lacking: list[str] = []
         self.last: str | None = None
 
     def receiver(self, node: str) -> Receiver:
@@ -164,6 +167,9 @@ def journal_of(path: str, text: str, so_far: bool) -> Journal:
     for number, line in enumerate(lines, 1):
         if REFUSED.fullmatch(line):
             raise ToolFault(f'{path} is no journal: the program answered "{line}".')
+        if (lacks := LACKS.fullmatch(line)) and journal.said is not None and journal.last is None:
+            journal.lacking.append(lacks[1])
+            continue
         shape = LINES.get(line.split(' ')[0])
         if journal.last or journal.said and shape or not (shape and shape.fullmatch(line) or LAST.fullmatch(line)):
             raise ToolFault(f'{path}: line {number} is none of a journal.')
@@ -218,6 +224,7 @@ def table(journal: Journal, nodes: list[int]) -> str:
     parts = [marks_table(journal, receivers)] if journal.marks else []
     parts += [receivers_table(receivers)] if receivers else []
     ended = journal.last or ('whole' if journal.said else 'not at its end')
+    ended += f'\nlacking something: {", ".join(journal.lacking)}' if journal.lacking else ''
     return '\n'.join(parts + [f'{counts}\n{ended}\n'])
 
 

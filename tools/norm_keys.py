@@ -9,8 +9,11 @@ from dataclasses import dataclass
 import norm_wire as wire
 from norm_wire import ToolFault
 
-ROOT = os.path.join(os.path.dirname(os.path.abspath(__file__)), '..')
-TABLE = os.path.join(ROOT, 'crates', 'norm_base', 'specs', 'Keys.antt')
+HERE = os.path.dirname(os.path.abspath(__file__))
+ROOT = os.path.join(HERE, '..')
+# `make install` puts the table beside the tools, which then need no checkout.
+INSTALLED = os.path.join(HERE, 'Keys.antt')
+TABLE = INSTALLED if os.path.isfile(INSTALLED) else os.path.join(ROOT, 'crates', 'norm_base', 'specs', 'Keys.antt')
 NUMBERS = re.compile(r'^row_of key\.\w+ = number_row (\d+) \(codes "(\w+)"\) (\d+) (\d+) (\d+)$', re.M)
 WORDS = re.compile(r'^row_of key\.\w+ = word_row (\d+) \(codes "(\w+)"\) \((.*)\)$', re.M)
 ROWS = re.compile(r'^row_of key\.', re.M)

@@ -197,8 +197,11 @@ class Chart:
         return self.rows[-1]
 
     def marks_row(self, moment: int) -> Row:
-        """The row for a sign: that of the signs before it at this moment."""
-        return self.row(moment, not (self.rows and self.rows[-1].is_of_marks()))
+        """The row for a sign: that of the signs before it at this moment, or so shortly before that they belong together."""
+        last = self.rows[-1] if self.rows else None
+        if last and last.is_of_marks() and moment - last.moment <= self.run.apart:
+            return last
+        return self.row(moment, not (last and last.is_of_marks()))
 
     def see_offer(self, step: Step) -> None:
         row = self.row(step.now, True)

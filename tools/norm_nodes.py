@@ -6,7 +6,6 @@ import json
 import os
 import re
 import shutil
-import signal
 import subprocess
 import sys
 import tomllib
@@ -18,6 +17,9 @@ import norm_wire as wire
 from norm_wire import ToolFault
 
 LOOPBACK, MOST_PROFILE = '127.0.0.1', 65_536
+# What chooses the program of a checkout, and where `make install` puts it as seen from share/normd/tools.
+CHOOSER = os.path.join(norm_keys.ROOT, 'tools', 'program')
+BESIDE = os.path.normpath(os.path.join(norm_keys.HERE, '..', '..', '..', 'bin', 'normd'))
 MANIFEST, PIECE = 'manifest', re.compile(r'p(\d{1,6})')
 NOT_ALL = 4  # the status where not everyone has everything
 REPAIR_PART = 4  # one datagram in this many is allowed for repair on top
@@ -31,7 +33,9 @@ class Session:
     receivers: int
     octets: int
     window: int
+    gap: int
     grtt: int
+    k: int
     e: int
     b: int
     max_n: int
@@ -47,6 +51,12 @@ class Session:
         """Where a member is: the hub has the first port, and the members have those behind it."""
         return LOOPBACK, self.port + 1 + self.nodes().index(node)
 
+    def last_symbol(self, octets: int) -> tuple[int, int]:
+        """The last block of a file and its last source symbol (RFC 5052 section 9.1: the longer blocks come first)."""
+        symbols = -(-octets // self.e)
+        blocks = -(-symbols // self.b)
+        return blocks - 1, symbols // blocks - 1
+
     def unasked(self, octets: int) -> int:
         """The datagrams that the sender sends unasked of a file: its info, its source symbols, and `auto` parity symbols of each block, or all that the block has."""
         symbols = -(-octets // self.e)
@@ -58,6 +68,14 @@ class Session:
 
         return 1 + symbols + longer_blocks * parity(shorter + 1) + (blocks - longer_blocks) * parity(shorter)
 
+    def warning(self) -> str | None:
+        """What is amiss if a block takes longer to send than a receiver waits until it asks again, at most."""
+        block, again = self.b * self.gap, (2 * self.k + 2) * self.grtt
+        if block <= again:
+            return None
+        return (f'a block of {self.b} symbols takes {block:,} microseconds to send, and a receiver asks again after {again:,} at most: if no fresh parity is '
+                f'left, its symbols are asked for without end. Give the profile a grtt of {-(-block // (self.k + 1)):,} or more.')
+
     def check_turns(self, datagrams: int, octets: int) -> None:
         """Refuses what the sender's turns are too few for. It sends one datagram a turn at most, and some are lost and go again."""
         needed = datagrams + -(-datagrams // REPAIR_PART)
@@ -67,8 +85,8 @@ class Session:
                             f'send less at a time, or give the profile more turns (at most {most:,}).')
 
 
-def session_of(path: str) -> Session:
-    """The session of a profile, as far as a tool reads it: the program itself refuses a profile that is none."""
+def keys_of(path: str) -> dict[str, int | str]:
+    """The keys that a profile gives, as far as a tool looks at it: the program itself refuses a profile that is none."""
     octets = wire.read_file(path)
     if len(octets) > MOST_PROFILE:
         raise ToolFault(f'{path} has {len(octets)} octets, and a profile has at most {MOST_PROFILE}.')
@@ -76,12 +94,27 @@ def session_of(path: str) -> Session:
         given = tomllib.loads(wire.text_of(path, octets))
     except tomllib.TOMLDecodeError as error:
         raise ToolFault(f'{path} is no TOML document: {error}.') from None
-    words = {key.name: key.words for key in norm_keys.keys()}
+    words = words_of_keys()
     for name, value in given.items():
         if name not in words:
             raise ToolFault(f'{path}: {name} is no key.')
         if words[name] and value not in words[name] or not words[name] and type(value) is not int:
             raise ToolFault(f'{path}: {name} has a value of another kind.')
+    return given
+
+
+def words_of_keys() -> dict[str, tuple[str, ...]]:
+    return {key.name: key.words for key in norm_keys.keys()}
+
+
+def document(keys: dict[str, int | str]) -> str:
+    """The profile that gives these keys."""
+    return ''.join(f'{name} = "{value}"\n' if isinstance(value, str) else f'{name} = {value}\n' for name, value in keys.items())
+
+
+def session_of(path: str) -> Session:
+    """The session of a profile."""
+    given, words = keys_of(path), words_of_keys()
     numbers = {name: words[name].index(value) if words[name] else value for name, value in given.items()}
     if why := norm_keys.fault_of(numbers):
         raise ToolFault(f'{path}: {why}.')
@@ -93,29 +126,31 @@ def session_of(path: str) -> Session:
     return Session(mode=mode, **{it.name: whole[it.name] for it in fields(Session) if it.name != 'mode'})
 
 
+def warn(tool: str, session: Session) -> None:
+    if why := session.warning():
+        print(f'{tool}: {why}', file=sys.stderr)
+
+
 def program_of(given: str | None) -> str:
-    """The program that is run: the one that was asked for, the one that `program` chooses in this checkout, or the one on the PATH."""
-    chooser = os.path.join(norm_keys.ROOT, 'tools', 'program')
-    found = given or subprocess.run([chooser], stdout=subprocess.PIPE, text=True).stdout.strip() or shutil.which('normd')
+    """The program that is run: the one that was asked for, the one that was installed with the tools or that `program` chooses in this checkout, or
+    the one on the PATH."""
+    found = given or own_program() or shutil.which('normd')
     if not found or not os.access(found, os.X_OK):
-        raise ToolFault("no program is there that is newer than its sources: './build --unproved' makes one in a minute or two, and './build' proves one.",
-                        wire.FAILED)
+        why = "'./build --unproved' makes one in a minute or two, and './build' proves one" if os.access(CHOOSER, os.X_OK) else '--program says where it is'
+        raise ToolFault(f'no program is there that is newer than its sources: {why}.', wire.FAILED)
     return os.path.abspath(found)
 
 
-def end_by_signal() -> None:
-    """A tool that is ended by a signal ends as by an exception, so that the node that it runs is ended too."""
-    signal.signal(signal.SIGTERM, lambda *_: sys.exit(128 + signal.SIGTERM))
+def own_program() -> str | None:
+    """The program of this checkout, or of this installation, or None if it is not there."""
+    if os.access(CHOOSER, os.X_OK):
+        return subprocess.run([CHOOSER], stdout=subprocess.PIPE, text=True).stdout.strip() or None
+    return BESIDE if os.access(BESIDE, os.X_OK) else None
 
 
 def in_group(group: str | None) -> list[str]:
     """The words that have a node join a group, if one is given."""
     return [] if group is None else ['--group', group]
-
-
-def quiet() -> dict[str, str]:
-    """The environment of a node whose progress a tool shows."""
-    return {**os.environ, 'NORMD_PROGRESS': '0'}
 
 
 @dataclass(frozen=True)

@@ -6,7 +6,9 @@ from __future__ import annotations
 
 import argparse
 import json
+import math
 import os
+import re
 import sys
 from dataclasses import dataclass
 from typing import Any, Callable, Iterator
@@ -24,7 +26,11 @@ FORMS = {1: 'ITEMS', 2: 'RANGES', 3: 'ERASURES'}
 ASKS = {'SEGMENT': 0x01, 'BLOCK': 0x02, 'INFO': 0x04, 'OBJECT': 0x08}
 EXT_FTI, FTI_WORDS, FIXED_EXTENSION = 64, 3, 128
 ACK_FLUSH = 2
+HEADERS = 20 + 12 + 28  # of a symbol on the wire: a DATA's header, EXT_FTI, and those of IPv4 and UDP
+FLUSHES = 20  # so often a sender asks for a watermark without progress, each two round trips after the one before
 ITEM_OCTETS, REQUEST_HEAD, STREAM_HEAD, LONGEST_LINE = 8, 4, 8, 3000
+
+UNITS = {'': 1, 'k': 10**3, 'M': 10**6, 'G': 10**9, 'Ki': 2**10, 'Mi': 2**20, 'Gi': 2**30}
 
 Layout = tuple[tuple[str, int], ...]
 
@@ -317,6 +323,20 @@ def number(least: int, greatest: int) -> Callable[[str], int]:
     return read
 
 
+def amount(text: str) -> int:
+    """What argparse reads a number with a unit with."""
+    found = re.fullmatch(r'(\d+(?:\.\d+)?)(k|M|G|Ki|Mi|Gi|)', text, re.ASCII)
+    number = math.ceil(float(found[1]) * UNITS[found[2]]) if found else 0
+    if number < 1:
+        raise argparse.ArgumentTypeError(f'{text} is no number above 0, alone or with k, M, G, Ki, Mi or Gi')
+    return number
+
+
+def gap_of(rate: int, e: int) -> int:
+    """The microseconds from one datagram with a symbol to the next at a rate in bits a second, headers of IP and UDP included."""
+    return max(1, -(-(e + HEADERS) * 8 * 1_000_000 // rate))
+
+
 def fail(tool: str, fault: ToolFault) -> int:
     """Says on standard error why a tool did nothing, and gives its status."""
     print(f'{tool}: {fault}', file=sys.stderr)
@@ -394,11 +414,13 @@ class Step:
 
 @dataclass(frozen=True)
 class Run:
-    """A recorded run: the profile of its members, its events in order, and whether it was recorded of a whole session."""
+    """A recorded run: the profile of its members, its events in order, whether it was recorded of a whole session, its script, and how many
+    microseconds signs may be apart that belong together."""
     profile: dict[str, Any]
     steps: tuple[Step, ...]
     is_session: bool
     script: str = ''
+    apart: int = 0
 
     def quorum(self, event: dict[str, Any]) -> int | None:
         """The quorum that a command gave: an event of a sender has it, and one of a session its script."""

@@ -1,7 +1,7 @@
 #!/usr/bin/env python3
 """The tools of tools/ and man/ on recorded runs, on a run made by hand (examples/repair.json), and on bad input.
 
-compare.py PART ..     PART is wire, pcap, journal, ladder, profile or manual; checks/tools.sh runs all of them
+compare.py PART ..     PART is wire, pcap, journal, ladder, record, profile or manual; checks/tools.sh runs all of them
 
 Expected values are those of the recorded runs, of the lines in checks/tools and of the rules, never a tool's own output."""
 from __future__ import annotations
@@ -13,6 +13,7 @@ import itertools
 import json
 import math
 import os
+import pathlib
 import re
 import struct
 import subprocess
@@ -34,6 +35,7 @@ import norm_journal  # noqa: E402
 import norm_keys  # noqa: E402
 import norm_ladder  # noqa: E402
 import norm_nodes  # noqa: E402
+import norm_record  # noqa: E402
 import norm_wire as wire  # noqa: E402
 
 PROGRAM = os.path.join(ROOT, 'crates', 'normd', 'out', 'normd')
@@ -197,6 +199,35 @@ watermark,instance,index,block,symbol,quorum,outcome,receiver,listed
 '''
 
 
+# A run that persists, by the rules: the sender marks by itself, strikes the silent node 3, and names both receivers that lack something.
+PERSISTING = '''\
+enq 1 1 7 0 data 5
+past 2 7 0 0 0
+mark 0 1 7 1 0 0 0
+done 1 expired 3
+strike 0 2 3
+enq 1 2 7 1 data 1
+mark 0 3 7 2 1 0 0
+done 2 expired 2
+end objects 2 octets 6 handed 0 lost 0 satisfied 0 expired 2 cut 0
+lacks 2 7 0 0 0
+lacks 3 7 -
+'''
+PERSISTING_TABLE = '''\
+watermark  instance  past   quorum  outcome  2    3
+1          7         0.0.0  all     expired  yes  no
+2          7         1.0.0  all     expired  no   struck
+
+receiver  objects  octets  lost  listed past
+2         0        0       0     0.0.0 of 7
+3         0        0       0     struck
+
+objects 2 octets 6 handed 0 lost 0 satisfied 0 expired 2 cut 0
+whole
+lacking something: 2, 3
+'''
+
+
 def check_states(name: str, made: dict[str, Any]) -> int:
     """A recorded journal's table says what its `done` lines say: who was left, and that enough were listed."""
     profile, journal = made['profile'], norm_journal.journal_of(name, made['output'], False)
@@ -220,6 +251,9 @@ def check_journal() -> str:
     marks = sum(check_states(name, made) for name, made in journals)
     wants('the table of examples/repair.json', (0, REPAIR_TABLE.encode(), ''), run('journal', 'table', REPAIR))
     wants('quorum and strike', (0, STRUCK_LINES.encode(), ''), run('journal', 'table', '--csv', '--receivers', '2', '-', given=STRUCK.encode()))
+    wants('a run that persists', (0, PERSISTING_TABLE.encode(), ''), run('journal', 'table', '-', given=PERSISTING.encode()))
+    wants('a run that persists and has spent its turns', 0, run('journal', 'table', '-', given=f'{PERSISTING}turns spent\n'.encode())[0])
+    refused('who lacks something before the summary', 3, 'journal', 'table', '-', given=PERSISTING.replace('done 1', 'lacks 2 7 -\ndone 1').encode())
     cut = STRUCK.encode()[:STRUCK.index('done 2')]
     wants('a journal so far', 0, run('journal', 'table', '--so-far', '-', given=cut)[0])
     refused('a journal without its end', 3, 'journal', 'table', '-', given=cut)
@@ -270,6 +304,64 @@ def check_ladder() -> str:
     return f'{count} recorded runs, {broken} broken arrows, bad input'
 
 
+def write_record(made: dict[str, Any], folder: pathlib.Path) -> None:
+    """A recorded run as a record: each node notes what it offered, took and handed up, the sender its news, a bit later than others."""
+    lines: dict[int, list[str]] = {}
+    sender, now = made['profile']['sender'], 0
+    for event in (it for it in made['events'] if isinstance(it, dict)):
+        now = event.get('now', now)
+        at = 5_000_000 + now
+        if 'offer' in event:
+            lines.setdefault(event['offer'], []).append(f'{at + 3 * (event["offer"] == sender)} offer {event["offer"]} {event["bytes"]}')
+        elif 'took' in event or 'deliver' in event:
+            node = event.get('took', event.get('deliver'))
+            lines.setdefault(node, []).append(f'{at} take {node} {event["bytes"]}')
+        elif event.get('up') and 'object' in event['up']:
+            up, node = event['up']['object'], event.get('node', event.get('take'))
+            lines.setdefault(node, []).append(f'{at} up {node} {made["profile"]["instance"]} {up["index"]} data 256 -')
+    for node, noted in lines.items():
+        head = '# machine 1 lab1\n# profile ' + ' '.join(f'{key}={made["profile"][key]}' for key in wire.PROFILE) + '\n'
+        (folder / f'{node}.record').write_text(head + ''.join(line + '\n' for line in noted) + f'{at + 9} tomorrow 1 2\n')
+
+
+def check_record() -> str:
+    """A record of the run that was made by hand is drawn with its arrows, and its capture has its packets; what is cut or of another machine is said."""
+    made = json.loads(text(REPAIR))
+    with tempfile.TemporaryDirectory() as place:
+        folder = pathlib.Path(place, 'record')
+        (folder / 'below').mkdir(parents=True)
+        write_record(made, folder)
+        (folder / '3.record').rename(folder / 'below' / '3.record')
+        status, picture, said = run('journal', 'ladder', str(folder))
+        wants('a record is drawn', (0, ''), (status, said))
+        drawn = tree.fromstring(picture)
+        wants('broken arrows of a record', arrows(made)[1], sum(e.get('class') == 'lost' for e in drawn.iter()) - 1)
+        wants('no datagram that nobody offered', 0, sum(e.get('class') == 'alien' for e in drawn.iter()))
+        wants('hand-ups of a record', 2, sum(e.get('class') == 'up' for e in drawn.iter()) - 1)
+        status, capture, said = run('pcap', str(folder))
+        wanted = sorted((source, target, octets) for _, source, target, octets in wanted_packets(made))
+        wants('a capture of a record', (0, '', wanted), (status, said, sorted(packet[1:] for packet in packets(capture))))
+        cut = folder / '2.record'
+        cut.write_text(cut.read_text()[:-20])
+        other = folder / 'below' / '3.record'
+        other.write_text(other.read_text().replace('machine 1 lab1', 'machine 2 lab2'))
+        status, picture, said = run('journal', 'ladder', str(folder))
+        wants('a record that is cut, and of two machines', (0, [True, True, True]), (status, [bool(picture), f'{cut} is cut or damaged in line' in said,
+              f'the clocks of 2 machines, and only that of lab1 is drawn: {other} left out.' in said]))
+        refused('a folder without a record', 3, 'journal', 'ladder', os.path.join(ROOT, 'man'))
+        hello = os.path.join(ROOT, 'examples', 'hello.norm')
+        wants('a record into a folder that is there', (3, b'', f'journal: {folder} is there already.\n'),
+              run('journal', 'record', hello, '-o', str(folder), '--program', '/bin/true'))
+        none = pathlib.Path(place, 'none')
+        wants('a program that records nothing', 3, run('journal', 'record', hello, '-o', str(none), '--program', '/bin/true')[0])
+        wants('nothing is left of a record of nothing', False, none.exists())
+    said_once: list[str] = []
+    recorder = norm_record.Recorder(pathlib.Path(place), 2, {}, said_once.append)
+    wants('lines of a record that cannot be written', [True, True, False], [recorder.is_noted(it) for it in (b'1 offer 2 00\n', b'2 offer 2 00\n', b'nothing came\n')])
+    wants('a record that cannot be written is said once', [f'{place}/2.record cannot be written: No such file or directory. The record ends here.'], said_once)
+    return 'a record drawn and as a capture, bad input'
+
+
 def unquantised(code: int) -> float:
     """The round trip time in seconds that a message's code says, by RFC 5401."""
     return (code + 1) * 1e-6 if code <= 31 else 1000.0 / math.exp((255 - code) / 13.0)
@@ -303,6 +395,7 @@ def check_profile_row(profile: ModuleType, row: tuple[int, int, int, float, int]
     wants(f'{name} has parity for all receivers', True, (1 - short) ** receivers >= 0.98)
     wants(f'{name} has no more auto than parity', True, keys['auto'] <= keys['max_n'] - keys['b'])
     said = unquantised(keys['grtt_code']) * 1e6
+    wants(f'{name} has rounds as long as a block', True, (keys['k'] + 1) * keys['grtt'] >= keys['b'] * keys['gap'])
     wants(f'{name} says its round trip time', True, keys['grtt'] <= said * 1.001 <= keys['grtt'] * 1.09)
     symbols = -(-asked.object_octets() // keys['e'])
     check_turns(name, asked, keys, asked.objects * (symbols + -(-symbols // keys['b']) * keys['auto']))
@@ -315,9 +408,9 @@ def check_document(words: list[str], script: bytes) -> None:
         wants('a document is written', (0, b'', ''), run('profile', *words, '--toml', '-o', path))
         session, document = norm_nodes.session_of(path), tomllib.loads(text(path))
     wants('a document has three receivers and all turns', (3, 4_000_000), (session.receivers, session.turns))
-    wants('a document is for sockets', ('udp', 0), (document['fabric'], document['step']))
+    wants('a document is for sockets', ('udp', 0, 255), (document['fabric'], document['step'], document['max_n']))
     set_keys = dict(line.split(' ')[1:] for line in script.decode().splitlines() if not line.startswith('#'))
-    others = {'fabric', 'step', 'turns', 'grtt', 'grtt_code'}
+    others = {'fabric', 'step', 'turns', 'grtt', 'grtt_code', 'b', 'max_n', 'auto', 'window', 'octets'}
     wants('both forms have the same keys', set_keys.keys() | {'fabric'}, document.keys())
     wants('both forms say the same of the rest', {key: int(value) for key, value in set_keys.items() if key not in others},
           {key: value for key, value in document.items() if key not in others})
@@ -335,6 +428,54 @@ def check_unasked() -> None:
         wants(f'datagrams of {octets} octets by {e}, {b}, {max_n}, {auto}', datagrams, session.unasked(octets))
 
 
+# Transfers for which a document is made, some of them odd.
+DOCUMENTS = (['--rate', '100M', '--receivers', '12'], ['--rate', '20k', '--receivers', '16', '--loss', '30'], ['--rate', '1G', '--loss', '2', '--rtt', '400'],
+             ['--rate', '10M', '--size', '100'], ['--rate', '1200', '--loss', '5'])
+
+
+def check_documents() -> None:
+    """A document does for whatever is sent: neither a small file nor many are refused, and nothing is amiss with its blocks."""
+    send = module('send')
+    with tempfile.TemporaryDirectory() as folder:
+        place = pathlib.Path(folder)
+        for number in range(2000):
+            (place / f'{number}.txt').write_bytes(b'x')
+        for words in DOCUMENTS:
+            path = place / 'profile.toml'
+            wants(f'a document of {words}', 0, run('profile', *words, '--toml', '-o', str(path))[0])
+            session = norm_nodes.session_of(str(path))
+            wants(f'the warning of {words}', None, session.warning())
+            for files in ({'one': place / '1.txt'}, {it.name: it for it in place.glob('*.txt')}):
+                wants(f'the pieces of {words}', 1, send.planned(files, session).pieces())
+
+
+# What `ping` prints, and what it does of a machine that is silent.
+PING = """#!/bin/sh
+for word; do host=$word; done
+[ "$host" = 127.0.0.9 ] && { echo "20 packets transmitted, 0 received"; exit 1; }
+echo "64 bytes from $host: icmp_seq=1 ttl=64 time=0.034 ms"
+echo "64 bytes from $host: icmp_seq=2 ttl=64 time=31.5 ms"
+"""
+
+
+def check_ping() -> None:
+    """Round trips by the command, if a socket of ICMP is not allowed: the greatest counts, from 20 milliseconds on."""
+    ping = importlib.import_module('norm_ping')
+    with tempfile.TemporaryDirectory() as folder:
+        command, before = pathlib.Path(folder, 'ping'), os.environ['PATH']
+        command.write_text(PING)
+        command.chmod(0o755)
+        os.environ['PATH'] = f'{folder}:{before}'
+        wants('round trips by the command', [34, 31_500], ping.by_command('127.0.0.1'))
+        wants('none of a silent machine', [], ping.by_command('127.0.0.9'))
+        os.environ['PATH'] = before
+    profile = module('profile')
+    for rtt, wanted in ((34, 20_000), (31_500, 35_500)):
+        asked = profile.Asked(1, 1, 2, 100_000_000, 0.0, rtt, True, ' to lab2, the greatest of 20 to each machine')
+        wants(f'a round trip of {rtt}', wanted, profile.choose(asked).keys['grtt'])
+    refused('a machine that is unknown', 1, 'profile', '--toml', '--rate', '1M', '--ping', 'no.such.machine.invalid')
+
+
 def check_profile() -> str:
     """Profiles of both forms over many transfers, both forms of one, and what no profile meets."""
     profile, count = module('profile'), 0
@@ -348,11 +489,13 @@ def check_profile() -> str:
     lines = [line for line in script[1].decode().splitlines() if not line.startswith('#')]
     wants('a profile is made of set lines', True, bool(lines) and all(re.fullmatch(r'set \w+ \d+', line) for line in lines))
     check_document(asked, script[1])
+    check_documents()
+    check_ping()
     check_unasked()
     refused('more turns than a run has', 3, 'profile', '--size', '1G', '--rate', '1G', '--loss', '90', '--receivers', '16')
     refused('a rate that no gap meets', 3, 'profile', '--size', '1M', '--rate', '900')
     refused('more objects than a script has', 3, 'profile', '--size', '1M', '--rate', '1M', '--objects', '5k')
-    for name, words in (('no size', ['--rate', '1M']), ('a size of nothing', ['--size', '0', '--rate', '1M']),
+    for name, words in (('no size', ['--rate', '1M']), ('both a round trip and machines', ['--toml', '--rate', '1M', '--rtt', '1', '--ping', 'a']), ('a size of nothing', ['--size', '0', '--rate', '1M']),
                         ('17 receivers', ['--size', '1', '--rate', '1M', '--receivers', '17']),
                         ('a loss of all', ['--size', '1', '--rate', '1M', '--loss', '91'])):
         wants(f'{name}, its status', 2, run('profile', *words)[0])
@@ -387,7 +530,7 @@ def check_manual() -> str:
     return f'{len(norm_keys.keys())} keys, the tools\' own help'
 
 
-PARTS = {'wire': check_wire, 'pcap': check_pcap, 'journal': check_journal, 'ladder': check_ladder, 'profile': check_profile,
+PARTS = {'wire': check_wire, 'pcap': check_pcap, 'journal': check_journal, 'ladder': check_ladder, 'record': check_record, 'profile': check_profile,
          'manual': check_manual}
 
 

@@ -26,6 +26,7 @@ FIELDS = ('refused kind source sequence instance grtt_code backoff gsize_code fl
 EXPERT = 'norm.expert.refused'
 NAMES = {'CC': 'opaque', 'APPLICATION': 'opaque', 'REPAIR_ADV': 'adv', 'ACK_REQ': 'ackreq'}
 SHOWN_DIFFERENCES = 10
+MOST_OCTETS = wire.LONGEST_LINE // 2  # a longer datagram is no line of `normd show`
 Fields = dict[str, list[str]]
 
 
@@ -49,7 +50,7 @@ def damaged(datagrams: list[bytes]) -> list[bytes]:
                 del parts[max(place, 1):]
             else:
                 parts.insert(place if what == 'insert' else len(parts), octet)
-        made.append(bytes(parts))
+        made.append(bytes(parts[:MOST_OCTETS]))
     return made
 
 
