@@ -139,6 +139,7 @@ cat >"$scratch/fake/rt" <<'END'
 #!/bin/sh
 name=${PWD##*/}
 echo "$1 $name $3" >>"$CALLS"
+[ "$4" != --cpu ] || echo "$4 $5" >>"$CALLS"
 [ "$1" != run ] || exec cat stdout
 for below in $(sed -n "s/^$name://p" ../../crates.txt); do
     [ ! -d "../$below" ] || [ -s "../$below/out/rlib/stamp" ] || exit 1
@@ -168,6 +169,9 @@ crates=$(cut -d' ' -f2 "$scratch/folder/calls" | sort -u | wc -l)
     wrong 'a killed crate is not proved again with one job'
 in_lanes 'a second build' 2
 [ "$(cat "$scratch/folder/calls")" = 'run normd 4' ] || wrong 'a second build proves crates again'
+run / env PATH="$scratch/fake:$PATH" CALLS="$scratch/folder/calls" "$copy/tools/prove" --lanes 4 --cpu x86-64-v3
+row 'a build for newer processors' 0 '' 2
+[ "$(tail -n 2 "$scratch/folder/calls" | paste -sd ,)" = 'run normd 4,--cpu x86-64-v3' ] || wrong 'a build for newer processors compiles for others'
 # What a killed build left is taken back, so only the crates above the one that changed are proved.
 mkdir -p "$copy/out/lanes/3/crates/norm_base"
 mv "$copy/crates/norm_base/out" "$copy/out/lanes/3/crates/norm_base/out"
@@ -220,6 +224,41 @@ cp crates/normd/out/normd "$copy/crates/normd/out/normd"
 cp examples/hello.norm "$scratch/in"
 run / "$copy/normd" session
 row 'the proved program beside an unproved one' 0 "$hello" 0
+
+# A session gets huge pages by glibc's tunables, unless they are set. Other commands get nothing.
+printf '#!/bin/sh\necho "$1 has ${GLIBC_TUNABLES-nothing}"\n' >"$copy/crates/normd/out/normd"
+for words in session send ''; do
+    run / env -u GLIBC_TUNABLES "$copy/normd" $words
+    [ "$words" = session ] && tunables=glibc.malloc.hugetlb=1 || tunables=nothing
+    row "the tunables of '$words'" 0 "$words has $tunables" 0
+done
+run / env GLIBC_TUNABLES= "$copy/normd" session
+row 'a session with tunables that are set to nothing' 0 'session has ' 0
+run / env GLIBC_TUNABLES=glibc.malloc.arena_max=1 "$copy/normd" session
+row 'a session with other tunables' 0 'session has glibc.malloc.arena_max=1' 0
+
+# On a processor without AVX2 what was built for it is not run, and the build is for older ones.
+sed -i "s|/proc/cpuinfo|'$scratch/cpuinfo'|" "$copy/tools/processor"
+level='bmi1 bmi2 fma f16c movbe abm'
+printf '#!/bin/sh\necho "$*"\n' >"$copy/tools/prove"
+printf '#!/bin/sh\nexit 127\n' >"$copy/crates/normd/out/normd"
+for flags in "ssse3 avx2 $level" "ssse3 $level" 'avx2 fma'; do
+    printf 'processor\t: 0\nflags\t\t: fpu %s\nbugs\t\t: avx2\n' "$flags" >"$scratch/cpuinfo"
+    run / "$copy/normd" session
+    case $flags in
+        *avx2\ *abm) cpu=x86-64-v3 lines=0 ;;
+        *) cpu=x86-64-v2 lines=1 ;;
+    esac
+    row "a program that ends with 127, with $flags" 127 '' $lines
+    [ $lines = 0 ] || grep -q "'./build --older'" "$scratch/err" || wrong 'the word that builds for older processors is lost'
+    run / env PATH="$scratch/fake:$PATH" "$copy/build"
+    row "a build with $flags" 0 "--cpu $cpu" 0
+done
+run / env PATH="$scratch/fake:$PATH" "$copy/build" --older
+row 'a build for older processors' 0 '--cpu x86-64-v2' 0
+printf '#!/bin/sh\necho ran\n' >"$copy/crates/normd/out/normd"
+run / "$copy/normd" session
+row 'a program for older processors' 0 ran 0
 
 sed -i '1i fn' "$copy/crates/normd/src/main.rt"
 run / "$copy/build" --unproved
