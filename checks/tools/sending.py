@@ -308,6 +308,8 @@ PARTS = (tables, interrupted, at_a_terminal, killed, paced, pipes, records, cast
 
 
 def main() -> int:
+    # A shell starts what runs in the background with this signal ignored, and the tools would inherit that.
+    signal.signal(signal.SIGINT, signal.default_int_handler)
     failed, asked = 0, sys.argv[1:]
     for part in PARTS:
         with tempfile.TemporaryDirectory(prefix='sending-') as folder:
