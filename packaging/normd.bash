@@ -19,7 +19,6 @@ _normd() {
         normd-*)
             options=$(_normd_options "${COMP_WORDS[0]}")
             [ "${COMP_WORDS[0]##*/}" != normd-receive ] || command=recv
-            [ "$command" != recv ] || before=${COMP_WORDS[COMP_CWORD - 1]}
             ;;
         *)
             if [ "$COMP_CWORD" -eq 1 ]; then
