@@ -11,7 +11,7 @@ use Rattle.std.proofs.lemmas.List.{get_or-map, get_or-take, get_or-drop, get_or_
 use Rattle.std.proofs.lemmas.Simd.{Each1-all, Each1-weaker, Each1-get_or, Each1-zip2, Each2-splat, below_from_Fits, length-zip2, get_or-zip2, pick_l_left, swz_l, SwzOk, SwzOk-from_below, length-swz_l, get_or-swz_l_below, length-chunk, get_or-chunk, get_or-put_chunk_below, get_or-put_chunk_at, get_or-put_chunk_above}
 use lib.Dec.{T}
 use lib.Lanes.{zip2, Each1, chunk, put_chunk, pick_l, all_below}
-use Rattle.gf_field.specs.Product.{product, shift, shifts, sum_at_bits}
+use Rattle.gf_field.specs.Product.{product, scaled, four_products, shift, shifts, sum_at_bits}
 use Rattle.gf_field.specs.Lanes.{HasSums, HasProducts, IsAdded}
 use Rattle.gf_field.proofs.Octets.{below_passes, octet_passes, passes_at_octets}
 use Rattle.gf_field.proofs.Linear.{product-xor_r}
@@ -196,50 +196,100 @@ times_lanes b c low high v fits t =
 
 -- ---- slices
 
--- n sums are stored from `at` on
-stored : (n at : ℕ) (c : ℕ) (old src sums : List ℕ) → at + n ≤ length old → length sums ≡ n
-    → ((i : ℕ) → i < n → get_or sums i 0 ≡ bit_xor (get_or old (at + i) 0) (product c (get_or src (at + i) 0)))
-    → IsAdded c at (at + n) old src (put_chunk at old sums)
-stored n at c old src sums room long is = record {
-  before = λ i h. get_or-put_chunk_below at old sums i 0 h;
-  sums = λ i p q.
-      let e : at + (i - at) ≡ i = omega arith in
-      ap (λ k. get_or (put_chunk at old sums) k 0) (sym e)
-      ∙ get_or-put_chunk_at at old sums (i - at) 0 (omega arith) (omega arith)
-      ∙ is (i - at) (omega arith)
-      ∙ ap (λ k. bit_xor (get_or old k 0) (product c (get_or src k 0))) e;
-  after = λ i h. get_or-put_chunk_above at old sums i 0 (omega arith);
+-- n lanes have the summands of the indexes from `at` on
+pub record AreSummands (summand : ℕ → ℕ) (n at : ℕ) (lanes : List ℕ) : Type 0 where
+  pub len : length lanes ≡ n
+  pub each : (i : ℕ) → i < n → get_or lanes i 0 ≡ summand (at + i)
+
+pub scaled_lanes : (n at c : ℕ) (src products : List ℕ) → at + n ≤ length src → products ≡ map (product c) (chunk at n src) → AreSummands (scaled c src) n at products
+scaled_lanes n at c src products room is =
+    let src_long : length (chunk at n src) ≡ n = length-chunk at n src room in
+    record {
+      len = ap (λ ps. length ps) is ∙ length-map (chunk at n src) (product c) ∙ src_long;
+      each = λ i h. ap (λ ps. get_or ps i 0) is ∙ get_or-map (product c) (chunk at n src) i 0 0 (omega arith) ∙ ap (product c) (get_or-chunk at n src i 0 h);
+    }
+
+pub both_lanes : (f g : ℕ → ℕ) (n at : ℕ) (xs ys : List ℕ) → AreSummands f n at xs → AreSummands g n at ys → AreSummands (λ i. bit_xor (f i) (g i)) n at (zip2 bit_xor xs ys)
+both_lanes f g n at xs ys a b = record {
+  len = length-zip2 bit_xor xs ys (a.len ∙ sym b.len) ∙ a.len;
+  each = λ i h. xor_lane xs ys n i a.len b.len h ∙ ap (λ m. bit_xor m (get_or ys i 0)) (a.each i h) ∙ ap (bit_xor (f (at + i))) (b.each i h);
 }
 
-pub lane_added : (n at c : ℕ) (old src products : List ℕ) → at + n ≤ length old → length old ≡ length src → products ≡ map (product c) (chunk at n src)
-    → IsAdded c at (at + n) old src (put_chunk at old (zip2 bit_xor (chunk at n old) products))
-lane_added n at c old src products room same is =
+-- n sums are stored from `at` on
+pub lane_added : (f : ℕ → ℕ) (n at : ℕ) (old summands : List ℕ) → at + n ≤ length old → AreSummands f n at summands
+    → IsAdded f at (at + n) old (put_chunk at old (zip2 bit_xor (chunk at n old) summands))
+lane_added f n at old summands room are =
     let old_long : length (chunk at n old) ≡ n = length-chunk at n old room in
-    let src_long : length (chunk at n src) ≡ n = length-chunk at n src (omega arith) in
-    let products_long : length products ≡ n = ap (λ ps. length ps) is ∙ length-map (chunk at n src) (product c) ∙ src_long in
-    stored n at c old src (zip2 bit_xor (chunk at n old) products) room (length-zip2 bit_xor (chunk at n old) products (old_long ∙ sym products_long) ∙ old_long)
-    (λ i h.
-    xor_lane (chunk at n old) products n i old_long products_long h
-    ∙ ap (λ m. bit_xor m (get_or products i 0)) (get_or-chunk at n old i 0 h)
-    ∙ ap (bit_xor (get_or old (at + i) 0)) (ap (λ ps. get_or ps i 0) is ∙ get_or-map (product c) (chunk at n src) i 0 0 (omega arith) ∙ ap (product c) (get_or-chunk at n src i 0 h)))
+    let sums : List ℕ = zip2 bit_xor (chunk at n old) summands in
+    let long : length sums ≡ n = length-zip2 bit_xor (chunk at n old) summands (old_long ∙ sym are.len) ∙ old_long in
+    record {
+      before = λ i h. get_or-put_chunk_below at old sums i 0 h;
+      sums = λ i p q.
+          let e : at + (i - at) ≡ i = omega arith in
+          ap (λ k. get_or (put_chunk at old sums) k 0) (sym e)
+          ∙ get_or-put_chunk_at at old sums (i - at) 0 (omega arith) (omega arith)
+          ∙ xor_lane (chunk at n old) summands n (i - at) old_long are.len (omega arith)
+          ∙ ap (λ m. bit_xor m (get_or summands (i - at) 0)) (get_or-chunk at n old (i - at) 0 (omega arith))
+          ∙ ap (bit_xor (get_or old (at + (i - at)) 0)) (are.each (i - at) (omega arith))
+          ∙ ap (λ k. bit_xor (get_or old k 0) (f k)) e;
+      after = λ i h. get_or-put_chunk_above at old sums i 0 (omega arith);
+    }
 
-pub added_nothing : (c at : ℕ) (old src : List ℕ) → IsAdded c at at old src old
-added_nothing c at old src = record {
+pub added_nothing : (f : ℕ → ℕ) (at : ℕ) (old : List ℕ) → IsAdded f at at old old
+added_nothing f at old = record {
   before = λ i h. refl;
   sums = λ i p q. absurd (omega arith);
   after = λ i h. refl;
 }
 
-pub added_on : (c from at to : ℕ) (old src mid new : List ℕ) → from ≤ at → at ≤ to → IsAdded c from at old src mid → IsAdded c at to mid src new → IsAdded c from to old src new
-added_on c from at to old src mid new p q a b = record {
+pub added_on : (f : ℕ → ℕ) (from at to : ℕ) (old mid new : List ℕ) → from ≤ at → at ≤ to → IsAdded f from at old mid → IsAdded f at to mid new → IsAdded f from to old new
+added_on f from at to old mid new p q a b = record {
   before = λ i h. b.before i (omega arith) ∙ a.before i h;
   sums = λ i l u. go i l u (cases_lt i at);
   after = λ i h. b.after i h ∙ a.after i (omega arith);
 }
   where
-    go : (i : ℕ) → from ≤ i → i < to → (i < at) ⊎ (at ≤ i) → get_or new i 0 ≡ bit_xor (get_or old i 0) (product c (get_or src i 0))
+    go : (i : ℕ) → from ≤ i → i < to → (i < at) ⊎ (at ≤ i) → get_or new i 0 ≡ bit_xor (get_or old i 0) (f i)
     go i l u (inl h) = b.before i h ∙ a.sums i l h
-    go i l u (inr h) = b.sums i h u ∙ ap (λ n. bit_xor n (product c (get_or src i 0))) (a.after i h)
+    go i l u (inr h) = b.sums i h u ∙ ap (λ n. bit_xor n (f i)) (a.after i h)
+
+-- two summands at the same indexes, one after the other
+pub added_both : (f g : ℕ → ℕ) (from to : ℕ) (old mid new : List ℕ) → IsAdded f from to old mid → IsAdded g from to mid new → IsAdded (λ i. bit_xor (f i) (g i)) from to old new
+added_both f g from to old mid new a b = record {
+  before = λ i h. b.before i h ∙ a.before i h;
+  sums = λ i l u. b.sums i l u ∙ ap (λ n. bit_xor n (g i)) (a.sums i l u) ∙ xor_assoc (get_or old i 0) (f i) (g i);
+  after = λ i h. b.after i h ∙ a.after i h;
+}
+
+-- four sources, one after the other
+pub added_four : (factors a b c d : List ℕ) (from to : ℕ) (old one two three new : List ℕ)
+    → IsAdded (scaled (get_or factors 0 0) a) from to old one → IsAdded (scaled (get_or factors 1 0) b) from to one two
+    → IsAdded (scaled (get_or factors 2 0) c) from to two three → IsAdded (scaled (get_or factors 3 0) d) from to three new
+    → IsAdded (four_products factors a b c d) from to old new
+added_four factors a b c d from to old one two three new h1 h2 h3 h4 =
+    let f : ℕ → ℕ = scaled (get_or factors 0 0) a in
+    let g : ℕ → ℕ = scaled (get_or factors 1 0) b in
+    let h : ℕ → ℕ = scaled (get_or factors 2 0) c in
+    added_both (λ i. bit_xor (bit_xor (f i) (g i)) (h i)) (scaled (get_or factors 3 0) d) from to old three new
+    (added_both (λ i. bit_xor (f i) (g i)) h from to old two three (added_both f g from to old one two h1 h2) h3) h4
+
+-- a lane of four sources at once
+pub lane_of_four : (n at : ℕ) (factors a b c d old pa pb pc pd : List ℕ) → at + n ≤ length old
+    → length old ≡ length a → length old ≡ length b → length old ≡ length c → length old ≡ length d
+    → pa ≡ map (product (get_or factors 0 0)) (chunk at n a) → pb ≡ map (product (get_or factors 1 0)) (chunk at n b)
+    → pc ≡ map (product (get_or factors 2 0)) (chunk at n c) → pd ≡ map (product (get_or factors 3 0)) (chunk at n d)
+    → IsAdded (four_products factors a b c d) at (at + n) old (put_chunk at old (zip2 bit_xor (chunk at n old) (zip2 bit_xor (zip2 bit_xor (zip2 bit_xor pa pb) pc) pd)))
+lane_of_four n at factors a b c d old pa pb pc pd room la lb lc ld ea eb ec ed =
+    let f : ℕ → ℕ = scaled (get_or factors 0 0) a in
+    let g : ℕ → ℕ = scaled (get_or factors 1 0) b in
+    let h : ℕ → ℕ = scaled (get_or factors 2 0) c in
+    let k : ℕ → ℕ = scaled (get_or factors 3 0) d in
+    lane_added (four_products factors a b c d) n at old (zip2 bit_xor (zip2 bit_xor (zip2 bit_xor pa pb) pc) pd) room
+    (both_lanes (λ i. bit_xor (bit_xor (f i) (g i)) (h i)) k n at (zip2 bit_xor (zip2 bit_xor pa pb) pc) pd
+    (both_lanes (λ i. bit_xor (f i) (g i)) h n at (zip2 bit_xor pa pb) pc
+    (both_lanes f g n at pa pb (scaled_lanes n at (get_or factors 0 0) a pa (omega arith) ea) (scaled_lanes n at (get_or factors 1 0) b pb (omega arith) eb))
+    (scaled_lanes n at (get_or factors 2 0) c pc (omega arith) ec))
+    (scaled_lanes n at (get_or factors 3 0) d pd (omega arith) ed))
 
 pub tables_from : (c c2 c4 c8 c16 c32 c64 c128 : ℕ) (low high : List ℕ) → c < 256
     → c2 ≡ shift c → c4 ≡ shift c2 → c8 ≡ shift c4 → c16 ≡ shift c8 → c32 ≡ shift c16 → c64 ≡ shift c32 → c128 ≡ shift c64
@@ -251,7 +301,7 @@ tables_from c c2 c4 c8 c16 c32 c64 c128 low high small e2 e4 e8 e16 e32 e64 e128
 
 -- fewer than sixteen octets in a padded lane
 pub few_added : (c : ℕ) (old src new products : List ℕ) → length old ≡ length src → length old < 16 → products ≡ map (product c) (src ++ replicate (16 - length src) 0)
-    → new ≡ take (length old) (zip2 bit_xor (old ++ replicate (16 - length old) 0) products) → IsAdded c 0 (length old) old src new
+    → new ≡ take (length old) (zip2 bit_xor (old ++ replicate (16 - length old) 0) products) → IsAdded (scaled c src) 0 (length old) old new
 few_added c old src new products same few is e =
     let n : ℕ = length old in
     let padded : List ℕ = old ++ replicate (16 - n) 0 in
@@ -294,7 +344,7 @@ before_last c start old src mask sums i lt (inr h) new_at sum_at end zeros =
 pub last_added : (c at start : ℕ) (old src products mask : List ℕ) → length old ≡ length src → 16 ≤ length old → start ≡ length old - 16 → at ≤ length old → length old < at + 16
     → products ≡ map (product c) (chunk start 16 src) → length mask ≡ 16
     → ((i : ℕ) → i + (length old - at) < 16 → get_or mask i 0 ≡ 0) → ((i : ℕ) → i < 16 → 16 ≤ i + (length old - at) → get_or mask i 0 ≡ 255)
-    → IsAdded c at (length old) old src (put_chunk start old (zip2 bit_xor (chunk start 16 old) (zip2 bit_and products mask)))
+    → IsAdded (scaled c src) at (length old) old (put_chunk start old (zip2 bit_xor (chunk start 16 old) (zip2 bit_and products mask)))
 last_added c at start old src products mask same long start_is begins few is mask_long zeros ones =
     let old_long : length (chunk start 16 old) ≡ 16 = length-chunk start 16 old (omega arith) in
     let src_long : length (chunk start 16 src) ≡ 16 = length-chunk start 16 src (omega arith) in

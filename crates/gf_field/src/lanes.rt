@@ -1,9 +1,9 @@
 //! Multiplies lanes of octets by one factor. Each half of an octet is looked up in a table of sixteen products. `add_scaled` makes the
-//! tables with `multiples_of` and then calls `add_all`.
+//! tables with `multiples_of` and then calls `add_all`; `add_four` does so with the tables of four factors.
 
-ghost use Rattle.std.specs.Prelude.{ℕ, ◌≡◌, ◌<◌, ◌≤◌, ◌+◌, ◌-◌, ◌%◌, [], ◌∷◌, ◌++◌, length, map, replicate, slice_index};
-ghost use Rattle.gf_field.specs.Product.{product, shift};
-ghost use Rattle.gf_field.specs.Lanes.{HasSums, HasProducts, IsAdded};
+ghost use Rattle.std.specs.Prelude.{ℕ, List, ◌≡◌, ◌<◌, ◌≤◌, ◌+◌, ◌-◌, ◌%◌, [], ◌∷◌, ◌++◌, length, map, replicate, slice_index};
+ghost use Rattle.gf_field.specs.Product.{product, scaled, four_products, shift};
+ghost use Rattle.gf_field.specs.Lanes.{HasSums, HasProducts, HasFour, IsAdded};
 
 use std::simd::prelude::*;
 
@@ -55,6 +55,24 @@ pub struct Multiples {
 struct WideMultiples {
     low: u8x64,
     high: u8x64,
+}
+
+/// The tables of four factors.
+#[derive(Clone, Copy, Drop)]
+pub struct FourMultiples {
+    first: Multiples,
+    second: Multiples,
+    third: Multiples,
+    fourth: Multiples,
+}
+
+/// The tables of four factors, for 64 lanes.
+#[derive(Clone, Copy, Drop)]
+struct WideFourMultiples {
+    first: WideMultiples,
+    second: WideMultiples,
+    third: WideMultiples,
+    fourth: WideMultiples,
 }
 
 /// Returns the octet times x: shifted left by one bit and reduced.
@@ -141,7 +159,7 @@ impl Multiples {
     fn add_lane(&self, dst: &mut [u8], src: &[u8], at: usize)
         requires room { at + 16 ≤ length dst.old }
         requires same { length dst.old ≡ length src.now }
-        ensures { (c : ℕ) → HasProducts 16 c self.now.low self.now.high → IsAdded c at (at + 16) dst.old src.now dst.new }
+        ensures { (c : ℕ) → HasProducts 16 c self.now.low self.now.high → IsAdded (scaled c src.now) at (at + 16) dst.old dst.new }
     {
         let sum = u8x16::from_slice(&dst[at..]) ^ self.times(u8x16::from_slice(&src[at..]));
         sum.copy_to_slice(&mut dst[at..]);
@@ -163,7 +181,7 @@ impl WideMultiples {
     fn add_lane(&self, dst: &mut [u8], src: &[u8], at: usize)
         requires room { at + 64 ≤ length dst.old }
         requires same { length dst.old ≡ length src.now }
-        ensures { (c : ℕ) → HasProducts 64 c self.now.low self.now.high → IsAdded c at (at + 64) dst.old src.now dst.new }
+        ensures { (c : ℕ) → HasProducts 64 c self.now.low self.now.high → IsAdded (scaled c src.now) at (at + 64) dst.old dst.new }
     {
         let sum = u8x64::from_slice(&dst[at..]) ^ self.times(u8x64::from_slice(&src[at..]));
         sum.copy_to_slice(&mut dst[at..]);
@@ -173,7 +191,7 @@ impl WideMultiples {
     fn add_lanes(&self, dst: &mut [u8], src: &[u8]) -> usize
         requires { length dst.old ≡ length src.now }
         ensures within { result ≤ length dst.old }
-        ensures added { (c : ℕ) → HasProducts 64 c self.now.low self.now.high → IsAdded c 0 result dst.old src.now dst.new }
+        ensures added { (c : ℕ) → HasProducts 64 c self.now.low self.now.high → IsAdded (scaled c src.now) 0 result dst.old dst.new }
     {
         let mut at = 0;
         while dst.len() - at >= 64 {
@@ -192,7 +210,7 @@ impl Multiples {
         ensures within { result ≤ length dst.old }
         ensures on { from ≤ result }
         ensures few { length dst.old < result + 16 }
-        ensures added { (c : ℕ) → HasProducts 16 c self.now.low self.now.high → IsAdded c from result dst.old src.now dst.new }
+        ensures added { (c : ℕ) → HasProducts 16 c self.now.low self.now.high → IsAdded (scaled c src.now) from result dst.old dst.new }
     {
         let mut at = from;
         while dst.len() - at >= 16 {
@@ -209,7 +227,7 @@ impl Multiples {
         requires long { 16 ≤ length dst.old }
         requires begins { at ≤ length dst.old }
         requires few { length dst.old < at + 16 }
-        ensures { (c : ℕ) → HasProducts 16 c self.now.low self.now.high → IsAdded c at (length dst.old) dst.old src.now dst.new }
+        ensures { (c : ℕ) → HasProducts 16 c self.now.low self.now.high → IsAdded (scaled c src.now) at (length dst.old) dst.old dst.new }
     {
         let start = dst.len() - 16;
         let products = self.times(u8x16::from_slice(&src[start..])) & last_lanes(dst.len() - at);
@@ -221,28 +239,163 @@ impl Multiples {
     fn add_few(&self, dst: &mut [u8], src: &[u8])
         requires same { length dst.old ≡ length src.now }
         requires few { length dst.old < 16 }
-        ensures { (c : ℕ) → HasProducts 16 c self.now.low self.now.high → IsAdded c 0 (length dst.old) dst.old src.now dst.new }
+        ensures { (c : ℕ) → HasProducts 16 c self.now.low self.now.high → IsAdded (scaled c src.now) 0 (length dst.old) dst.old dst.new }
     {
         let sums = (padded(dst) ^ self.times(padded(src))).to_array();
         dst.copy_from_slice(&sums[..dst.len()]);
+    }
+
+    /// Adds the products from `from` to the end: sixteen at a time, and then those that are left at once.
+    fn add_rest(&self, dst: &mut [u8], src: &[u8], from: usize)
+        requires same { length dst.old ≡ length src.now }
+        requires long { 16 ≤ length dst.old }
+        requires begins { from ≤ length dst.old }
+        ensures { (c : ℕ) → HasProducts 16 c self.now.low self.now.high → IsAdded (scaled c src.now) from (length dst.old) dst.old dst.new }
+    {
+        // What the lanes leave goes in a lane that overlaps the last one, with what was done masked. A copy of a variable length costs more than
+        // the mask.
+        let at = self.add_lanes(dst, src, from);
+        self.add_last_lane(dst, src, at);
     }
 
     /// Adds the products of all octets of `src` to `dst`: 64 at a time, then sixteen, and then those that are left at once.
     // Proof: each lane speaks of every c whose products these are; IsAdded joins lanes by one lemma.
     pub fn add_all(&self, dst: &mut [u8], src: &[u8])
         requires { length dst.old ≡ length src.now }
-        ensures { (c : ℕ) → HasProducts 16 c self.now.low self.now.high → IsAdded c 0 (length dst.old) dst.old src.now dst.new }
+        ensures { (c : ℕ) → HasProducts 16 c self.now.low self.now.high → IsAdded (scaled c src.now) 0 (length dst.old) dst.old dst.new }
     {
         // Fewer than sixteen octets fill no lane, so they are copied into one.
         if dst.len() < 16 {
             self.add_few(dst, src);
             return;
         }
-        // What the lanes of 64 and 16 leave goes in a lane that overlaps the last one, with what was done masked. A copy of a variable length
-        // costs more than the mask.
         let at = self.widened().add_lanes(dst, src);
-        let at = self.add_lanes(dst, src, at);
-        self.add_last_lane(dst, src, at);
+        self.add_rest(dst, src, at);
+    }
+}
+
+/// Returns the tables of four factors.
+#[inline(always)]
+pub fn multiples_of_four(factors: [u8; 4]) -> FourMultiples
+    ensures { HasFour 16 factors result.first.low result.first.high result.second.low result.second.high
+        result.third.low result.third.high result.fourth.low result.fourth.high }
+{
+    FourMultiples {
+        first: multiples_of(factors[0]),
+        second: multiples_of(factors[1]),
+        third: multiples_of(factors[2]),
+        fourth: multiples_of(factors[3]),
+    }
+}
+
+impl WideFourMultiples {
+    /// Adds the products of 64 octets of each source, from `at` on, to those of `dst`. It reads and writes `dst` once.
+    #[inline(always)]
+    fn add_lane(&self, dst: &mut [u8], a: &[u8], b: &[u8], c: &[u8], d: &[u8], at: usize)
+        requires room { at + 64 ≤ length dst.old }
+        requires same_a { length dst.old ≡ length a.now }
+        requires same_b { length dst.old ≡ length b.now }
+        requires same_c { length dst.old ≡ length c.now }
+        requires same_d { length dst.old ≡ length d.now }
+        ensures { (f : List ℕ) → HasFour 64 f self.now.first.low self.now.first.high self.now.second.low self.now.second.high
+            self.now.third.low self.now.third.high self.now.fourth.low self.now.fourth.high
+            → IsAdded (four_products f a.now b.now c.now d.now) at (at + 64) dst.old dst.new }
+    {
+        let first = self.first.times(u8x64::from_slice(&a[at..]));
+        let second = self.second.times(u8x64::from_slice(&b[at..]));
+        let third = self.third.times(u8x64::from_slice(&c[at..]));
+        let fourth = self.fourth.times(u8x64::from_slice(&d[at..]));
+        let sum = u8x64::from_slice(&dst[at..]) ^ (first ^ second ^ third ^ fourth);
+        sum.copy_to_slice(&mut dst[at..]);
+    }
+
+    /// Adds products from the beginning, 64 octets at a time. Returns the index at which fewer than 64 are left.
+    fn add_lanes(&self, dst: &mut [u8], a: &[u8], b: &[u8], c: &[u8], d: &[u8]) -> usize
+        requires same_a { length dst.old ≡ length a.now }
+        requires same_b { length dst.old ≡ length b.now }
+        requires same_c { length dst.old ≡ length c.now }
+        requires same_d { length dst.old ≡ length d.now }
+        ensures within { result ≤ length dst.old }
+        ensures added { (f : List ℕ) → HasFour 64 f self.now.first.low self.now.first.high self.now.second.low self.now.second.high
+            self.now.third.low self.now.third.high self.now.fourth.low self.now.fourth.high
+            → IsAdded (four_products f a.now b.now c.now d.now) 0 result dst.old dst.new }
+    {
+        let mut next = 0;
+        while dst.len() - next >= 64 {
+            self.add_lane(dst, a, b, c, d, next);
+            next += 64;
+        }
+        next
+    }
+}
+
+impl FourMultiples {
+    #[inline(always)]
+    fn widened(&self) -> WideFourMultiples
+        ensures { (f : List ℕ) → HasFour 16 f self.now.first.low self.now.first.high self.now.second.low self.now.second.high
+            self.now.third.low self.now.third.high self.now.fourth.low self.now.fourth.high
+            → HasFour 64 f result.first.low result.first.high result.second.low result.second.high
+            result.third.low result.third.high result.fourth.low result.fourth.high }
+    {
+        WideFourMultiples {
+            first: self.first.widened(),
+            second: self.second.widened(),
+            third: self.third.widened(),
+            fourth: self.fourth.widened(),
+        }
+    }
+
+    /// Adds the products from `from` to the end, one source after the other: fewer than 64 octets of each are left.
+    fn add_rest(&self, dst: &mut [u8], a: &[u8], b: &[u8], c: &[u8], d: &[u8], from: usize)
+        requires same_a { length dst.old ≡ length a.now }
+        requires same_b { length dst.old ≡ length b.now }
+        requires same_c { length dst.old ≡ length c.now }
+        requires same_d { length dst.old ≡ length d.now }
+        requires long { 16 ≤ length dst.old }
+        requires begins { from ≤ length dst.old }
+        ensures { (f : List ℕ) → HasFour 16 f self.now.first.low self.now.first.high self.now.second.low self.now.second.high
+            self.now.third.low self.now.third.high self.now.fourth.low self.now.fourth.high
+            → IsAdded (four_products f a.now b.now c.now d.now) from (length dst.old) dst.old dst.new }
+    {
+        self.first.add_rest(dst, a, from);
+        self.second.add_rest(dst, b, from);
+        self.third.add_rest(dst, c, from);
+        self.fourth.add_rest(dst, d, from);
+    }
+
+    /// Adds the products if there are fewer than sixteen octets.
+    fn add_few(&self, dst: &mut [u8], a: &[u8], b: &[u8], c: &[u8], d: &[u8])
+        requires same_a { length dst.old ≡ length a.now }
+        requires same_b { length dst.old ≡ length b.now }
+        requires same_c { length dst.old ≡ length c.now }
+        requires same_d { length dst.old ≡ length d.now }
+        requires few { length dst.old < 16 }
+        ensures { (f : List ℕ) → HasFour 16 f self.now.first.low self.now.first.high self.now.second.low self.now.second.high
+            self.now.third.low self.now.third.high self.now.fourth.low self.now.fourth.high
+            → IsAdded (four_products f a.now b.now c.now d.now) 0 (length dst.old) dst.old dst.new }
+    {
+        self.first.add_few(dst, a);
+        self.second.add_few(dst, b);
+        self.third.add_few(dst, c);
+        self.fourth.add_few(dst, d);
+    }
+
+    /// Adds the products of all octets of the four sources to `dst`: 64 at a time in one pass, and then those that are left.
+    pub fn add_all(&self, dst: &mut [u8], a: &[u8], b: &[u8], c: &[u8], d: &[u8])
+        requires same_a { length dst.old ≡ length a.now }
+        requires same_b { length dst.old ≡ length b.now }
+        requires same_c { length dst.old ≡ length c.now }
+        requires same_d { length dst.old ≡ length d.now }
+        ensures { (f : List ℕ) → HasFour 16 f self.now.first.low self.now.first.high self.now.second.low self.now.second.high
+            self.now.third.low self.now.third.high self.now.fourth.low self.now.fourth.high
+            → IsAdded (four_products f a.now b.now c.now d.now) 0 (length dst.old) dst.old dst.new }
+    {
+        if dst.len() < 16 {
+            self.add_few(dst, a, b, c, d);
+            return;
+        }
+        let at = self.widened().add_lanes(dst, a, b, c, d);
+        self.add_rest(dst, a, b, c, d, at);
     }
 }
 

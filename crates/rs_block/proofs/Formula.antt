@@ -4,14 +4,14 @@ use Rattle.std.specs.Prelude.{bit_xor, nat_eq}
 use Rattle.std.specs.List.{IsDistinct}
 use Rattle.std.specs.Int.Bits.{xor_assoc, xor_zero_l, xor_zero_r}
 use Rattle.std.proofs.Math.Seq.{drop-cons}
-use Rattle.std.proofs.Math.Nat.{mod-eq_of_lt, mod-lt}
+use Rattle.std.proofs.Math.Nat.{mod-eq_of_lt, mod-lt, mul-le-mul_right}
 use Rattle.std.proofs.lemmas.Nat.{xor_lt}
 use Rattle.std.proofs.lemmas.Bool.{cases_lt}
 use Rattle.std.proofs.lemmas.List.{drop_all, ext_get_or, get_or-map, get_or-set_other, get_or-set_same, length-map}
 use Rattle.std.proofs.lemmas.List.Elements.{All-from_recursion}
 use Rattle.norm_base.specs.Octets.{AreOctets}
 use Rattle.gf_field.specs.Element.{AreElements}
-use Rattle.gf_field.specs.Product.{product}
+use Rattle.gf_field.specs.Product.{product, four_products}
 use Rattle.gf_field.specs.Power.{power}
 use Rattle.gf_field.specs.Inverse.{inverse}
 use Rattle.gf_field.specs.Interpolation.{differences, others, coefficient, weighted_sum, interpolated}
@@ -176,6 +176,68 @@ summed_go_on row symbols old size i out next symbol h next_e symbol_e before t l
     ap (λ n. bit_xor n rest) (next_e t lt)
     ∙ ap (λ n. bit_xor (bit_xor (get_or out t 0) (product (get_or row i 0) n)) rest) (symbol_e t lt ∙ sym (get_or-column (length row) size symbols t i h))
     ∙ combined_goes_on row values i (get_or out t 0) h fits
+    ∙ before t lt
+
+combined_next : (row vs : List ℕ) (i j sum : ℕ) → j ≡ i + 1 → i < length row → i < length vs
+    → bit_xor (bit_xor sum (product (get_or row i 0) (get_or vs i 0))) (combined (drop j row) (drop j vs)) ≡ bit_xor sum (combined (drop i row) (drop i vs))
+combined_next row vs i j sum e h l =
+    ap (λ n. bit_xor (bit_xor sum (product (get_or row i 0) (get_or vs i 0))) (combined (drop n row) (drop n vs))) e
+    ∙ combined_goes_on row vs i sum h l
+
+-- four summands at once
+four_apart : (sum p q r s : ℕ) → bit_xor sum (bit_xor (bit_xor (bit_xor p q) r) s) ≡ bit_xor (bit_xor (bit_xor (bit_xor sum p) q) r) s
+four_apart sum p q r s =
+    sym (xor_assoc sum (bit_xor (bit_xor p q) r) s)
+    ∙ ap (λ n. bit_xor n s)
+    (sym (xor_assoc sum (bit_xor p q) r) ∙ ap (λ n. bit_xor n r) (sym (xor_assoc sum p q)))
+
+combined_four : (row vs : List ℕ) (i sum : ℕ) → i + 4 ≤ length row → length row ≡ length vs
+    → bit_xor (bit_xor sum (bit_xor (bit_xor (bit_xor (product (get_or row i 0) (get_or vs i 0)) (product (get_or row (i + 1) 0) (get_or vs (i + 1) 0)))
+    (product (get_or row (i + 2) 0) (get_or vs (i + 2) 0))) (product (get_or row (i + 3) 0) (get_or vs (i + 3) 0)))) (combined (drop (i + 4) row) (drop (i + 4) vs))
+    ≡ bit_xor sum (combined (drop i row) (drop i vs))
+combined_four row vs i sum h same =
+    let p : ℕ = product (get_or row i 0) (get_or vs i 0) in
+    let q : ℕ = product (get_or row (i + 1) 0) (get_or vs (i + 1) 0) in
+    let r : ℕ = product (get_or row (i + 2) 0) (get_or vs (i + 2) 0) in
+    let s : ℕ = product (get_or row (i + 3) 0) (get_or vs (i + 3) 0) in
+    ap (λ n. bit_xor n (combined (drop (i + 4) row) (drop (i + 4) vs))) (four_apart sum p q r s)
+    ∙ combined_next row vs (i + 3) (i + 4) (bit_xor (bit_xor (bit_xor sum p) q) r) (omega arith) (omega arith) (omega arith)
+    ∙ combined_next row vs (i + 2) (i + 3) (bit_xor (bit_xor sum p) q) (omega arith) (omega arith) (omega arith)
+    ∙ combined_next row vs (i + 1) (i + 2) (bit_xor sum p) (omega arith) (omega arith) (omega arith)
+    ∙ combined_next row vs i (i + 1) sum (omega arith) (omega arith) (omega arith)
+
+alike : (p q r s p' q' r' s' : ℕ) → p ≡ p' → q ≡ q' → r ≡ r' → s ≡ s' → bit_xor (bit_xor (bit_xor p q) r) s ≡ bit_xor (bit_xor (bit_xor p' q') r') s'
+alike p q r s p' q' r' s' a b c d = cc
+
+-- a symbol lies within k symbols
+pub within_symbols : (k j size len : ℕ) → j < k → k * size ≤ len → j * size + size ≤ len
+within_symbols k j size len lt fits =
+    let m : (j + 1) * size ≤ k * size = mul-le-mul_right size (omega arith) in
+    omega (arith, fits, m)
+
+-- the octets of symbol i
+abbrev pub IsAt : List ℕ → ℕ → ℕ → List ℕ → Type 0
+IsAt symbols size i symbol = (t : ℕ) → t < size → get_or symbol t 0 ≡ get_or symbols (i * size + t) 0
+
+pub summed_four : (row symbols old : List ℕ) (size i : ℕ) (out next a b c d : List ℕ) → i + 4 ≤ length row
+    → ((t : ℕ) → t < size → get_or next t 0 ≡ bit_xor (get_or out t 0)
+    (four_products (get_or row i 0 ∷ get_or row (i + 1) 0 ∷ get_or row (i + 2) 0 ∷ get_or row (i + 3) 0 ∷ []) a b c d t))
+    → IsAt symbols size i a → IsAt symbols size (i + 1) b → IsAt symbols size (i + 2) c → IsAt symbols size (i + 3) d
+    → IsSummed row symbols old size i out → IsSummed row symbols old size (i + 4) next
+summed_four row symbols old size i out next a b c d h next_e a_e b_e c_e d_e before t lt =
+    let vs : List ℕ = column (length row) size symbols t in
+    let rest : ℕ = combined (drop (i + 4) row) (drop (i + 4) vs) in
+    let sum : ℕ = get_or out t 0 in
+    let same : length row ≡ length vs = sym (length-column (length row) size symbols t) in
+    let v : ℕ → ℕ = λ m. product (get_or row m 0) (get_or vs m 0) in
+    let at : (m : ℕ) (xs : List ℕ) → m < length row → IsAt symbols size m xs → product (get_or row m 0) (get_or xs t 0) ≡ v m =
+    (λ m xs l e. ap (product (get_or row m 0)) (e t lt ∙ sym (get_or-column (length row) size symbols t m l))) in
+    ap (λ n. bit_xor n rest) (next_e t lt)
+    ∙ ap (λ n. bit_xor (bit_xor sum n) rest)
+    (alike (product (get_or row i 0) (get_or a t 0)) (product (get_or row (i + 1) 0) (get_or b t 0)) (product (get_or row (i + 2) 0) (get_or c t 0))
+    (product (get_or row (i + 3) 0) (get_or d t 0)) (v i) (v (i + 1)) (v (i + 2)) (v (i + 3))
+    (at i a (omega arith) a_e) (at (i + 1) b (omega arith) b_e) (at (i + 2) c (omega arith) c_e) (at (i + 3) d (omega arith) d_e))
+    ∙ combined_four row vs i sum h same
     ∙ before t lt
 
 -- the sum by the row of coefficients is the formula's value

@@ -14,7 +14,7 @@ ghost use Rattle.rs_block.specs.Row.{combined};
 
 use crate::interpolation::{place_of, position_of, put_coefficients, symbol_at};
 use crate::piece::{Piece, put_symbol};
-use gf_field::add_scaled;
+use gf_field::{add_four, add_scaled};
 use norm_base::SYMBOL_ROOM;
 
 /// Copies each symbol whose id is not its index to the same index of `aside`.
@@ -47,6 +47,24 @@ pub fn came_at<'a>(ids: &[u8], own: &'a [u8], aside: &'a [u8], size: usize, i: u
     symbol_at(aside, size, i)
 }
 
+/// Returns symbol `i` of those that came, as `came_at` does with the one at index `i` of the block.
+fn came<'a, P: Piece>(
+    ids: &[u8],
+    pieces: &'a [P],
+    aside: &'a [u8],
+    size: usize,
+    i: usize,
+) -> &'a [u8]
+    requires within { i < length ids.now }
+    requires symbols { P.are_symbols (length ids.now) size pieces.now }
+    requires room { length ids.now * size ≤ length aside.now }
+    ensures len { length result.now ≡ size }
+    ensures octets { (symbols : List ℕ) → LieIn size ids.now symbols (P.octets pieces.now) aside.now
+        → EachIndex result.now (λ t. slice_index result.now t ≡ slice_index symbols (i * size + t)) }
+{
+    came_at(ids, P::symbol(pieces, size, i), aside, size, i)
+}
+
 /// Adds the sum of the symbols that came, each times its coefficient, to `out`.
 fn add_all<P: Piece>(coefficients: &[u8], ids: &[u8], pieces: &[P], aside: &[u8], out: &mut [u8])
     requires count { length coefficients.now ≡ length ids.now }
@@ -58,9 +76,24 @@ fn add_all<P: Piece>(coefficients: &[u8], ids: &[u8], pieces: &[P], aside: &[u8]
         slice_index out.new t ≡ bit_xor (slice_index out.old t) (combined coefficients.now octets)) }
 {
     let size = out.len();
-    for (i, coefficient) in coefficients.iter().enumerate() {
-        let own = P::symbol(pieces, size, i);
-        add_scaled(out, came_at(ids, own, aside, size, i), *coefficient);
+    let mut i = 0;
+    while coefficients.len() - i >= 4 {
+        let first = came(ids, pieces, aside, size, i);
+        let second = came(ids, pieces, aside, size, i + 1);
+        let third = came(ids, pieces, aside, size, i + 2);
+        let fourth = came(ids, pieces, aside, size, i + 3);
+        let factors = [
+            coefficients[i],
+            coefficients[i + 1],
+            coefficients[i + 2],
+            coefficients[i + 3],
+        ];
+        add_four(out, first, second, third, fourth, factors);
+        i += 4;
+    }
+    while i < coefficients.len() {
+        add_scaled(out, came(ids, pieces, aside, size, i), coefficients[i]);
+        i += 1;
     }
 }
 

@@ -12,7 +12,7 @@ ghost use Rattle.rs_block.specs.Column.{column};
 ghost use Rattle.rs_block.specs.Points.{AreWeights, weight_at};
 ghost use Rattle.rs_block.specs.Row.{coefficients, combined};
 
-use gf_field::{add_scaled, alpha_log, alpha_pow};
+use gf_field::{add_four, add_scaled, alpha_log, alpha_pow};
 
 /// The order of alpha. Exponents with the same remainder by it give the same power.
 // RFC 5510 section 8.1: the powers of alpha are all octets except 0.
@@ -132,7 +132,19 @@ pub fn add_combined(row: &[u8], symbols: &[u8], out: &mut [u8])
         slice_index out.new t ≡ bit_xor (slice_index out.old t) (combined row.now octets)) }
 {
     let size = out.len();
-    for (i, entry) in row.iter().enumerate() {
-        add_scaled(out, symbol_at(symbols, size, i), *entry);
+    let mut i = 0;
+    // Four at a time, because each pass reads and writes `out`.
+    while row.len() - i >= 4 {
+        let first = symbol_at(symbols, size, i);
+        let second = symbol_at(symbols, size, i + 1);
+        let third = symbol_at(symbols, size, i + 2);
+        let fourth = symbol_at(symbols, size, i + 3);
+        let factors = [row[i], row[i + 1], row[i + 2], row[i + 3]];
+        add_four(out, first, second, third, fourth, factors);
+        i += 4;
+    }
+    while i < row.len() {
+        add_scaled(out, symbol_at(symbols, size, i), row[i]);
+        i += 1;
     }
 }

@@ -1,6 +1,6 @@
 //! Tests of `gf_field`: values of RFC 5510's field that were not computed by this code, and all products against products of polynomials.
 
-use gf_field::{add_scaled, alpha_log, alpha_pow, inv, mul};
+use gf_field::{add_four, add_scaled, alpha_log, alpha_pow, inv, mul};
 
 #[test]
 fn products_powers_and_inverses_are_those_of_the_field(rt: HostRuntime) {
@@ -105,6 +105,44 @@ fn each_octet_of_a_scaled_sum_is_the_sum_with_the_product(rt: HostRuntime) {
             let sums = scaled(&before, &octets, len, c);
             assert!(rt; sums[..len] == all[..len], "{len} octets times {c}");
             assert!(rt; sums[len..] == before[len..], "behind {len} octets");
+        }
+    }
+}
+
+/// Returns `before` after [`add_four`] added four sources, each times its factor, to its first `len` octets.
+fn four_added(
+    before: &[u8; 200],
+    sources: &[[u8; 200]; 4],
+    len: usize,
+    factors: [u8; 4],
+) -> [u8; 200] {
+    let mut sums = *before;
+    if len <= 200 {
+        let [a, b, c, d] = sources;
+        add_four(
+            &mut sums[..len],
+            &a[..len],
+            &b[..len],
+            &c[..len],
+            &d[..len],
+            factors,
+        );
+    }
+    sums
+}
+
+#[test]
+fn four_sources_at_once_add_as_much_as_one_after_the_other(rt: HostRuntime) {
+    let before = octets_of(91);
+    let sources = [octets_of(37), octets_of(53), octets_of(11), octets_of(201)];
+    for factors in [[0, 1, 2, 0x8e], [0x8e, 0xff, 0x03, 0x01]] {
+        for len in 0..=200usize {
+            let one = scaled(&before, &sources[0], len, factors[0]);
+            let two = scaled(&one, &sources[1], len, factors[1]);
+            let three = scaled(&two, &sources[2], len, factors[2]);
+            let all = scaled(&three, &sources[3], len, factors[3]);
+            let sums = four_added(&before, &sources, len, factors);
+            assert!(rt; sums[..] == all[..], "{len} octets");
         }
     }
 }
