@@ -21,7 +21,8 @@ use Rattle.norm_receive_rules.specs.declared.words.Fit.{Fit}
 use Rattle.norm_receive_rules.specs.declared.words.Fit.TheVariants as fit
 use Rattle.norm_receive_rules.specs.declared.words.Put.{Put}
 use Rattle.norm_receive_rules.specs.declared.words.Put.TheVariants as put
-use Rattle.norm_receive_rules.proofs.PassedLemmas.{new_found, taken_new, seen_found}
+use Rattle.norm_receive_rules.proofs.PassedLemmas.{new_found, taken_new}
+use Rattle.norm_receive_rules.proofs.PassedSteps.{seen_found}
 
 -- a symbol is behind the hand-up point; or its object's plan is known, and it is held or its block is done
 abbrev pub HasSymbol : Holding → Position → Type 0

@@ -17,7 +17,8 @@ use Rattle.norm_safety.specs.World.{World, world_opening, receiver_at, with_rece
 use Rattle.norm_safety.specs.WorldStep.{world_step, moved, node_move, receiver_move, run_from}
 use Rattle.norm_laws.specs.SentOnce.{IdleHasSent, IdleHasSources}
 use Rattle.norm_laws.proofs.GoneSent.{gone_none}
-use Rattle.norm_laws.proofs.SentLemmas.{SentSoFar, heard_so_far, told_so_far, command_so_far, tick_so_far, idle_so_far, sources_sent}
+use Rattle.norm_laws.proofs.SentLemmas.{SentSoFar, heard_so_far, told_so_far, command_so_far}
+use Rattle.norm_laws.proofs.SentTicks.{tick_so_far, idle_so_far, sources_sent}
 
 -- what is kept of a sender
 pub record Kept (p : Settings) (s : SenderState) : Type 0 where

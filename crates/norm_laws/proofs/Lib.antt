@@ -3,6 +3,7 @@ pub mod WholeOrders
 pub mod StreamNew
 pub mod GoneSent
 pub mod SentLemmas
+pub mod SentTicks
 pub mod IdleRun
 pub mod CountSteps
 pub mod CountSender

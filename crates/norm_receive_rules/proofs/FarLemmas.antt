@@ -36,7 +36,8 @@ use Rattle.norm_receive_rules.specs.declared.words.Put.TheVariants as put
 use Rattle.norm_receive_rules.proofs.BesideLemmas.{one_hands}
 use Rattle.norm_receive_rules.proofs.HandUpLemmas.{index_of_found}
 use Rattle.norm_receive_rules.proofs.HoldingSteps.{HoldingIsKept, steps_keep}
-use Rattle.norm_receive_rules.proofs.PassedLemmas.{filter_few, many_ids, new_found, taken_new, unfit, or_false, both_true, seen_found, fitted_passed, seen_passed, symbol_passed, info_passed, value_there, one_passed, lost_passed, taken_passed}
+use Rattle.norm_receive_rules.proofs.PassedLemmas.{filter_few, many_ids, new_found, taken_new, unfit, or_false, both_true, fitted_passed, symbol_passed, info_passed}
+use Rattle.norm_receive_rules.proofs.PassedSteps.{seen_found, seen_passed, value_there, one_passed, lost_passed, taken_passed}
 
 clash : false ≡ true → ⊥
 clash e = cc

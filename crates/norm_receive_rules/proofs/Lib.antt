@@ -11,6 +11,7 @@ pub mod NackLemmas
 pub mod NeedLemmas
 pub mod OpenLemmas
 pub mod PassedLemmas
+pub mod PassedSteps
 pub mod SeenLemmas
 pub mod StepLemmas
 pub mod WantingLemmas

@@ -26,7 +26,8 @@ use Rattle.norm_receive_rules.specs.declared.words.Put.TheVariants as put
 use Rattle.norm_receive_rules.proofs.BesideLemmas.{handing_up, losing, taking}
 use Rattle.norm_receive_rules.proofs.HandUpLemmas.{index_of_found}
 use Rattle.norm_receive_rules.proofs.HoldingSteps.{HoldingIsKept, steps_keep}
-use Rattle.norm_receive_rules.proofs.PassedLemmas.{new_found, taken_new, seen_found, kept_new}
+use Rattle.norm_receive_rules.proofs.PassedLemmas.{new_found, taken_new, kept_new}
+use Rattle.norm_receive_rules.proofs.PassedSteps.{seen_found}
 
 clash : false ≡ true → ⊥
 clash e = cc

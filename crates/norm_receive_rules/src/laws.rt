@@ -45,7 +45,7 @@ pub fn beside()
 /// In the stream at the hand-up point, each block before the point's is done. In the point's own block, each symbol before the point is there, and
 /// none is the end.
 // Proof: a test that refuses what is joined finds what it found before.
-#[tactic(auto, using(crate::proofs::PassedLemmas::passed_laws))]
+#[tactic(auto, using(crate::proofs::PassedSteps::passed_laws))]
 pub fn passed()
     ensures { PassedLaws }
 {}

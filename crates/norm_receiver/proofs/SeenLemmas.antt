@@ -11,7 +11,7 @@ use Rattle.norm_receive_rules.specs.Putting.{put_by, put_info_by, put_info_of, p
 use Rattle.norm_receive_rules.specs.Seeing.{plan_seen, sees_block}
 use Rattle.norm_receive_rules.specs.declared.words.Put.{Put}
 use Rattle.norm_receive_rules.specs.declared.words.Put.TheVariants as put
-use Rattle.norm_receive_rules.proofs.PassedLemmas.{seen_found}
+use Rattle.norm_receive_rules.proofs.PassedSteps.{seen_found}
 use Rattle.rx_hold.specs.EntryHold.{EntryHold, StandsFor as HoldStands}
 use Rattle.norm_receiver.specs.Receiving.{place_of, puts}
 use Rattle.norm_receiver.specs.declared.receiving.Brought.{Brought}

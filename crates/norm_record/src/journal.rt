@@ -114,7 +114,7 @@ impl Journal {
     }
 
     /// Returns hand-up `i` of all nodes, counted from 0 in the order of the events, with its node. `None` if there are no more.
-    // `normd` calls neither this nor `kept_ups`, `refused` or `expired`. They stay for programs that ask what became of a session.
+    // `normd` does not call this. It stays for programs that ask what became of a session.
     pub fn up(&self, i: u64) -> Option<(NodeId, &Up)>
         ensures { option_map (λ hand. (hand.0, hand.1.now)) result ≡ slice_get (handed_up self.now) i }
     {

@@ -63,7 +63,7 @@ use Rattle.norm_laws.proofs.IdleRun.{Kept}
 use Rattle.norm_laws.proofs.PassingRun.{HasAt, Passed}
 use Rattle.norm_laws.proofs.PassingTicks.{Sits as SenderSits, Same, Newer}
 use Rattle.norm_laws.proofs.PassingWords.{Got, Has}
-use Rattle.norm_laws.proofs.SentLemmas.{idle_so_far, sources_sent}
+use Rattle.norm_laws.proofs.SentTicks.{idle_so_far, sources_sent}
 use Rattle.norm_laws.proofs.WholeOrders.{AreWhole, WholeHolds, current_whole, event_whole}
 use Rattle.norm_recovery.specs.SteadyNothing.{NeedsNothing, AsksNothing, IsNoNack}
 use Rattle.norm_recovery.proofs.SteadyBefore.{SawHad, saw_later, order_on, before_moves, far_moves, flush_moves, saw_needs_none, none_needed}

@@ -10,7 +10,7 @@ use Rattle.norm_receive_rules.specs.Holding.{Holding, Plan}
 use Rattle.norm_receive_rules.specs.Plans.{plan_of, says_stream}
 use Rattle.norm_receive_rules.specs.HandingUp.{next_segment, handed_up}
 use Rattle.norm_receive_rules.specs.Losing.{loses_one, loses_before, is_cut_off, loses_at, squelched}
-use Rattle.norm_receive_rules.proofs.PassedLemmas.{lost_passed}
+use Rattle.norm_receive_rules.proofs.PassedSteps.{lost_passed}
 use Rattle.rx_hold.specs.EntryState.{EntryState, entry_of}
 use Rattle.rx_hold.specs.EntryHold.{EntryHold, StandsFor, at_place}
 use Rattle.rx_hold.specs.declared.entry.Entry.{Entry}

@@ -12,7 +12,7 @@ use Rattle.norm_receive_rules.specs.HandingUp.{after_object, after_segment, hand
 use Rattle.norm_receive_rules.specs.Holding.{Holding, Held}
 use Rattle.norm_receive_rules.specs.Laws.{HasPassed}
 use Rattle.norm_receive_rules.specs.Plans.{cut_of_plan}
-use Rattle.norm_receive_rules.proofs.PassedLemmas.{one_passed}
+use Rattle.norm_receive_rules.proofs.PassedSteps.{one_passed}
 use Rattle.rx_hold.specs.EntryState.{entry_of}
 use Rattle.rx_hold.specs.EntryHold.{EntryHold, StandsFor, at_place}
 use Rattle.rx_hold.specs.declared.entry.Entry.TheVariants as kinds

@@ -14,7 +14,8 @@ use Rattle.norm_receive_rules.specs.Plans.{is_over, says_stream}
 use Rattle.norm_receive_rules.specs.Putting.{info_before, with_info}
 use Rattle.norm_receive_rules.specs.Seeing.{plan_seen, sees_block}
 use Rattle.norm_receive_rules.specs.declared.words.Put.TheVariants as put
-use Rattle.norm_receive_rules.proofs.PassedLemmas.{info_passed, seen_passed}
+use Rattle.norm_receive_rules.proofs.PassedLemmas.{info_passed}
+use Rattle.norm_receive_rules.proofs.PassedSteps.{seen_passed}
 use Rattle.rx_hold.specs.EntryState.{EntryState, IsOfKind, entry_of, infos_in, with_seen}
 use Rattle.rx_hold.specs.EntryHold.{EntryHold, PlacedEntries, StandsFor, at_place, entries_there, entry_at}
 use Rattle.rx_hold.proofs.EntryRing.{alone_in, filter_joins, part_of, same_parts, with_part}

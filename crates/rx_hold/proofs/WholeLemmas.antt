@@ -4,7 +4,7 @@ use Rattle.std.specs.Prelude.{not, MatchOption}
 use Rattle.norm_order.specs.declared.up.Up.{Up}
 use Rattle.norm_receive_rules.specs.HandingUp.{hands_one, is_whole}
 use Rattle.norm_receive_rules.specs.Holding.{Holding}
-use Rattle.norm_receive_rules.proofs.PassedLemmas.{one_passed}
+use Rattle.norm_receive_rules.proofs.PassedSteps.{one_passed}
 use Rattle.norm_receive_rules.specs.Plans.{says_stream}
 use Rattle.rx_hold.specs.EntryState.{EntryState, entry_of}
 use Rattle.rx_hold.specs.EntryHold.{StandsFor, at_place}
