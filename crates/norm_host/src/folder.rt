@@ -120,6 +120,10 @@ fn fault_of(error: &io::Error) -> FileFault
 // Our own choice, 256 KiB. Without this a file would be opened, measured and read anew for each symbol.
 const AHEAD: usize = 262_144;
 
+/// A read of at least this many octets goes straight into the caller's buffer.
+// Our own choice: so large a read costs more by its copy than by its call, and what is read ahead of it would be read twice.
+const STRAIGHT: usize = 65_536;
+
 /// What the last read ahead found from an offset of a file on. No octets if the file had ended there.
 #[derive(Drop)]
 struct Ahead {
@@ -382,13 +386,33 @@ impl<F: fs::Files + Drop> FolderFiles<F> {
         }
     }
 
-    /// Reads at least one octet of a file, from an offset on, out of what was read ahead, or reads ahead from there. Fails with
-    /// `UnexpectedEof` at the end of the file.
+    /// Reads at least one octet of a file, from an offset on, straight into `buf`. Fails with `UnexpectedEof` at the end of the file, and if it
+    /// is no plain file.
+    fn read_straight(&self, name: &str, offset: u64, buf: &mut [u8]) -> io::Result<usize>
+        ensures count { IfOk result (λ n. (0 < n) × (n ≤ length buf.old)) }
+    {
+        let path = self.path_read(name)?;
+        self.plain_length(path.as_str())?;
+        let mut file = fs::open(&self.files, path.as_str())?;
+        seek_to(&mut file, offset)?;
+        let n = file.read(buf)?;
+        if n == 0 {
+            return Err(io::Error::from(ErrorKind::UnexpectedEof));
+        }
+        Ok(n)
+    }
+
+    /// Reads at least one octet of a file, from an offset on: straight into `buf` if it has room for [`STRAIGHT`], and else out of what was
+    /// read ahead, or it reads ahead from there. Fails with `UnexpectedEof` at the end of the file.
     fn read_of(&mut self, name: &str, offset: u64, buf: &mut [u8]) -> io::Result<usize>
         ensures count { IfOk result (λ n. (0 < n) × (n ≤ length buf.old)) }
         ensures faults { self.new.faults ≡ self.old.faults }
         ensures stopped { self.new.stopped ≡ self.old.stopped }
     {
+        if buf.len() >= STRAIGHT {
+            self.said = None;
+            return self.read_straight(name, offset, buf);
+        }
         if let Some(n) = self.give_ahead(name, offset, buf) {
             return Ok(n);
         }

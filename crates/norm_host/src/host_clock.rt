@@ -6,18 +6,21 @@ ghost use Rattle.norm_host.specs.Clocks.{first_reading, last_moment, first_with,
 
 use norm_base::{Clock, Moment};
 use std::time::{self, Duration};
+use udp_rules::{Lag, next_moment};
 
-/// A clock of std, in microseconds since its first reading. If a reading fails, it gives the last moment again, and 0 before the first.
-/// Contracts cannot rely on its moments.
+/// A clock of std, in microseconds since its first reading. If a reading fails, it gives the last moment again, and 0 before the first. With
+/// a [`Lag`] it may lag after an offer of a sender over sockets, as [`next_moment`] says. Contracts cannot rely on its moments.
 #[derive(Drop)]
 pub struct HostClock<C> {
     clock: C,
     start: Option<u64>,
     last: u64,
+    /// What a sender's network shares with it.
+    lag: Option<Lag>,
 }
 
 impl<C: time::Clock> HostClock<C> {
-    /// Returns a clock that reads this one at each `now`, of which the first that succeeds gives 0.
+    /// Returns a clock that reads this one at each `now`, of which the first that succeeds gives 0. It never lags.
     pub fn of(clock: C) -> HostClock<C>
         ensures first { first_reading result ≡ None }
         ensures moment { last_moment result ≡ 0 }
@@ -26,6 +29,35 @@ impl<C: time::Clock> HostClock<C> {
             clock,
             start: None,
             last: 0,
+            lag: None,
+        }
+    }
+
+    /// As [`of`](HostClock::of). It may lag by what a sender's network tells here.
+    pub fn lagging(clock: C, lag: Lag) -> HostClock<C>
+        ensures first { first_reading result ≡ None }
+        ensures moment { last_moment result ≡ 0 }
+    {
+        HostClock {
+            clock,
+            start: None,
+            last: 0,
+            lag: Some(lag),
+        }
+    }
+
+    /// Returns the gap of a sender that offered since the last moment.
+    fn gap(&self) -> Option<u64> {
+        match &self.lag {
+            Some(lag) => lag.gap(),
+            None => None,
+        }
+    }
+
+    /// Tells the network by how many microseconds the clock lags.
+    fn tell(&self, behind: u64) {
+        if let Some(lag) = &self.lag {
+            lag.note_behind(behind);
         }
     }
 
@@ -34,8 +66,7 @@ impl<C: time::Clock> HostClock<C> {
         micros_of(self.clock.monotonic().ok()?)
     }
 
-    /// Returns the moment of a reading: how far it lies after the first one, or 0 if it lies before that. Keeps the reading if it is the
-    /// first.
+    /// Returns how far a reading lies after the first one, or 0 if it lies before that. Keeps the reading if it is the first.
     fn since_first(&mut self, reading: u64) -> u64
         ensures start { first_reading self.new ≡ first_with (first_reading self.old) (Some reading) }
         ensures moment { result ≡ since_first (first_reading self.old) reading }
@@ -47,12 +78,14 @@ impl<C: time::Clock> HostClock<C> {
         reading.saturating_sub(start)
     }
 
-    /// Keeps the moment of a reading. `None` is one that failed: the last moment stays.
-    fn keep(&mut self, reading: Option<u64>)
-        ensures { Keeps self.old reading self.new }
+    /// Keeps the moment of a reading, which may lag by this gap. `None` is a reading that failed: the last moment stays.
+    fn keep(&mut self, gap: Option<u64>, reading: Option<u64>)
+        ensures { Keeps self.old gap reading self.new }
     {
         if let Some(reading) = reading {
-            self.last = self.since_first(reading);
+            let since = self.since_first(reading);
+            self.last = next_moment(gap, self.last, since);
+            self.tell(since.saturating_sub(self.last));
         }
     }
 }
@@ -70,10 +103,11 @@ impl<C: time::Clock> Clock for HostClock<C> {
 
     fn now(&mut self) -> Moment
         ensures moment { result ≡ last_moment self.new }
-        ensures reading { (reading : Option ℕ) × Keeps self.old reading self.new }
+        ensures reading { (gap : Option ℕ) × (reading : Option ℕ) × Keeps self.old gap reading self.new }
     {
+        let gap = self.gap();
         let reading = self.reading();
-        self.keep(reading);
+        self.keep(gap, reading);
         Moment(self.last)
     }
 }

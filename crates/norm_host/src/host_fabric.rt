@@ -18,7 +18,7 @@ use std::net::{Ipv4Addr, Net};
 use std::sync::Wait;
 use std::thread::Threads;
 use std::time::Clock;
-use udp_rules::{GroupNews, Misfit, PassesOver, TellsGroup};
+use udp_rules::{GroupNews, Lag, Misfit, PassesOver, TellsGroup};
 
 /// Closes the sockets of an earlier start, as [`UdpFabric::close`] does, and starts the network that the profile names. They stay closed
 /// also if the start fails.
@@ -118,6 +118,20 @@ impl<R: Net + Wait + Clock + Drop> HostFabric<R> {
         ensures { self.new ≡ self.old }
     {
         self.udp.join(address, port);
+    }
+
+    /// Returns a part of what a sender's network tells its clock, as [`UdpFabric::lag`] does.
+    ///
+    /// # Errors
+    ///
+    /// `Memory` if there are too many.
+    pub fn lag(&self) -> Result<Lag, Memory> {
+        self.udp.lag()
+    }
+
+    /// Returns how often it was said to a sender over sockets that no hub is there, as [`UdpFabric::refused`] does.
+    pub fn refused(&self) -> u64 {
+        self.udp.refused()
     }
 
     /// Waits until a thread has sent all that was offered, and returns why it could not, as [`UdpFabric::drain`] does. Call it before the

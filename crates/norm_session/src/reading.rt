@@ -21,7 +21,7 @@ ghost use Rattle.norm_session.specs.Stopping.{Stopped};
 
 use crate::commanding::{Gives, origin_of, waits_at};
 use crate::run::Run;
-use norm_base::{FileFault, Files, Memory, Moment, Notice, Octets, Origin, Profile, Sink, Text};
+use norm_base::{FileFault, Files, Memory, Moment, Notice, Octets, Origin, Sink, Text};
 use norm_journal::refusal_line;
 use norm_script::Line;
 use norm_send_rules::{Job, Receipt, SendFault};
@@ -218,17 +218,27 @@ fn job_of_file(alloc: Global, name: &str, octets: Option<Octets>) -> Result<Opti
     }
 }
 
-/// Reads a file that was begun, in pieces of at most one symbol. Returns the job for the journal if its octets are kept.
+/// The most octets of one read of a file.
+// Our own choice: one read for each symbol would cost a call of the system each, or a copy out of what was read ahead.
+const PIECE: u64 = 262_144;
+
+/// Returns how many octets the buffer for a file of this length has: as many as the file, and [`PIECE`] at most.
+fn room_for(len: u64) -> usize
+    ensures { 0 < result }
+{
+    // At least one, so that the reads of any file end.
+    len.min(PIECE).max(1) as usize
+}
+
+/// Reads a file that was begun, in pieces of at most [`PIECE`]. Returns the job for the journal if its octets are kept.
 fn read_job<D: Files>(
     alloc: Global,
     world: &mut World,
     files: &mut D,
     name: &str,
     len: u64,
-    e: u16,
     keeps: bool,
 ) -> Result<Option<Job>, SessionFault>
-    requires symbol { 0 < e }
     requires told { IsLength (D.contents files.old) name.now len }
     requires filling { IsFilling world.old name.now len [] }
     ensures same { D.contents files.new ≡ D.contents files.old }
@@ -237,7 +247,7 @@ fn read_job<D: Files>(
     ensures stops { IfErr result (λ fault. IsOfFile (D.contents files.old) name.now fault) }
     ensures cause { FilesCause result (D.fault_count files.old) (D.fault_count files.new) }
 {
-    let mut buf = vec![in alloc; 0u8; usize::from(e)]?;
+    let mut buf = vec![in alloc; 0u8; room_for(len)]?;
     let octets = read_all(alloc, world, files, name, len, &mut buf, keeps)?;
     let job = job_of_file(alloc, name, octets)?;
     Ok(job)
@@ -252,10 +262,8 @@ fn accept_file<D: Files>(
     name: &str,
     len: u64,
     now: Moment,
-    e: u16,
     keeps: bool,
 ) -> Result<FileGave, SessionFault>
-    requires symbol { 0 < e }
     requires told { IsLength (D.contents files.old) name.now len }
     requires filling { IsFilling world.old name.now len [] }
     ensures ready { IsReady world.new }
@@ -265,7 +273,7 @@ fn accept_file<D: Files>(
     ensures stops { IfErr result (λ fault. IsOfFile (D.contents files.old) name.now fault) }
     ensures cause { FilesCause result (D.fault_count files.old) (D.fault_count files.new) }
 {
-    match read_job(alloc, world, files, name, len, e, keeps) {
+    match read_job(alloc, world, files, name, len, keeps) {
         Ok(job) => {
             let receipt = world.end_file(by, now);
             Ok(FileGave::Accepted { job, receipt })
@@ -299,11 +307,9 @@ fn offer_file<D: Files>(
     name: &str,
     len: u64,
     now: Moment,
-    e: u16,
     keeps: bool,
 ) -> Result<FileGave, SessionFault>
     requires ready { IsReady world.old }
-    requires symbol { 0 < e }
     requires told { IsLength (D.contents files.old) name.now len }
     ensures ready { IsReady world.new }
     ensures profile { IfOk result (λ _. world.new.p ≡ world.old.p) }
@@ -314,16 +320,9 @@ fn offer_file<D: Files>(
 {
     let copy = Octets::of(Vec::from_slice(alloc, name.as_bytes())?);
     match world.begin_file(copy, len) {
-        Ok(()) => accept_file(alloc, world, files, by, name, len, now, e, keeps),
+        Ok(()) => accept_file(alloc, world, files, by, name, len, now, keeps),
         Err((back, fault)) => refusal_of(back, fault),
     }
-}
-
-/// The length of a symbol in octets, which is also the most that one read asks for.
-fn symbol_len(profile: &Profile) -> u16
-    ensures { 0 < result }
-{
-    profile.e
 }
 
 impl Run {
@@ -370,7 +369,6 @@ impl Run {
         let name = string_of(name)?;
         let by = origin_of(line);
         let instance = self.world.sender().instance();
-        let e = symbol_len(&self.profile);
         let keeps = self.journal.is_kept();
         let len = length_of(self.alloc, files, name.as_str())?;
         match offer_file(
@@ -381,7 +379,6 @@ impl Run {
             name.as_str(),
             len,
             self.now,
-            e,
             keeps,
         )? {
             FileGave::Accepted { job, receipt } => {

@@ -46,6 +46,10 @@ abbrev pub HearsAll : Settings → ℕ → Option Listener → Type 0
 HearsAll p node None = ⊤
 HearsAll p node (Some l) = (is_receiver p node ≡ true) × IsForAll l.address p.port
 
+-- A member alone whose socket is connected to the hub, so that it hears the hub alone, is the sender. A receiver hears sockets of other ports too.
+abbrev pub IsUplink : Settings → ℕ → Bool → Type 0
+IsUplink p node connected = connected ≡ true → node ≡ p.sender
+
 -- a datagram was sent, or is lost; any other error is a fault
 abbrev pub is_sent : Result ℕ Error → Bool
 is_sent (Ok n) = true

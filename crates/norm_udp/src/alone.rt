@@ -4,15 +4,19 @@ ghost use Rattle.std.specs.Prelude.{◌≡◌, ◌≤◌, [], true, false, lengt
 ghost use Rattle.norm_base.specs.Members.{is_node};
 ghost use Rattle.norm_base.specs.Sizes.{datagram_room};
 ghost use Rattle.norm_udp.specs.Failures.{is_sending};
-ghost use Rattle.norm_udp.specs.Joining.{HearsAll};
+ghost use Rattle.norm_udp.specs.Joining.{HearsAll, IsUplink};
 
 use crate::cause::SocketCause;
 use crate::joined::{LOOKS, Listener, looks_then};
 use crate::member::{Member, open_own};
+use crate::open_fault::OpenFault;
+use crate::poll::Polled;
+use crate::refusals::Refusals;
 use crate::sending_thread::SendingThread;
-use crate::socket::{MOST_PASSED, bind_shared, receive, send_to};
+use crate::socket::{MOST_PASSED, bind_shared, connect_up, receive, send_to, send_up};
 use crate::way::Way;
 use norm_base::{Datagram, NodeId, Profile};
+use std::alloc::Global;
 use std::net::{Net, SocketAddr};
 use std::sync::Wait;
 use std::time::Clock;
@@ -24,6 +28,9 @@ use udp_rules::{Answering, Listeners, Located, address_at, everyone_here, for_al
 pub(crate) struct Alone {
     member: Member,
     hub: SocketAddr,
+    /// Whether its socket is connected to the hub, and hears it alone.
+    pub(crate) is_connected: bool,
+    pub(crate) refused: Refusals,
     /// Whether a thread sends for it.
     by_thread: bool,
     /// `None` at a sender, and if the socket cannot be had: then the hub gets no answer, and sends copies.
@@ -39,15 +46,26 @@ fn hand_over<R: Wait + Clock>(
     thread: &SendingThread,
     member: &Member,
     hub: SocketAddr,
+    is_connected: bool,
+    refused: &Refusals,
 ) -> bool {
     if !thread.is_there() {
         return false;
     }
-    match member.socket.try_clone() {
-        Ok(socket) => thread.tell(rt, Way::Hub { socket, hub }),
-        // Without a second handle of the socket the node sends by itself.
-        Err(_) => false,
-    }
+    // Without a second handle of the socket, or of the count, the node sends by itself.
+    let Ok(socket) = member.socket.try_clone() else {
+        return false;
+    };
+    let Ok(refused) = refused.shared() else {
+        return false;
+    };
+    let way = Way::Hub {
+        socket,
+        hub,
+        is_connected,
+        refused,
+    };
+    thread.tell(rt, way)
 }
 
 /// Opens the socket of a receiver at the address where the hub sends to all. `None` at a sender, and if the system refuses it.
@@ -67,22 +85,28 @@ fn listen<R: Net>(rt: &R, profile: &Profile, node: NodeId) -> Option<Listener>
     }
 }
 
-/// Opens the sockets of a member alone.
+/// Opens the sockets of a member alone. That of a sender is connected to the hub, unless the system refuses it.
 pub(crate) fn open_alone<R: Net + Wait + Clock>(
     rt: &R,
+    alloc: Global,
     thread: &SendingThread,
     profile: &Profile,
     node: NodeId,
-) -> Result<Alone, SocketCause>
+) -> Result<Alone, OpenFault>
     requires { is_node profile.now node ≡ true }
+    ensures { IfOk result (λ alone. IsUplink profile.now node alone.is_connected) }
 {
     let hub = address_at(profile.port);
+    let refused = Refusals::new(alloc)?;
     let member = open_own(rt, profile, node)?;
     let is_sender = node.number() == profile.sender;
-    let by_thread = is_sender && hand_over(rt, thread, &member, hub);
+    let is_connected = connect_up(&member.socket, is_sender, hub);
+    let by_thread = is_sender && hand_over(rt, thread, &member, hub, is_connected, &refused);
     Ok(Alone {
         member,
         hub,
+        is_connected,
+        refused,
         by_thread,
         all: listen(rt, profile, node),
         answering: Answering::new(),
@@ -106,7 +130,7 @@ fn hear_all<R: Clock>(
     ensures err { OnErr result (into.new ≡ []) }
 {
     for _ in 0..MOST_PASSED {
-        if !receive(&all.socket, all.address, buffer, into)? {
+        if !receive(&all.socket, all.address, None, buffer, into)? {
             return Ok(false);
         }
         if !into.bytes().is_empty() {
@@ -134,7 +158,8 @@ impl Alone {
         ensures { IfErr result (λ cause. is_sending cause ≡ true) }
     {
         if !self.by_thread {
-            return send_to(&self.member.socket, bytes, self.hub);
+            let socket = &self.member.socket;
+            return send_up(socket, bytes, self.hub, self.is_connected, &self.refused);
         }
         thread.post(rt, from, Listeners::none(), bytes);
         Ok(())
@@ -153,10 +178,11 @@ impl Alone {
         ensures err { OnErr result (into.new ≡ []) }
     {
         let own = self.member.located.address;
+        let refused = Some(&self.refused);
         let Some(all) = &self.all else {
-            return receive(&self.member.socket, own, buffer, into);
+            return receive(&self.member.socket, own, refused, buffer, into);
         };
-        if is_own_first && receive(&self.member.socket, own, buffer, into)? {
+        if is_own_first && receive(&self.member.socket, own, refused, buffer, into)? {
             return Ok(true);
         }
         let answering = &mut self.answering;
@@ -166,7 +192,15 @@ impl Alone {
         if is_own_first {
             return Ok(false);
         }
-        receive(&self.member.socket, own, buffer, into)
+        receive(&self.member.socket, own, refused, buffer, into)
+    }
+
+    /// Adds the sockets that are read.
+    pub(crate) fn poll(&self, polled: &mut Polled) {
+        polled.add(&self.member.socket);
+        if let Some(all) = &self.all {
+            polled.add(&all.socket);
+        }
     }
 
     /// Takes the next datagram, and returns the member itself.

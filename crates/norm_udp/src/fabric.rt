@@ -8,11 +8,12 @@ ghost use Rattle.norm_udp.specs.Failures.{is_sending, tells_sending};
 ghost use Rattle.udp_rules.specs.Hearing.{heard_in};
 ghost use Rattle.udp_rules.specs.Misfits.{is_cut_off};
 ghost use Rattle.norm_udp.specs.Passing.{passed_by, misfit_by};
-ghost use Rattle.udp_rules.specs.Pausing.{is_answered};
+ghost use Rattle.udp_rules.specs.Pausing.{is_answered, is_idle, looked_if_due};
 ghost use Rattle.norm_udp.specs.Untold.{untold};
 
 use crate::cause::SocketCause;
 use crate::open_fault::OpenFault;
+use crate::poll::Woken;
 use crate::sending_thread::SendingThread;
 use crate::socket::{BUFFER, MOST_PASSED};
 use crate::sockets::{Open, open_for};
@@ -23,13 +24,16 @@ use std::sync::Wait;
 use std::thread;
 use std::time::{Clock, Duration};
 use udp_rules::{
-    Asked, GroupNews, Located, Misfit, Pace, PassesOver, Pause, Sieve, TellsGroup, moment,
-    sleep_since,
+    Asked, GroupNews, Lag, Located, Misfit, Pace, PassesOver, Pause, Sieve, TellsGroup, moment,
 };
 
-/// The most times that a sender looks again in one `take`, while its gap lasts.
-// Our own choice, so that the look ends even if the clock stands still. A millisecond has time for fewer calls of the system.
+/// The most times that a sender reads the clock in one `take`, while its gap lasts.
+// Our own choice, so that the wait ends even if the clock stands still. It lasts less than 60 microseconds, which have time for fewer.
 const MOST_LOOKS: u32 = 16_384;
+
+/// Microseconds of the sleep after a poll that ended for another reason than a datagram or its time.
+// Our own choice, as long as a poll that finds nothing.
+const POLL_FAILED: u64 = 1_000;
 
 /// Returns the gap between a node's datagrams in microseconds: the profile's for a sender alone, else 0.
 fn gap_of(profile: &Profile, local: &Local) -> u64 {
@@ -92,6 +96,8 @@ pub struct UdpFabric<R> {
     open: Open,
     sieve: Sieve,
     pace: Pace,
+    /// What a sender's clock shares with it.
+    lag: Lag,
     buffer: Vec<u8>,
     faults: u64,
     cause: Option<SocketCause>,
@@ -116,6 +122,7 @@ impl<R: Net + Wait + Clock + Drop> UdpFabric<R> {
             open: Open::Nothing,
             sieve: Sieve::open(),
             pace: Pace::new(0),
+            lag: Lag::new(alloc)?,
             buffer: vec![in alloc; 0u8; BUFFER]?,
             faults: 0,
             cause: None,
@@ -142,6 +149,15 @@ impl<R: Net + Wait + Clock + Drop> UdpFabric<R> {
         self.asked = Some(Asked { address, port });
     }
 
+    /// Returns a part of what this network tells the clock of a sender alone, and is told by it. A clock that has none does not lag.
+    ///
+    /// # Errors
+    ///
+    /// `Memory` if there are too many.
+    pub fn lag(&self) -> Result<Lag, Memory> {
+        self.lag.shared()
+    }
+
     /// Closes the node's sockets. A thread still sends what was offered before, and then closes its own; only after that is a sender's
     /// port free. If its lane stays full for some ten milliseconds it keeps them.
     pub fn close(&mut self)
@@ -153,6 +169,7 @@ impl<R: Net + Wait + Clock + Drop> UdpFabric<R> {
         self.thread.leave(&self.rt);
         self.open = Open::Nothing;
         self.sieve = Sieve::open();
+        self.lag.start(0);
     }
 
     /// Waits until a thread has sent all that was offered, for some seconds at most. Call it before the process ends, because its thread
@@ -161,6 +178,12 @@ impl<R: Net + Wait + Clock + Drop> UdpFabric<R> {
         ensures { tells_sending result ≡ true }
     {
         self.thread.drain(&self.rt)
+    }
+
+    /// Returns how many sends and receives of a sender alone said since its start that no hub is there. The datagrams are lost, and each call
+    /// went on. A datagram may be counted some time after it was sent, or with another one.
+    pub fn refused(&self) -> u64 {
+        self.open.refused()
     }
 
     /// Returns what the last failed call was about, apart from those for want of memory. `None` if there was none.
@@ -181,15 +204,15 @@ impl<R: Net + Wait + Clock + Drop> UdpFabric<R> {
         moment(&self.rt)
     }
 
-    /// Notes that a datagram is offered, and when if the node has a gap.
+    /// Notes that a datagram is offered, and when by a sender's own clock if the node has a gap.
     fn note_offer(&mut self)
         ensures { self.new.faults ≡ self.old.faults }
     {
         if self.pace.gap == 0 {
             self.pace.note_busy();
         } else {
-            let now = self.now();
-            self.pace.note_offer_at(now);
+            let offered = self.lag.note_offer(self.now());
+            self.pace.note_offer_at(offered);
         }
     }
 
@@ -210,8 +233,39 @@ impl<R: Net + Wait + Clock + Drop> UdpFabric<R> {
         )
     }
 
-    /// Looks until a datagram is there, and at most until this moment in microseconds of the clock or [`MOST_LOOKS`] times. If none came,
-    /// it notes that.
+    /// Looks as [`look`](UdpFabric::look) does if a look is due now, and notes it.
+    fn look_if_due(&mut self, now: u64, into: &mut Datagram) -> Result<Option<Located>, SocketCause>
+        requires { into.old ≡ [] }
+        ensures none { IfOk result (λ node. IfNone node (into.new ≡ [])) }
+        ensures err { OnErr result (into.new ≡ []) }
+        ensures pace { self.new.pace ≡ looked_if_due self.old.pace now }
+        ensures faults { self.new.faults ≡ self.old.faults }
+    {
+        if !self.pace.is_look_due(now) {
+            return Ok(None);
+        }
+        self.pace.note_look(now);
+        self.look(into)
+    }
+
+    /// Looks, at a sender with a gap only if that is due.
+    fn look_in_time(&mut self, into: &mut Datagram) -> Result<Option<Located>, SocketCause>
+        requires { into.old ≡ [] }
+        ensures none { IfOk result (λ node. IfNone node (into.new ≡ [])) }
+        ensures err { OnErr result (into.new ≡ []) }
+        ensures answered { is_answered self.new.pace ≡ is_answered self.old.pace }
+        ensures faults { self.new.faults ≡ self.old.faults }
+    {
+        // Only a sender reads the clock: a look is most of what another node does.
+        if self.pace.gap == 0 {
+            return self.look(into);
+        }
+        let now = self.now();
+        self.look_if_due(now, into)
+    }
+
+    /// Looks when that is due until a datagram is there, and at most until this moment in microseconds of the clock or for [`MOST_LOOKS`]
+    /// readings. If none came, it notes that.
     fn look_until(
         &mut self,
         until: u64,
@@ -228,7 +282,7 @@ impl<R: Net + Wait + Clock + Drop> UdpFabric<R> {
             if now >= until {
                 break;
             }
-            if let Some(found) = self.look(into)? {
+            if let Some(found) = self.look_if_due(now, into)? {
                 return Ok(Some(found));
             }
             now = self.now();
@@ -237,25 +291,58 @@ impl<R: Net + Wait + Clock + Drop> UdpFabric<R> {
         Ok(None)
     }
 
-    /// Sleeps, and looks once more. `last` is [`Pace::last`].
-    fn look_after_sleep(
+    /// Sleeps for this many microseconds.
+    fn sleep(&self, micros: u64) {
+        thread::sleep(&self.rt, Duration::from_micros(micros));
+    }
+
+    /// Sleeps a sender's gap out, and looks once if that is due. If nothing is there, it notes that.
+    fn look_after_rest(
         &mut self,
-        last: Option<u64>,
+        micros: u64,
         into: &mut Datagram,
     ) -> Result<Option<Located>, SocketCause>
         requires { into.old ≡ [] }
         ensures none { IfOk result (λ node. IfNone node (into.new ≡ [])) }
         ensures err { OnErr result (into.new ≡ []) }
-        ensures pace { self.new.pace ≡ self.old.pace }
+        ensures answered { IfOk result (λ node. IfNone node (is_answered self.new.pace ≡ true)) }
         ensures faults { self.new.faults ≡ self.old.faults }
     {
-        let micros = sleep_since(last, self.now());
-        thread::sleep(&self.rt, Duration::from_micros(micros));
-        self.look(into)
+        self.sleep(micros);
+        let now = self.now();
+        if let Some(found) = self.look_if_due(now, into)? {
+            return Ok(Some(found));
+        }
+        self.pace.note_empty(now);
+        Ok(None)
     }
 
-    /// After a look that found nothing, does what [`Pace::pause`] says: looks until a moment, sleeps and looks once, or does not look. If
-    /// it still finds nothing, it notes that, except after a sleep.
+    /// Waits in a poll, and looks once if a datagram is there. `now` is there for the clause alone.
+    fn look_by_poll(
+        &mut self,
+        now: u64,
+        into: &mut Datagram,
+    ) -> Result<Option<Located>, SocketCause>
+        requires empty { into.old ≡ [] }
+        requires idle { is_idle self.old.pace.last now ≡ true }
+        ensures none { IfOk result (λ node. IfNone node (into.new ≡ [])) }
+        ensures err { OnErr result (into.new ≡ []) }
+        ensures answered { is_answered self.new.pace ≡ is_answered self.old.pace }
+        ensures faults { self.new.faults ≡ self.old.faults }
+    {
+        match self.open.wait() {
+            Woken::ByTime => Ok(None),
+            Woken::ByDatagram => self.look_in_time(into),
+            Woken::ByError => {
+                // It may be so at each poll, and the node would take a whole processor.
+                self.sleep(POLL_FAILED);
+                self.look_in_time(into)
+            }
+        }
+    }
+
+    /// After a look that found nothing, does what [`Pace::pause`] says: waits until a sender's gap is over, polls or sleeps and looks once,
+    /// or does not look. If it still finds nothing, it notes that, except after a poll or a sleep of a node that has no gap to wait for.
     fn look_later(&mut self, into: &mut Datagram) -> Result<Option<Located>, SocketCause>
         requires { into.old ≡ [] }
         ensures none { IfOk result (λ node. IfNone node (into.new ≡ [])) }
@@ -263,14 +350,19 @@ impl<R: Net + Wait + Clock + Drop> UdpFabric<R> {
         ensures answered { IfOk result (λ node. IfNone node (is_answered self.new.pace ≡ true)) }
         ensures faults { self.new.faults ≡ self.old.faults }
     {
-        match self.pace.pause() {
+        let now = self.now();
+        match self.pace.pause(now) {
             Pause::Answer => {
-                let now = self.now();
                 self.pace.note_empty(now);
                 Ok(None)
             }
             Pause::Look(until) => self.look_until(until, into),
-            Pause::Sleep(last) => self.look_after_sleep(last, into),
+            Pause::Rest(micros) => self.look_after_rest(micros, into),
+            Pause::Poll => self.look_by_poll(now, into),
+            Pause::Sleep(micros) => {
+                self.sleep(micros);
+                self.look_in_time(into)
+            }
         }
     }
 
@@ -294,7 +386,7 @@ impl<R: Net + Wait + Clock + Drop> UdpFabric<R> {
         ensures faults { self.new.faults ≡ self.old.faults }
     {
         self.thread.check(&self.rt)?;
-        let mut found = self.look(into)?;
+        let mut found = self.look_in_time(into)?;
         if found.is_none() {
             found = self.look_later(into)?;
         }
@@ -317,7 +409,9 @@ impl<R: Net + Wait + Clock + Drop> Fabric for UdpFabric<R> {
         ensures cause { Counts self.old.faults self.new.faults (network_failed result) }
     {
         self.close();
-        self.pace = Pace::new(gap_of(profile, &local));
+        let gap = gap_of(profile, &local);
+        self.pace = Pace::new(gap);
+        self.lag.start(gap);
         self.sieve = Sieve::of(profile, &local);
         match open_for(
             &self.rt,

@@ -9,6 +9,7 @@ ghost use Rattle.norm_udp.specs.Ways.{nodes_of, copies};
 use crate::cause::SocketCause;
 use crate::member::{Member, open_everyone, open_way, send_copy};
 use crate::open_fault::OpenFault;
+use crate::poll::Polled;
 use crate::sending_thread::SendingThread;
 use crate::socket::{MOST_PASSED, bind_to_ask, receive_from, send_to};
 use crate::way::{Receivers, Way};
@@ -22,7 +23,7 @@ use udp_rules::{
 };
 
 /// The hub reads the clock on every look of this many.
-// Our own choice. Under load so many looks take less than a millisecond, and at rest some sixty, so that a question is asked in time.
+// Our own choice. Under load so many looks take less than a millisecond, and at rest some seventy, so that a question is asked in time.
 const LOOKS: u32 = 64;
 
 /// A hub's own socket, at the profile's port, and its sockets to receivers. It asks who listens, and neither a question nor an answer
@@ -187,6 +188,11 @@ impl Hub {
             send_to(&self.socket, &[], for_all_at(self.profile.port))?;
         }
         Ok(())
+    }
+
+    /// Adds the socket that is read.
+    pub(crate) fn poll(&self, polled: &mut Polled) {
+        polled.add(&self.socket);
     }
 
     /// Takes the next datagram, and returns the member that sent it.

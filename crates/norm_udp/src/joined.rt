@@ -10,6 +10,7 @@ ghost use Rattle.udp_rules.specs.Losses.{is_group_loss};
 
 use crate::cause::SocketCause;
 use crate::member::{Member, open_own};
+use crate::poll::Polled;
 use crate::socket::{MOST_PASSED, bind_shared, check_broadcast, receive_from};
 use norm_base::{Datagram, NodeId, Profile};
 use std::io;
@@ -272,6 +273,15 @@ impl Joined {
         let done = self.feedback.socket.send_to(bytes, self.to);
         self.news.unsent = unsent_then(self.news.unsent, &done, self.to);
         sent(done, self.to)
+    }
+
+    /// Adds the sockets that are read.
+    // Not the member's own: a stranger's datagram there would end each wait at once, since nobody takes it.
+    pub(crate) fn poll(&self, polled: &mut Polled) {
+        polled.add(&self.feedback.socket);
+        if let Some(offers) = &self.offers {
+            polled.add(&offers.socket);
+        }
     }
 
     /// Takes the next datagram of another member, and returns this one. `None` if it found none. One may still be there after

@@ -4,6 +4,7 @@ ghost use Rattle.std.specs.Prelude.{◌≡◌, [], true, false, IfOk, IfErr, IfN
 ghost use Rattle.norm_udp.specs.Failures.{is_sending};
 
 use crate::cause::SocketCause;
+use crate::refusals::Refusals;
 use libc::EACCES;
 use libc::net::{
     AF_INET, SO_RCVBUF, SO_REUSEPORT, SOCK_CLOEXEC, SOCK_DGRAM, SOCK_NONBLOCK, SOL_SOCKET,
@@ -212,6 +213,55 @@ pub(crate) fn send(socket: &UdpSocket, bytes: &[u8], address: SocketAddr) -> Res
     sent(socket.send(bytes), address)
 }
 
+/// Connects a sender's socket to its hub, and nobody else's. Returns whether it did.
+// A receiver hears its hub through sockets of other ports too, and a connected socket hears one port alone.
+pub(crate) fn connect_up(socket: &UdpSocket, is_sender: bool, hub: SocketAddr) -> bool
+    ensures { result ≡ true → is_sender ≡ true }
+{
+    is_sender && socket.connect(hub).is_ok()
+}
+
+/// Sends a datagram to the hub, through a socket that may be connected to it.
+fn send_through(
+    socket: &UdpSocket,
+    bytes: &[u8],
+    hub: SocketAddr,
+    is_connected: bool,
+) -> io::Result<usize> {
+    if is_connected {
+        return socket.send(bytes);
+    }
+    socket.send_to(bytes, hub)
+}
+
+/// Whether a send said that no hub is there. Counts it if so.
+fn was_refused(refused: &Refusals, done: &io::Result<usize>) -> bool {
+    match done {
+        Ok(_) => false,
+        Err(error) => refused.note(error),
+    }
+}
+
+/// Sends a datagram to the hub, through a socket that may be connected to it. It is no error if it gets lost.
+pub(crate) fn send_up(
+    socket: &UdpSocket,
+    bytes: &[u8],
+    hub: SocketAddr,
+    is_connected: bool,
+    refused: &Refusals,
+) -> Result<(), SocketCause>
+    ensures { IfErr result (λ cause. is_sending cause ≡ true) }
+{
+    let done = send_through(socket, bytes, hub, is_connected);
+    if !was_refused(refused, &done) {
+        return sent(done, hub);
+    }
+    // The system speaks of an earlier datagram, and did not send this one. The hub may be there by now.
+    let again = send_through(socket, bytes, hub, is_connected);
+    let _ = was_refused(refused, &again);
+    sent(again, hub)
+}
+
 /// Puts a received datagram into `into`, unless it is longer than one may be. Returns whether it did.
 fn put(received: &[u8], into: &mut Datagram) -> bool
     requires { into.old ≡ [] }
@@ -222,6 +272,13 @@ fn put(received: &[u8], into: &mut Datagram) -> bool
     }
     into.push(received);
     true
+}
+
+/// Counts an error that says that no hub is there, at a sender alone.
+fn note_refused(refused: Option<&Refusals>, error: &io::Error) {
+    if let Some(refused) = refused {
+        let _ = refused.note(error);
+    }
 }
 
 /// Returns `Ok` after a receive that failed only because nothing is there, or because a datagram was lost.
@@ -236,10 +293,11 @@ fn nothing_there(error: io::Error, own: SocketAddr) -> Result<(), SocketCause> {
 }
 
 /// Receives the next datagram, from wherever it came. `false` if nothing is there, if the system reports a loss, or after [`MOST_PASSED`]
-/// that are too long.
+/// that are too long. `refused` counts at a sender alone that no hub is there.
 pub(crate) fn receive(
     socket: &UdpSocket,
     own: SocketAddr,
+    refused: Option<&Refusals>,
     buffer: &mut [u8],
     into: &mut Datagram,
 ) -> Result<bool, SocketCause>
@@ -255,6 +313,7 @@ pub(crate) fn receive(
                 }
             }
             Err(error) => {
+                note_refused(refused, &error);
                 nothing_there(error, own)?;
                 return Ok(false);
             }

@@ -12,6 +12,7 @@ use crate::hub::{Hub, open_hub};
 use crate::joined::{Joined, join};
 use crate::member::{Member, open_own, send_copy};
 use crate::open_fault::OpenFault;
+use crate::poll::{Polled, Woken};
 use crate::sending_thread::SendingThread;
 use crate::socket::receive;
 use norm_base::{Datagram, Local, NodeId, Profile};
@@ -69,6 +70,7 @@ fn open_all<R: Net>(rt: &R, alloc: Global, profile: &Profile) -> Result<Open, Op
 /// profile.
 fn open_one<R: Net + Wait + Clock>(
     rt: &R,
+    alloc: Global,
     thread: &SendingThread,
     asked: &Option<Asked>,
     profile: &Profile,
@@ -85,7 +87,7 @@ fn open_one<R: Net + Wait + Clock>(
         let joined = join(rt, &Group::of(asked, profile), profile, node)?;
         return Ok(Open::Group(joined));
     }
-    let alone = open_alone(rt, thread, profile, node)?;
+    let alone = open_alone(rt, alloc, thread, profile, node)?;
     Ok(Open::One(alone))
 }
 
@@ -100,7 +102,7 @@ pub(crate) fn open_for<R: Net + Wait + Clock>(
 ) -> Result<Open, OpenFault> {
     match local {
         Local::All => open_all(rt, alloc, profile),
-        Local::One(node) => open_one(rt, thread, asked, profile, node),
+        Local::One(node) => open_one(rt, alloc, thread, asked, profile, node),
         Local::Hub => {
             let hub = open_hub(rt, alloc, thread, profile)?;
             Ok(Open::Hub(hub))
@@ -160,7 +162,7 @@ fn look_among(
 {
     for _ in 0..members.len() {
         if let Some(member) = members.get(*place) {
-            if receive(&member.socket, member.located.address, buffer, into)? {
+            if receive(&member.socket, member.located.address, None, buffer, into)? {
                 return Ok(Some(member.located));
             }
         }
@@ -217,6 +219,31 @@ impl Open {
             Open::One(alone) => alone.look(rt, buffer, into),
             Open::Group(joined) => joined.look(rt, buffer, into),
             Open::Hub(hub) => hub.look(rt, buffer, into),
+        }
+    }
+
+    /// Waits until one of the sockets that are read has a datagram, for a millisecond at most.
+    pub(crate) fn wait(&self) -> Woken {
+        let mut polled = Polled::new();
+        match self {
+            Open::Nothing => {}
+            Open::All { members, .. } => {
+                for member in members {
+                    polled.add(&member.socket);
+                }
+            }
+            Open::One(alone) => alone.poll(&mut polled),
+            Open::Group(joined) => joined.poll(&mut polled),
+            Open::Hub(hub) => hub.poll(&mut polled),
+        }
+        polled.wait()
+    }
+
+    /// Returns how often it was said to a sender alone that no hub is there.
+    pub(crate) fn refused(&self) -> u64 {
+        match self {
+            Open::One(alone) => alone.refused.count(),
+            Open::Nothing | Open::All { .. } | Open::Group(_) | Open::Hub(_) => 0,
         }
     }
 

@@ -9,7 +9,8 @@ ghost use Rattle.udp_rules.specs.Listening.{is_broadcast};
 
 use crate::cause::SocketCause;
 use crate::member::{Everyone, Member, send_copy_through, send_to_everyone};
-use crate::socket::send_to;
+use crate::refusals::Refusals;
+use crate::socket::send_up;
 use norm_base::{NodeId, Profile};
 use std::net::{SocketAddr, UdpSocket};
 use udp_rules::{Listeners, gets_own_copy, is_broadcast};
@@ -40,7 +41,12 @@ pub(crate) enum Way {
     /// To a hub's receivers.
     Receivers(Receivers),
     /// From a sender's socket to the hub.
-    Hub { socket: UdpSocket, hub: SocketAddr },
+    Hub {
+        socket: UdpSocket,
+        hub: SocketAddr,
+        is_connected: bool,
+        refused: Refusals,
+    },
 }
 
 /// Sends a member's datagram to each of these receivers that gets a copy of its own, and stops at the first failure. A lost copy counts as
@@ -117,7 +123,12 @@ impl Way {
                 receivers.send(listeners, from, bytes)?;
                 Ok(())
             }
-            Way::Hub { socket, hub } => send_to(socket, bytes, *hub),
+            Way::Hub {
+                socket,
+                hub,
+                is_connected,
+                refused,
+            } => send_up(socket, bytes, *hub, *is_connected, refused),
         }
     }
 }

@@ -102,6 +102,15 @@ fn network<R: Net + Threads + Wait + Clock + Copy + Send + Drop + 'static>(
     Ok(fabric)
 }
 
+/// Returns the process's clock. If its network is that of a sender over sockets, it may lag, so that a sender that woke late catches up.
+fn clock_for<R: Net + Wait + Clock + Copy + Drop>(rt: R, fabric: &HostFabric<R>) -> HostClock<R> {
+    match fabric.lag() {
+        Ok(lag) => HostClock::lagging(rt, lag),
+        // Without it the sender is only slower.
+        Err(_) => HostClock::of(rt),
+    }
+}
+
 /// Makes the real objects, and runs the program on them. Its files are those of the folder that it runs in, and each profile whose path it is given.
 fn main(rt: HostRuntime) -> ExitCode {
     let alloc = rt.alloc();
@@ -129,7 +138,7 @@ fn main(rt: HostRuntime) -> ExitCode {
     let mut input = StdSource::of(rt.reader());
     let sink = StdSink::of(io::writer(&rt));
     let mut output = WatchedSink::of(rt, sink, says, &tally, numbers);
-    let mut clock = HostClock::of(rt);
+    let mut clock = clock_for(rt, fabric.watched());
     let code = run(
         &rt,
         alloc,

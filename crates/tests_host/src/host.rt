@@ -9,6 +9,7 @@ use std::fs;
 use std::io::{self, ErrorKind, Read, Write};
 use std::test::Fail;
 use std::time::{Clock, Duration};
+use udp_rules::Lag;
 
 /// The folder of the test.
 const FOLDER: &str = "norm_host_test";
@@ -93,6 +94,59 @@ fn compare_moments(alloc: Global, nanos: &[u64], wanted: &[u64]) -> Result<(), F
     Err(Fail::new(format_args!("{all:?}")))
 }
 
+/// Microseconds between the datagrams of a sender whose clock may lag.
+const GAP: u64 = 280;
+
+/// Readings of such a clock in nanoseconds, whether the sender offered before each, and the moments that are expected: of one that offers
+/// nothing, wakes late, wakes later than two milliseconds, wakes early, and offers once; and of a clock that falls, and then jumps an hour.
+const LAGS: [(&[u64], &[bool], &[u64]); 6] = [
+    (&[0, 5_000_000], &[false, false], &[0, 5_000]),
+    (
+        &[0, 300_000, 1_000_000, 1_050_000],
+        &[false, true, true, true],
+        &[0, 280, 560, 840],
+    ),
+    (
+        &[0, 10_000_000, 10_000_000],
+        &[false, true, true],
+        &[0, 8_000, 8_280],
+    ),
+    (&[0, 100_000], &[false, true], &[0, 100]),
+    (
+        &[0, 1_000_000, 1_001_000],
+        &[false, true, false],
+        &[0, 280, 1_001],
+    ),
+    (
+        &[10_000_000, 12_000_000, 500_000, 3_610_000_000_000],
+        &[false, true, true, true],
+        &[0, 280, 0, 3_609_988_000],
+    ),
+];
+
+/// Fails unless a sender's clock with these readings and offers gives these moments.
+fn compare_lags(alloc: Global, nanos: &[u64], offers: &[bool], wanted: &[u64]) -> Result<(), Fail> {
+    let lag = Lag::new(alloc)?;
+    lag.start(GAP);
+    let readings = Readings {
+        nanos,
+        next: Cell::new(0),
+    };
+    let mut clock = HostClock::lagging(readings, lag.shared()?);
+    let mut all = Vec::new(alloc);
+    for offered in offers {
+        if *offered {
+            lag.note_offer(0);
+        }
+        let one = moments(alloc, &mut clock, 1)?;
+        all.push(one.first().copied().unwrap_or(u64::MAX))?;
+    }
+    if all.as_slice() == wanted {
+        return Ok(());
+    }
+    Err(Fail::new(format_args!("{all:?}")))
+}
+
 /// A writer that takes octets, but fails at its second write.
 #[derive(Drop)]
 struct FailingWriter {
@@ -151,6 +205,14 @@ fn a_failed_flush_is_told(rt: HostRuntime) -> Result<(), Fail> {
 fn a_clock_tells_microseconds_since_it_was_first_asked(rt: HostRuntime) -> Result<(), Fail> {
     for (nanos, wanted) in READINGS {
         compare_moments(rt.alloc(), nanos, wanted)?;
+    }
+    Ok(())
+}
+
+#[test]
+fn a_sender_that_woke_late_catches_up(rt: HostRuntime) -> Result<(), Fail> {
+    for (nanos, offers, wanted) in LAGS {
+        compare_lags(rt.alloc(), nanos, offers, wanted)?;
     }
     Ok(())
 }

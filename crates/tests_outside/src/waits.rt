@@ -5,19 +5,25 @@ use norm_base::{Datagram, Fabric, FabricFault, FabricKind, Local, NodeId};
 use norm_udp::UdpFabric;
 use std::alloc::Global;
 use std::cell::Cell;
-use std::net::{Net, SocketAddr, UdpSocket};
+use std::net::{Ipv4Addr, Net, SocketAddr, SocketAddrV4, UdpSocket};
 use std::sync::Wait;
 use std::test::Fail;
 use std::time::{Clock, Duration};
 use std::{io, process};
 
-/// Microseconds of the longest take: a sleep of a millisecond, and the reading of the clock before it. The hub reads it once more, to ask.
-const LONGEST: u64 = 1_001;
+/// Microseconds of the longest take by a clock that only sleeps and readings move: a sleep of 250, and the reading before it. A node that was
+/// idle for ten milliseconds waits in a poll, which does not move this clock.
+const LONGEST: u64 = 251;
 
-const LONGEST_OF_HUB: u64 = 1_002;
+/// A sender sleeps its gap out, which is a millisecond here, and reads the clock after it.
+const LONGEST_OF_SENDER: u64 = 1_001;
 
-/// How many takes are measured in a row.
-const TAKES: u32 = 3;
+/// Microseconds of the shortest take of an idle node. It waits for a millisecond in a poll.
+const SHORTEST_IDLE: u128 = 900;
+
+/// How many takes are measured in a row. Two of them may find what a member offered to the others, and one answers at once that nothing is
+/// there.
+const TAKES: u32 = 4;
 
 /// A runtime whose clock advances by each sleep, and by a microsecond with each reading. No other time passes.
 #[derive(Clone, Copy, Drop)]
@@ -80,9 +86,9 @@ enum With {
 /// The members of a network, the member that offers between the takes, and the longest take.
 const ROWS: [(With, u32, u64); 4] = [
     (With::All, 1, LONGEST),
-    (With::One(1), 1, LONGEST),
+    (With::One(1), 1, LONGEST_OF_SENDER),
     (With::One(2), 2, LONGEST),
-    (With::Hub, 1, LONGEST_OF_HUB),
+    (With::Hub, 1, LONGEST),
 ];
 
 fn local_of(with: With) -> Option<Local> {
@@ -130,6 +136,32 @@ fn longest_of<F: Fabric>(
     Ok(before.max(after))
 }
 
+/// Takes twice from a network that nobody sends to. Returns the microseconds of the shorter take by the clock of the process.
+fn shortest_idle_take<R: Net + Wait + Clock + Copy + Drop>(
+    alloc: Global,
+    rt: R,
+    port: u16,
+    with: With,
+) -> Result<u128, Fail> {
+    let (Some(profile), Some(local)) = (profile_of(port, FabricKind::Udp, 2), local_of(with)) else {
+        return Err(Fail::new("no profile"));
+    };
+    let mut fabric = UdpFabric::new(alloc, rt)?;
+    fabric.start(&profile, local)?;
+    let mut into = Datagram::new(alloc)?;
+    let mut shortest = u128::MAX;
+    for _ in 0..2 {
+        let before = rt.monotonic()?.as_micros();
+        fabric.take(&mut into)?;
+        shortest = rt
+            .monotonic()?
+            .as_micros()
+            .saturating_sub(before)
+            .min(shortest);
+    }
+    Ok(shortest)
+}
+
 /// Fails unless the longest take of each row is as long as it says.
 fn compare_takes<R: Net + Wait + Clock + Copy + Drop>(
     alloc: Global,
@@ -151,8 +183,65 @@ fn compare_takes<R: Net + Wait + Clock + Copy + Drop>(
     Ok(())
 }
 
+/// Sends a stranger's datagram to a sender that has no hub, and offers one. Returns whether the sender took nothing, and noted that no hub is
+/// there.
+fn hears_hub_alone<R: Net + Wait + Clock + Copy + Drop>(
+    alloc: Global,
+    rt: R,
+    port: u16,
+) -> Result<bool, Fail> {
+    let here = Ipv4Addr::new(127, 0, 0, 1);
+    let (Some(profile), Some(node)) = (profile_of(port, FabricKind::Udp, 2), NodeId::of(1)) else {
+        return Err(Fail::new("no profile"));
+    };
+    let mut fabric = UdpFabric::new(alloc, rt)?;
+    fabric.start(&profile, Local::One(node))?;
+    let stranger = rt.bind_udp(SocketAddr::V4(SocketAddrV4::new(here, 0)))?;
+    stranger.send_to(
+        b"strange",
+        SocketAddr::V4(SocketAddrV4::new(here, port.wrapping_add(1))),
+    )?;
+    fabric.offer(node, b"a")?;
+    let mut into = Datagram::new(alloc)?;
+    for _ in 0..TAKES {
+        if fabric.take(&mut into)?.is_some() {
+            return Ok(false);
+        }
+    }
+    Ok(fabric.refused() > 0)
+}
+
+/// Fails unless a sender without a hub hears nobody, and says so.
+fn compare_alone<R: Net + Wait + Clock + Copy + Drop>(
+    alloc: Global,
+    rt: R,
+    port: u16,
+) -> Result<(), Fail> {
+    if hears_hub_alone(alloc, rt, port)? {
+        return Ok(());
+    }
+    Err(Fail::new("a sender without a hub"))
+}
+
+/// Fails unless an idle take of each row's members waits.
+fn compare_idle<R: Net + Wait + Clock + Copy + Drop>(
+    alloc: Global,
+    rt: R,
+    port: u16,
+) -> Result<(), Fail> {
+    for (with, _, _) in ROWS {
+        let shortest = shortest_idle_take(alloc, rt, port, with)?;
+        if shortest < SHORTEST_IDLE {
+            return Err(Fail::new(shortest));
+        }
+    }
+    Ok(())
+}
+
 #[test]
 fn a_take_waits_a_millisecond_at_most(rt: HostRuntime) -> Result<(), Fail> {
     let port = port_of(process::id(rt.process()), 31);
-    compare_takes(rt.alloc(), rt, port)
+    compare_takes(rt.alloc(), rt, port)?;
+    compare_idle(rt.alloc(), rt, port)?;
+    compare_alone(rt.alloc(), rt, port)
 }

@@ -75,6 +75,10 @@ impl Fails {
     }
 }
 
+/// The most octets of a file of zeros.
+// As many as the largest object has.
+const MOST_ZEROS: u64 = 16_777_216;
+
 /// A list of this number, or an empty one if there is none.
 pub(crate) fn numbers(alloc: Global, number: Option<u64>) -> Result<Vec<u64>, AllocError> {
     let mut numbers = Vec::new(alloc);
@@ -128,6 +132,7 @@ impl Call {
         match what {
             "words" => self.add_words(alloc, words),
             "file" => self.add_file(alloc, words),
+            "zeros" => self.add_zeros(alloc, words),
             "change" => self.change(alloc, words),
             "fail" => Ok(self.fail(words)),
             _ => Ok(false),
@@ -156,6 +161,20 @@ impl Call {
             return Ok(false);
         };
         self.files.push(file)?;
+        Ok(true)
+    }
+
+    /// Adds a file of zeros, at most [`MOST_ZEROS`]. Returns `false` if the line names none.
+    fn add_zeros(&mut self, alloc: Global, words: &mut Words<'_>) -> Result<bool, Fault> {
+        let Some(name) = words.word() else {
+            return Ok(false);
+        };
+        let name = String::from_str(alloc, name)?;
+        let Some(len) = words.number() else {
+            return Ok(false);
+        };
+        let len = len.min(MOST_ZEROS) as usize;
+        self.files.push((name, vec![in alloc; 0u8; len]?))?;
         Ok(true)
     }
 

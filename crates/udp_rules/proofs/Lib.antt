@@ -1,3 +1,4 @@
 pub mod AddressLemmas
 pub mod GroupLemmas
 pub mod ListeningLemmas
+pub mod PacingLemmas

@@ -1,6 +1,7 @@
 pub mod Addresses
 pub mod Groups
 pub mod Hearing
+pub mod Lagging
 pub mod Listening
 pub mod Losses
 pub mod Machines

@@ -6,6 +6,12 @@ is_loss None = false
 is_loss (Some (pos code)) = code == 11 || code == 105 || code == 111
 is_loss (Some (negsuc code)) = false
 
+-- it was refused: nobody is there
+abbrev pub is_refused : Option ℤ → Bool
+is_refused None = false
+is_refused (Some (pos code)) = code == 111
+is_refused (Some (negsuc code)) = false
+
 -- In a group, what shows that the network cannot be reached now is a lost datagram too: it is down (100), unreachable (101), or a host of it is (113).
 abbrev pub is_unreachable : Option ℤ → Bool
 is_unreachable None = false

@@ -9,6 +9,7 @@
 mod address;
 mod group;
 mod heard;
+mod lag;
 pub mod laws;
 mod listening;
 mod loss;
@@ -25,13 +26,14 @@ pub use crate::address::{
 };
 pub use crate::group::{Asked, Group};
 pub use crate::heard::{Heard, heard_in};
+pub use crate::lag::{Lag, next_moment};
 pub use crate::listening::{
     Answering, Listeners, Listening, Questions, gets_own_copy, is_broadcast,
 };
-pub use crate::loss::{is_loss, is_unreachable};
+pub use crate::loss::{is_loss, is_refused, is_unreachable};
 pub use crate::machine::{Machine, Machines, SecondMachine};
 pub use crate::misfit::{Difference, Misfit, Sizes};
 pub use crate::news::{GroupNews, TellsGroup, Unsent};
-pub use crate::pace::{Pace, Pause, moment, sleep_since};
+pub use crate::pace::{Pace, Pause, found_by_poll, moment, waited_by_poll};
 pub use crate::sieve::{PassesOver, Sieve};
 pub use crate::source::other_in;

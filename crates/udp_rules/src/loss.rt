@@ -2,7 +2,7 @@
 
 ghost use Rattle.std.specs.Prelude.{◌≡◌};
 ghost use Rattle.std.specs.IoError.{raw_os_error};
-ghost use Rattle.udp_rules.specs.Losses.{is_loss, is_unreachable};
+ghost use Rattle.udp_rules.specs.Losses.{is_loss, is_refused, is_unreachable};
 
 use libc::{EAGAIN, ECONNREFUSED};
 use std::io;
@@ -18,6 +18,16 @@ pub fn is_loss(error: &io::Error) -> bool
     match error.raw_os_error() {
         // NORM makes good what is lost, so a full buffer or a peer that has not started yet is no reason to end.
         Some(code) => code == EAGAIN || code == NO_BUFFERS || code == ECONNREFUSED,
+        None => false,
+    }
+}
+
+/// Whether an error says that nobody is at the address to which a datagram was sent.
+pub fn is_refused(error: &io::Error) -> bool
+    ensures { result ≡ is_refused (raw_os_error error.now) }
+{
+    match error.raw_os_error() {
+        Some(code) => code == ECONNREFUSED,
         None => false,
     }
 }
