@@ -832,6 +832,13 @@ NORMD_LOG=trace "$program" session <examples/hello.norm >"$scratch/out" 2>"$scra
 ended $? 'a session whose datagrams are traced' 0
 reason="offer 1 $hello\ntake 2 $hello\n"
 said 'a session whose datagrams are traced'
+
+# A record of the same session: each datagram once offered and once taken, and each line of the journal without the octets of the object.
+NORMD_LOG=record "$program" session <examples/hello.norm >"$scratch/out" 2>"$scratch/record"
+ended $? 'a session that is recorded' 0
+sed -E 's/^[0-9]+ //' "$scratch/record" | grep -v '^offer \|^take ' >"$scratch/err"
+sed -E 's/^(up [0-9]+ [0-9]+ [0-9]+ data [0-9]+) .*/\1/' "$scratch/out" >"$scratch/wanted"
+cmp -s "$scratch/wanted" "$scratch/err" || { echo 'program: the lines of a record differ from those of the journal'; exit 1; }
 printf 'turns = 1\n' >"$scratch/profile"
 
 # unsent LINE WHY INPUT: a script for `send` of which this line is the first without meaning.

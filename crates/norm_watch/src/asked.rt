@@ -1,6 +1,6 @@
 //! Whether to print progress and each datagram on standard error, by the environment and by which streams are terminals: [`asked_in`].
 
-use crate::saying::Says;
+use crate::saying::{Log, Says};
 use std::io::IsTerminal;
 use std::rt::Env;
 
@@ -14,8 +14,20 @@ fn has_value(rt: &impl Env, name: &str, value: &[u8]) -> bool {
     }
 }
 
+/// Returns what the environment asks to print of datagrams and lines of output.
+fn log_in(rt: &impl Env) -> Log {
+    if has_value(rt, "NORMD_LOG", b"trace") {
+        Log::Trace
+    } else if has_value(rt, "NORMD_LOG", b"record") {
+        Log::Record
+    } else {
+        Log::Off
+    }
+}
+
 /// Returns what to print. Progress: if standard error is a terminal, unless the environment has `NORMD_PROGRESS=0`; if it is none, only
-/// with `NORMD_PROGRESS=1`. Each datagram: with `NORMD_LOG=trace`. Warnings do not depend on it.
+/// with `NORMD_PROGRESS=1`. Each datagram: with `NORMD_LOG=trace`. Lines of output too, all with the clock's microseconds: with
+/// `NORMD_LOG=record`. Warnings do not depend on it.
 pub fn asked_in(rt: &HostRuntime) -> Says {
     let is_seen = rt.stderr().is_terminal();
     Says {
@@ -24,7 +36,7 @@ pub fn asked_in(rt: &HostRuntime) -> Says {
         } else {
             has_value(rt, "NORMD_PROGRESS", b"1")
         },
-        trace: has_value(rt, "NORMD_LOG", b"trace"),
+        log: log_in(rt),
         beside: is_seen && rt.stdout().is_terminal(),
     }
 }

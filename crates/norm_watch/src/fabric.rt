@@ -4,7 +4,7 @@ ghost use Rattle.std.specs.Prelude.{◌≡◌};
 ghost use Rattle.norm_watch.specs.Spending.{is_ended_by_turns, spent_by};
 ghost use Rattle.norm_watch.specs.Watched.{watched_by};
 
-use crate::saying::{Hex, Says, draw, wipe};
+use crate::saying::{Hex, Log, Says, draw, wipe};
 use crate::silence::Silence;
 use crate::stray::Strays;
 use crate::tally::Tally;
@@ -268,11 +268,19 @@ impl<'a, R: Eprint + Clock, F: Fabric + PassesOver + TellsGroup> WatchedFabric<'
 
     /// Says on a line what became of a datagram, its node and its octets, if each is to be said.
     fn trace(&self, what: &str, node: NodeId, octets: &[u8]) {
-        if self.says.trace {
-            let node = node.number();
-            let datagram = Hex { octets };
-            wipe(&self.rt, self.tally);
-            let _ = eprintln!(self.rt; "{what} {node} {datagram}");
+        let node = node.number();
+        let datagram = Hex { octets };
+        match self.says.log {
+            Log::Off => {}
+            Log::Trace => {
+                wipe(&self.rt, self.tally);
+                let _ = eprintln!(self.rt; "{what} {node} {datagram}");
+            }
+            Log::Record => {
+                wipe(&self.rt, self.tally);
+                let moment = udp_rules::moment(&self.rt);
+                let _ = eprintln!(self.rt; "{moment} {what} {node} {datagram}");
+            }
         }
     }
 

@@ -3,13 +3,25 @@
 use crate::tally::Tally;
 use std::fmt;
 
-/// Whether to print the line of progress and each datagram on standard error. [`asked_in`](crate::asked_in) makes it.
+/// What to print on standard error of datagrams and of lines of output.
+#[derive(Clone, Copy, Debug)]
+pub enum Log {
+    /// Nothing.
+    Off,
+    /// Each datagram that is offered or taken, in hexadecimal.
+    Trace,
+    /// The same, and each line of output without the contents of objects, after the clock's microseconds. So what several nodes of a machine
+    /// printed can be merged.
+    Record,
+}
+
+/// What to print on standard error, beside warnings. [`asked_in`](crate::asked_in) makes it.
 #[derive(Clone, Copy, Debug)]
 pub struct Says {
     /// At most once a second, how far a node alone over sockets is.
     pub progress: bool,
-    /// Each datagram that is offered or taken, in hexadecimal.
-    pub trace: bool,
+    /// Datagrams and lines of output.
+    pub log: Log,
     /// Whether lines of output go to a terminal too. If so, the line of progress is wiped before each.
     pub beside: bool,
 }

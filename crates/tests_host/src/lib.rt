@@ -14,3 +14,5 @@ mod instances;
 mod journal;
 #[cfg(test)]
 mod watch;
+#[cfg(test)]
+mod watch_rows;
