@@ -80,6 +80,21 @@ words() {
     row "the words $*" 2 "$usage\n" "$@"
 }
 
+# helps COMMAND WORD..: words that ask for help, and get the text of this command, or of the program if it is `COMMAND`: at most 24 lines of 79 letters.
+helps() {
+    command=$1
+    shift
+    : >"$scratch/in"
+    (cd "$files" && exec "$program" "$@") <"$scratch/in" >"$scratch/out" 2>"$scratch/err"
+    ended $? "the words $*" 2
+    printf '%s\n' "$usage" | cmp -s - "$scratch/out" || { echo "program: the words $* wrote"; cat "$scratch/out"; exit 1; }
+    if ! head -n 1 "$scratch/err" | grep -q "^usage: normd $command" || [ "$(wc -l <"$scratch/err")" -gt 24 ] || grep -q '.\{80\}' "$scratch/err"; then
+        echo "program: the words $* said"
+        cat "$scratch/err"
+        exit 1
+    fi
+}
+
 # digits N: that many digits 0.
 digits() {
     head -c "$1" /dev/zero | tr '\0' 0
@@ -142,7 +157,7 @@ hub_takes='hub takes one word, the path of a profile'
 recv_takes="recv takes two words, the path of a profile and a node, from 1 to 4294967294, and $group_takes, at most once"
 words "$send_takes" send
 words "$send_takes" send one two
-words "$send_takes" send one --help
+helps send send one --help
 words "$send_takes" send --instance 1
 words "$send_takes" send one --instance
 words "$send_takes" send one --instance=
@@ -167,7 +182,7 @@ words "$send_takes" send one --group 127.255.255.255:09999
 words "$send_takes" send one --group 255.255.255.255
 words "$send_takes" send one --group ::1
 words "$send_takes" send one --group 127.255.255.255 --group 127.255.255.255
-words "$hub_takes" hub --help
+helps hub hub --help
 words "$hub_takes" hub one --group 127.255.255.255
 words "$hub_takes" hub one --instance 1
 words "$recv_takes" recv profile
@@ -185,7 +200,7 @@ words "$gather_takes" gather a.toml 0
 words "$gather_takes" gather a.toml 02
 words "$gather_takes" gather a.toml two
 words "$gather_takes" gather none.toml 4294967295
-words "$gather_takes" gather a.toml 2 --help
+helps gather gather a.toml 2 --help
 words "$gather_takes" gather a.toml 2 --instance 1
 words "$gather_takes" gather a.toml 2 b.toml 3 c.toml 4 d.toml 5 e.toml 6 f.toml 7 g.toml 8 h.toml 9 i.toml 10
 relay_takes='relay takes three words, the path of the profile above, a node of it, from 1 to 4294967294, and the path of the profile below, and --instance I, from 0 to 65535, at most once'
@@ -198,10 +213,21 @@ words "$relay_takes" relay none.toml 4294967295 down.toml
 words "$relay_takes" relay up.toml two none.toml
 words "$relay_takes" relay up.toml 2 down.toml --instance 65536
 words "$relay_takes" relay --instance 1 up.toml 2 down.toml --instance 2
-words "$relay_takes" relay up.toml 2 down.toml --help
+helps relay relay up.toml 2 down.toml --help
 session_takes='session takes --chance N, from 0 to 4294967295, --turns N and --tail T, from 1 to 4000000, each at most once, and no other word'
 words "$session_takes" session now
-words "$session_takes" session --help
+for asks in --help -h help; do
+    helps COMMAND $asks
+    helps COMMAND normd $asks
+    for command in session show generate send recv hub gather relay mirror; do
+        helps $command $command $asks now
+    done
+done
+for command in '' session show generate send recv hub gather relay mirror; do
+    reason="$version\n"
+    # shellcheck disable=SC2086 # none, or one
+    row "the version $command" 2 "$usage\n" $command --version
+done
 words "$session_takes" session --turns 0
 words "$session_takes" session --turns 4000001
 words "$session_takes" session --chance 4294967296

@@ -7,6 +7,7 @@ use Rattle.norm_multi.specs.declared.multi.MultiFault.TheVariants as multi
 use Rattle.norm_script.specs.Sentences.{refusal_text}
 use Rattle.norm_show.specs.Sentences.{sentence_of_none}
 use Rattle.norm_endings.specs.MirrorReasons.{not_satisfied_reason}
+use Rattle.norm_endings.specs.Usage.{asks_help, asks_version, usage_for, version_text}
 use Rattle.relay_words.specs.Reasons.{relay_reason, event_reason, command_reason, relayed_reason, is_told}
 use Rattle.norm_endings.specs.declared.status.Ending.{Ending}
 use Rattle.norm_endings.specs.declared.status.Ending.TheVariants.{Memory, Words, Refused, Line, Event, Profile, TailRefused, Relayed, Command, Unsendable, NotAccepted, NotSatisfied, Unlike}
@@ -46,9 +47,9 @@ extra_reason word [] = []
 extra_reason word (extra ∷ others) = codes "the word " ++ (extra ++ (codes " is one too many behind " ++ word))
 
 -- why words are refused: the first is unknown, or what stands behind it is not what it takes
-abbrev pub words_reason : List (List ℕ) → List ℕ
-words_reason [] = codes "no word says what to do"
-words_reason (word ∷ others) =
+abbrev pub refused_reason : List (List ℕ) → List ℕ
+refused_reason [] = codes "no word says what to do"
+refused_reason (word ∷ others) =
     if pointwise nat_eq word (codes "session") then session_takes else
     (if pointwise nat_eq word (codes "generate") then generate_takes else
     (if pointwise nat_eq word (codes "show") then extra_reason word others else
@@ -58,6 +59,12 @@ words_reason (word ∷ others) =
     (if pointwise nat_eq word (codes "hub") then hub_takes else
     (if pointwise nat_eq word (codes "gather") then gather_takes else
     (if pointwise nat_eq word (codes "relay") then relay_takes else codes "the word " ++ (word ++ codes " is unknown")))))))))
+
+-- What is said of refused words: the usage text that they ask for, or the version, or why they are refused.
+abbrev pub words_reason : List (List ℕ) → List ℕ
+words_reason words =
+    if asks_help words then usage_for words else
+    (if asks_version words then version_text else refused_reason words)
 
 -- why a node is none of a profile's receivers, which are those from the first to the last
 abbrev pub node_reason : (node first last : ℕ) → List ℕ

@@ -9,6 +9,7 @@ mod mirror_reason;
 mod profiles;
 mod reason;
 mod status;
+mod usage;
 
 pub use crate::input::read_input;
 pub use crate::last_line::{end_session, refused_line, say, stop_session};

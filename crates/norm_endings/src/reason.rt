@@ -4,19 +4,20 @@
 ghost use Rattle.std.specs.Prelude.{◌≡◌, ◌∷◌, Some, map, string_bytes, Ok, Err, MatchResult};
 ghost use Rattle.std.specs.Fmt.{DisplaysOnOk};
 ghost use Rattle.std.specs.Process.{exit_status};
-ghost use Rattle.norm_endings.specs.Reasons.{extra_reason, words_reason, node_reason, members_reason, profile_reason, pace_reason, flushes_reason, no_tail_reason, has_reason, reason_of};
+ghost use Rattle.norm_endings.specs.Reasons.{extra_reason, refused_reason, words_reason, node_reason, members_reason, profile_reason, pace_reason, flushes_reason, no_tail_reason, has_reason, reason_of};
 ghost use Rattle.norm_endings.specs.StatusOf.{status_of};
 ghost use Rattle.norm_endings.specs.declared.status.Ending.TheVariants as ending;
 
 use crate::mirror_reason::{say_not_accepted, say_not_satisfied, say_unlike, say_unsendable};
 use crate::status::{Ending, NoTail, ProfileFault};
+use crate::usage::{asks_help, asks_version, say_usage};
 use norm_base::Memory;
 use norm_multi::MultiFault;
 use relay_words::{is_told, say_command, say_no_relay, say_relayed};
 use std::fmt;
 use std::process::ExitCode;
 
-// No command asks for it, so it stands beside the usage line. On standard error, because a clause fixes all that the output gets then.
+// Words that ask for it are refused words, which have the usage line on the output: a clause fixes all that the output gets then.
 const VERSION: &str = "normd 0.1.0";
 
 // Why words are refused is not kept, so each of these says all that its command takes. The bounds are those of `chance` and `turns`.
@@ -61,7 +62,7 @@ fn say_extra<W: fmt::Write>(word: &str, others: &[String], f: &mut fmt::Formatte
 /// Says why words are refused, of which `word` is the first. Looks at the others only for `show` and `mirror`: of any other command it says all that it takes,
 /// and of any other word that it is unknown.
 fn say_first<W: fmt::Write>(word: &str, others: &[String], f: &mut fmt::Formatter<W>) -> fmt::Result
-    ensures { DisplaysOnOk W.write_str_gives f.old result (Some (words_reason (word.now ∷ map string_bytes others.now))) f.new }
+    ensures { DisplaysOnOk W.write_str_gives f.old result (Some (refused_reason (word.now ∷ map string_bytes others.now))) f.new }
 {
     let octets = word.as_bytes();
     if octets == b"session".as_slice() {
@@ -94,14 +95,26 @@ fn say_first<W: fmt::Write>(word: &str, others: &[String], f: &mut fmt::Formatte
     write!(f, "the word {word} is unknown")
 }
 
-/// Says why words are refused. Call it only if they are.
-fn say_words<W: fmt::Write>(words: &[String], f: &mut fmt::Formatter<W>) -> fmt::Result
-    ensures { DisplaysOnOk W.write_str_gives f.old result (Some (words_reason (map string_bytes words.now))) f.new }
+fn say_refused<W: fmt::Write>(words: &[String], f: &mut fmt::Formatter<W>) -> fmt::Result
+    ensures { DisplaysOnOk W.write_str_gives f.old result (Some (refused_reason (map string_bytes words.now))) f.new }
 {
     match words {
         [] => f.write_str("no word says what to do"),
         [word, others @ ..] => say_first(word.as_str(), others, f),
     }
+}
+
+/// Says what refused words ask for, if it is help or the version, and else why they are refused. Call it only if they are.
+fn say_words<W: fmt::Write>(words: &[String], f: &mut fmt::Formatter<W>) -> fmt::Result
+    ensures { DisplaysOnOk W.write_str_gives f.old result (Some (words_reason (map string_bytes words.now))) f.new }
+{
+    if asks_help(words) {
+        return say_usage(words, f);
+    }
+    if asks_version(words) {
+        return f.write_str(VERSION);
+    }
+    say_refused(words, f)
 }
 
 fn say_node<W: fmt::Write>(
@@ -269,13 +282,13 @@ impl Ending {
 }
 
 /// Says on standard error why the program ended so, if [`has_reason`](Ending::has_reason) says that there is a reason to print, and nothing
-/// otherwise. If the words were refused, also names the program and its version.
+/// otherwise. If the words were refused, also names the program and its version, unless they ask for help.
 pub fn explain(rt: &impl Eprint, ending: &Ending, words: &[String]) {
     if ending.has_reason() {
         let reason = Reason { ending, words };
         let _ = eprintln!(rt; "{reason}");
     }
-    if matches!(ending, Ending::Words) {
+    if matches!(ending, Ending::Words) && !asks_help(words) && !asks_version(words) {
         let _ = eprintln!(rt; "{VERSION}");
     }
 }
