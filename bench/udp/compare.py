@@ -1,30 +1,39 @@
 #!/usr/bin/env python3
 """Transfers by normd and by uftp in turns, and how fast the slowest receiver was.
 
-compare.py [--program NORMD] [--size MIB] [--runs N] [--only RECEIVERS:LOSS ..] [--set KEY=VALUE ..] [--before NORMD PROFILES] [--group GAP ..] [--no-uftp]
+compare.py [--program NORMD] [--size MIB] [--runs N] [--only RECEIVERS:LOSS ..] [--set KEY=VALUE ..] [--before NORMD PROFILES] [--against NORMD]
+           [--copies] [--group GAP ..] [--beside N] [--no-uftp] [--no-chain]
+compare.py --paced [--against NORMD]       a file of 20 MiB to three receivers, with a gap of 280 microseconds, and again beside eight busy loops
+compare.py --lone [--against NORMD]        an object of 100 octets to one and to sixteen receivers, and what idle nodes take of a processor
 
-normd's nodes are processes on 127.0.0.1 with the profiles of examples/profiles, one for each row; --set changes keys of all. --before runs another
-program in the same turns, with the profiles of another folder, and --group this one as a group without a hub, with each of these gaps. The file
-goes as objects of 1 MiB with a watermark behind each window of sixteen or half of it (FROM_WATERMARK), with every line written to nothing. uftp's members have a network namespace
-each, joined by a bridge; its rate is swept once and its best is run. Files lie in memory (/dev/shm). MB/s is of 1,000,000 octets: normd's
-from the sender's start to the slowest receiver's last octet, uftp's by the time that it tells itself. Medians of the runs, with the least
-and greatest. With --no-uftp, and where uftp is not there, a bare copier of datagrams (copier.c) is run in its place, to 4 and 16 receivers without
-loss. Beside them: which processor time the hub took for a symbol, what its and a receiver's memory came to, and which part of a processor an idle
-node takes."""
+normd's nodes are processes on 127.0.0.1 with the profiles of examples/profiles, one for each row; --set changes keys of all. In the same turns
+run: another program with the same profiles by --against, or with those of another folder by --before; this program, with a hub that sends copies
+alone since another process keeps the address to which it broadcasts, by --copies; and this one as a group without a hub, with each gap of --group.
+The file goes as objects of 1 MiB with a watermark behind each window of sixteen or half of it (FROM_WATERMARK), with every line written to
+nothing. uftp's members have a network namespace each, joined by a bridge; its rate is swept once and its best is run, as is the gap of --copies.
+Rows without loss are compared with a source, a hub and receivers in C (chain.c) too, and those of 1 % with the same transfer without loss. Files
+lie in memory (/dev/shm). MB/s is of 1,000,000 octets: normd's from the sender's start to the slowest receiver's last octet, uftp's by the time that
+it tells itself. How many times as fast normd is: the median of the ratios of neighbouring runs, with the least and greatest. With --no-uftp, and
+where uftp is not there, a bare copier of datagrams (copier.c) is run in its place, to 4 and 16 receivers without loss. --beside runs so many busy
+loops all the while, at the usual priority. Beside them: which processor time hub and sender took for a symbol, what the memory of each node came
+to, and, of all rows and by --lone, which part of a processor an idle node takes."""
 from __future__ import annotations
 
 import argparse
 import hashlib
 import os
+import selectors
 import shutil
+import socket
 import statistics
 import subprocess
 import sys
 import tempfile
 import time
-from dataclasses import dataclass, field
+from contextlib import ExitStack, contextmanager
+from dataclasses import dataclass, field, replace
 from pathlib import Path
-from typing import Callable
+from typing import Callable, Iterator
 
 sys.dont_write_bytecode = True
 HERE = Path(__file__).resolve().parent
@@ -33,29 +42,59 @@ from subnet import Subnet  # noqa: E402
 
 PROFILES = HERE.parent.parent / 'examples/profiles'
 MIB = 1 << 20
-ROWS = {(1, 0): 'loopback', (4, 0): 'four', (16, 0): 'many', (1, 5): 'lossy', (4, 5): 'lossy-four', (16, 5): 'lossy-many'}
+ROWS = {(1, 0): 'loopback', (4, 0): 'four', (16, 0): 'many', (1, 1): 'loopback', (4, 1): 'four', (1, 5): 'lossy', (4, 5): 'lossy-four', (16, 5): 'lossy-many'}
 # How many objects stand before each watermark: a window of sixteen, or half of one, so that the next half goes while what a receiver lost comes again.
-FROM_WATERMARK = {(1, 0): 16, (4, 0): 8, (16, 0): 8, (1, 5): 8, (4, 5): 8, (16, 5): 8}
-WANTED = {(1, 0): 1.4, (4, 0): 1.25, (16, 0): 1.0, (1, 5): 1.6, (4, 5): 1.5, (16, 5): 1.25}
+FROM_WATERMARK = {(1, 0): 16, (4, 0): 8, (16, 0): 8, (1, 1): 8, (4, 1): 8, (1, 5): 8, (4, 5): 8, (16, 5): 8}
+# How many times as fast normd is to be: as uftp, as uftp while busy loops run, as a copier, as the chain in C, as a hub that sends copies alone, and
+# with 1 % lost as without loss.
+WANTED = {(1, 0): 2.0, (4, 0): 2.2, (16, 0): 1.9, (1, 5): 2.0, (4, 5): 1.7, (16, 5): 1.5}
+WANTED_BESIDE = 1.0
 WANTED_OF_COPIER = {(4, 0): 0.8, (16, 0): 0.8}
+WANTED_OF_CHAIN = 0.7
+WANTED_OF_COPIES = {(4, 0): 1.3, (16, 0): 2.0}
+WANTED_WITHOUT_LOSS = 0.95
+# Gaps for a hub that sends copies alone, by receivers. The best of them is run.
+GAPS_OF_COPIES = {4: ('3', '6', '9', '13'), 16: ('12', '18', '21', '38')}
 RATES = ('400000', '700000', '1000000', '2000000', '-1')
 SENDER, INSTANCE = 1, 1
-SYMBOL, COPIER_PORT, EVERYONE = 1400, 31000, '127.255.255.255'
+SYMBOL, COPIER_PORT, EVERYONE, PORT = 1400, 31000, '127.255.255.255', 20000
+PACED_RECEIVERS, PACED_SIZE, PACED_GAP, PACED_LOOPS = 3, 20, '280', 8
+LONE_RUNS, LONE_OCTETS = 11, 100
 
 
 @dataclass(frozen=True)
 class Way:
-    """A program, its profiles, and the gap of a group. With no gap its nodes are joined by a hub, with the profile's own."""
+    """A program, its profiles, and their gap if it is not their own. Its nodes are joined by a hub, which sends copies alone if they are crowded, or
+    they are a group. So many busy loops run beside them."""
     name: str
     program: str
     profiles: Path = PROFILES
     gap: str | None = None
+    is_group: bool = False
+    is_crowded: bool = False
+    loops: int = 0
 
     def words(self) -> list[str]:
-        return ['--group', EVERYONE] if self.gap else []
+        return ['--group', EVERYONE] if self.is_group else []
 
     def keys(self) -> dict[str, object]:
         return {'gap': self.gap} if self.gap else {}
+
+
+@dataclass(frozen=True)
+class Run:
+    """MB/s of the slowest receiver of a transfer, and the microseconds of a processor that hub and sender of normd took for a symbol."""
+    speed: float
+    hub: float | None = None
+    sender: float | None = None
+
+
+@dataclass(frozen=True)
+class Rival:
+    """What a row is compared with: a run of it, and how many times as fast normd is to be."""
+    name: str
+    run: Callable[[], Run | None]
+    wanted: float | None = None
 
 
 @dataclass
@@ -67,17 +106,26 @@ class Bench:
     limit: float
     keys: dict[str, str]
     room: Path
-    before: tuple[str, str] | None = None
+    others: tuple[Way, ...] = ()
     gaps: tuple[str, ...] = ()
+    with_copies: bool = False
+    with_uftp: bool = False
+    with_chain: bool = False
+    loops: int = 0
     digest: str = ''
-    memory: list[int] = field(default_factory=list)
-    hub_memory: list[int] = field(default_factory=list)
+    memory: dict[str, int] = field(default_factory=dict)
 
-    def ways(self, receivers: int, loss: float) -> list[Way]:
-        """The ways of a row, this program by a hub first. A group is compared without loss, and with more than one receiver."""
-        before = [Way('before', self.before[0], Path(self.before[1]))] if self.before else []
-        groups = [Way(f'a group with gap {gap}', self.program, gap=gap) for gap in self.gaps] if receivers > 1 and not loss else []
-        return [Way('normd', self.program), *before, *groups]
+    @property
+    def own(self) -> Way:
+        return Way('normd', self.program)
+
+    def ways(self, receivers: int, loss: int) -> list[Way]:
+        """The other ways of a row. A group is compared without loss, and with more than one receiver."""
+        groups = [Way(f'a group with gap {gap}', self.program, gap=gap, is_group=True) for gap in self.gaps] if receivers > 1 and not loss else []
+        return [*self.others, *([copies(self, receivers, loss)] if self.with_copies else []), *groups]
+
+    def took(self, role: str, memory: int) -> None:
+        self.memory[role] = max(memory, self.memory.get(role, 0))
 
     @property
     def source(self) -> Path:
@@ -91,8 +139,13 @@ class Bench:
     def copier(self) -> Path:
         return self.room / 'copier'
 
+    @property
+    def chain(self) -> Path:
+        return self.room / 'chain'
+
     def prepare(self) -> None:
-        subprocess.run(['cc', '-O2', '-o', self.copier, HERE / 'copier.c'], check=True)
+        for made in (self.copier, self.chain):
+            subprocess.run(['cc', '-O2', '-o', made, HERE / f'{made.name}.c'], check=True)
         subprocess.run(['cc', '-O2', '-shared', '-fPIC', '-o', self.library, HERE / 'rxloss.c', '-ldl'], check=True)
         with self.source.open('wb') as out:
             for _ in range(self.size):
@@ -125,60 +178,169 @@ def ended(processes: dict[object, subprocess.Popen]) -> dict[object, tuple[float
     return {name: (it.ru_utime + it.ru_stime, memory[name]) for name, it in used.items()}
 
 
-def normd(bench: Bench, receivers: int, loss: float, way: Way) -> tuple[float, float] | None:
-    """One transfer. Returns MB/s of the slowest receiver and the hub's microseconds for a symbol, or None where a copy is not the file."""
-    room = Path(tempfile.mkdtemp(prefix='normd-', dir=bench.room))
-    nodes = range(SENDER + 1, SENDER + 1 + receivers)
-    for name in ('hub', 'sender', *nodes):
-        (room / str(name)).mkdir()
-        (room / str(name) / 'profile.toml').write_text(profile_of(bench, ROWS[receivers, 5 if loss else 0], receivers, way.profiles, **way.keys()))
-    octets = bench.source.read_bytes()
-    script, step = '', FROM_WATERMARK[receivers, 5 if loss else 0]
-    for at in range(bench.size):
-        (room / 'sender' / f'p{at}').write_bytes(octets[at * MIB:(at + 1) * MIB])
-        script += f'1 file p{at}\n' + ('1 mark\n' if (at + 1) % step == 0 or at + 1 == bench.size else '')
-    running = {}
-
-    def start(name: object, words: list[str], **how) -> subprocess.Popen:
-        with open(room / f'{name}.log', 'wb') as log:
-            running[name] = subprocess.Popen([way.program, *words], cwd=room / str(name), stderr=log, **{'stdin': subprocess.DEVNULL, 'stdout': subprocess.DEVNULL, **how})
-        return running[name]
-
-    if not way.gap:
-        start('hub', ['hub', 'profile.toml'])
-    for node in nodes:
-        start(node, ['recv', 'profile.toml', str(node), *way.words()], env=bench.losing(loss))
-    time.sleep(0.5)
-    (room / 'script').write_text(script)
-    began = time.time()
-    with (room / 'script').open() as source:
-        sender = start('sender', ['send', 'profile.toml', *way.words()], stdin=source, env={**os.environ, 'XDG_STATE_HOME': str(room)})
+@contextmanager
+def busy(loops: int) -> Iterator[None]:
+    """So many busy loops at the usual priority. Each ends soon after this process does."""
+    loop = 'while kill -0 $PPID 2>/dev/null; do i=0; while [ $i -lt 100000 ]; do i=$((i + 1)); done; done'
+    usual = lambda: os.sched_setscheduler(0, os.SCHED_OTHER, os.sched_param(0))  # noqa: E731
+    running = [subprocess.Popen(['sh', '-c', loop], preexec_fn=usual) for _ in range(loops)]
     try:
-        sender.wait(timeout=bench.limit)
-    except subprocess.TimeoutExpired:
-        pass
-    used = ended({name: it for name, it in running.items() if name != 'sender'})
-    if sender.poll() is None:
-        sender.kill()
-        sender.wait()
-    bench.memory += [used[node][1] for node in nodes]
-    bench.hub_memory += [used['hub'][1]] if way.name == 'normd' else []
-    last, same = 0.0, 0
-    for node in nodes:
-        digest = hashlib.sha256()
-        for at in range(bench.size):
-            piece = room / str(node) / f'n{node}-i{INSTANCE}-x{at}'
-            if piece.exists():
-                last = max(last, piece.stat().st_mtime)
-                digest.update(piece.read_bytes())
-        same += digest.hexdigest() == bench.digest
-    if same < receivers or sender.returncode:
-        for name in running:
-            said = (room / f'{name}.log').read_text(errors='replace').strip()
+        yield
+    finally:
+        for it in running:
+            it.kill()
+            it.wait()
+
+
+@contextmanager
+def crowded_out(port: int) -> Iterator[None]:
+    """Nobody else can bind the port of the broadcast address: so no receiver listens there, and a hub sends copies alone."""
+    with socket.socket(socket.AF_INET, socket.SOCK_DGRAM) as it:
+        it.bind((EVERYONE, port))
+        yield
+
+
+class Nodes:
+    """The nodes of one run, each a process with a folder of its own in `room`, which is there within the block."""
+
+    def __init__(self, bench: Bench, name: str, receivers: int, way: Way, loss: int = 0, **keys: object):
+        self.bench, self.way, self.loss, self.running = bench, way, loss, {}
+        self.receivers = range(SENDER + 1, SENDER + 1 + receivers)
+        self.room = Path(tempfile.mkdtemp(prefix='normd-', dir=bench.room))
+        (self.room / 'profile.toml').write_text(profile_of(bench, name, receivers, way.profiles, **way.keys(), **keys))
+        self.around = ExitStack()
+
+    def __enter__(self) -> Nodes:
+        self.around.enter_context(busy(self.way.loops))
+        if self.way.is_crowded:
+            self.around.enter_context(crowded_out(int(self.bench.keys.get('port', PORT))))
+        return self
+
+    def __exit__(self, *error: object) -> None:
+        for it in self.running.values():
+            if it.returncode is None:
+                it.kill()
+                it.wait()
+        self.around.close()
+        shutil.rmtree(self.room)
+
+    def folder(self, name: object) -> Path:
+        (self.room / str(name)).mkdir(exist_ok=True)
+        return self.room / str(name)
+
+    def start(self, name: object, words: list[str], **how) -> subprocess.Popen:
+        nothing = {'stdin': subprocess.DEVNULL, 'stdout': subprocess.DEVNULL}
+        with open(self.room / f'{name}.log', 'wb') as log:
+            self.running[name] = subprocess.Popen([self.way.program, *words], cwd=self.folder(name), stderr=log, **{**nothing, **how})
+        return self.running[name]
+
+    def start_others(self, **how) -> None:
+        """Starts all but the sender, and waits until they are there."""
+        if not self.way.is_group:
+            self.start('hub', ['hub', '../profile.toml'])
+        for node in self.receivers:
+            self.start(node, ['recv', '../profile.toml', str(node), *self.way.words()], env=self.bench.losing(self.loss), **how)
+        time.sleep(0.5)
+
+    def send(self, script: str, **how) -> subprocess.Popen:
+        (self.room / 'script').write_text(script)
+        with (self.room / 'script').open() as source:
+            return self.start('sender', ['send', '../profile.toml', *self.way.words()], stdin=source, env={**os.environ, 'XDG_STATE_HOME': str(self.room)}, **how)
+
+    def wait(self, process: subprocess.Popen) -> tuple[float, int]:
+        """Waits until a node ended by itself, or too long. Returns the seconds of a processor and the octets of memory that it took."""
+        memory, end = 0, time.monotonic() + self.bench.limit
+        while time.monotonic() < end:
+            pid, status, used = os.wait4(process.pid, os.WNOHANG)
+            if pid:
+                process.returncode = os.waitstatus_to_exitcode(status)
+                return used.ru_utime + used.ru_stime, memory
+            memory = most_of(process, memory)
+            time.sleep(0.005)
+        process.kill()
+        process.wait()
+        return 0.0, memory
+
+    def end_others(self) -> dict[object, tuple[float, int]]:
+        return ended({name: it for name, it in self.running.items() if it.returncode is None})
+
+    def tell(self) -> None:
+        """Says what each node said."""
+        for name in self.running:
+            said = (self.room / f'{name}.log').read_text(errors='replace').strip()
             print(f'  node {name}: {said[-300:]}' if said else f'  node {name} said nothing', file=sys.stderr)
-    shutil.rmtree(room)
+
+    def last_of(self, node: int) -> float | None:
+        """When a receiver had the last octet. None if its copy is not the file."""
+        digest, last = hashlib.sha256(), 0.0
+        for at in range(self.bench.size):
+            piece = self.room / str(node) / f'n{node}-i{INSTANCE}-x{at}'
+            if not piece.exists():
+                return None
+            last = max(last, piece.stat().st_mtime)
+            digest.update(piece.read_bytes())
+        return last if digest.hexdigest() == self.bench.digest else None
+
+
+def most_of(process: subprocess.Popen, most: int) -> int:
+    """The most octets of memory that a process had, or those known before if it ends just now."""
+    try:
+        return memory_of(process)
+    except (OSError, StopIteration):
+        return most
+
+
+def file_script(bench: Bench, folder: Path, step: int) -> str:
+    """Puts the pieces of the file into the sender's folder, and returns the commands that send them."""
+    octets, script = bench.source.read_bytes(), ''
+    for at in range(bench.size):
+        (folder / f'p{at}').write_bytes(octets[at * MIB:(at + 1) * MIB])
+        script += f'1 file p{at}\n' + ('1 mark\n' if (at + 1) % step == 0 or at + 1 == bench.size else '')
+    return script
+
+
+def normd(bench: Bench, receivers: int, loss: int, way: Way) -> Run | None:
+    """One transfer. None if a copy is not the file."""
+    row = (receivers, loss) if (receivers, loss) in ROWS else (4, 0)
+    with Nodes(bench, ROWS[row], receivers, way, loss) as nodes:
+        script = file_script(bench, nodes.folder('sender'), FROM_WATERMARK[row])
+        nodes.start_others()
+        began = time.time()
+        sender = nodes.send(script)
+        took, memory = nodes.wait(sender)
+        used = nodes.end_others()
+        lasts = [nodes.last_of(node) for node in nodes.receivers]
+        if None in lasts or sender.returncode:
+            nodes.tell()
+        if way == bench.own:
+            bench.took('sender', memory)
+            bench.took('hub', used['hub'][1])
+            bench.took('receiver', max(used[node][1] for node in nodes.receivers))
+    if None in lasts:
+        return None
     symbols = bench.size * -(-MIB // SYMBOL)
-    return (bench.size * MIB / (last - began) / 1e6, 1e6 * used.get('hub', (0.0, 0))[0] / symbols) if same == receivers else None
+    return Run(bench.size * MIB / (max(lasts) - began) / 1e6, 1e6 * used.get('hub', (0.0, 0))[0] / symbols, 1e6 * took / symbols)
+
+
+def speed_of(run: Run | None) -> float | None:
+    return run and run.speed
+
+
+def only_speed(speed: float | None) -> Run | None:
+    return speed and Run(speed)
+
+
+def costs_said(runs: list[Run | None]) -> str:
+    """What nodes of normd took for a symbol."""
+    roles = {'hub': [it.hub for it in runs if it and it.hub], 'sender': [it.sender for it in runs if it and it.sender]}
+    said = ' and '.join(f'{role} {statistics.median(took):.1f}' for role, took in roles.items() if took)
+    return f', {said} microseconds a symbol' if said else ''
+
+
+def copies(bench: Bench, receivers: int, loss: int) -> Way:
+    """This program with a hub that sends copies alone, and the gap with which that is fastest."""
+    ways = [Way(f'a hub of copies with {gap or "its"} gap', bench.program, gap=gap, is_crowded=True) for gap in GAPS_OF_COPIES.get(receivers, (None,))]
+    return ways[0] if len(ways) == 1 else max(ways, key=lambda way: speed_of(normd(bench, receivers, loss, way)) or 0)
 
 
 def uftp(bench: Bench, receivers: int, loss: float, rate: str, wires: list[int] | None = None) -> float | None:
@@ -238,91 +400,177 @@ def copied(bench: Bench, receivers: int) -> float | None:
             it.wait()
 
 
-def said_of(figures: list[float | None]) -> str:
+def chained(bench: Bench, receivers: int) -> float | None:
+    """One run of the source, hub and receivers in C. Returns MB/s of the slowest receiver, where each datagram brings a symbol."""
+    number = bench.size * MIB // SYMBOL + 1
+    said = subprocess.run([bench.chain, str(receivers), str(number)], stdin=subprocess.DEVNULL, stdout=subprocess.PIPE, text=True).stdout
+    return 1000 * SYMBOL * number / int(said) if said else None
+
+
+def said_of(figures: list[float | None], digits: int = 1) -> str:
     whole = [it for it in figures if it is not None]
     failed = f', {len(figures) - len(whole)} failed' if len(whole) < len(figures) else ''
-    return f'{statistics.median(whole):.1f} ({min(whole):.1f} to {max(whole):.1f}{failed})' if whole else 'none came through'
+    return f'{statistics.median(whole):.{digits}f} ({min(whole):.{digits}f} to {max(whole):.{digits}f}{failed})' if whole else 'none came through'
 
 
-def hub_said(runs: list[tuple[float, float] | None]) -> str:
-    took = [it[1] for it in runs if it is not None]
-    return f', the hub {statistics.median(took):.1f} microseconds a symbol' if took else ''
+def times_of(ours: list[float | None], theirs: list[float | None]) -> list[float | None]:
+    """How many times as fast normd is, by each pair of neighbouring runs."""
+    return [one / other if one and other else None for one, other in zip(ours, theirs)]
 
 
-def share_of(ours: list[float | None], others: list[float | None]) -> float:
-    """How many times as fast normd is."""
-    whole = [[it for it in part if it is not None] for part in (ours, others)]
-    return statistics.median(whole[0]) / statistics.median(whole[1]) if all(whole) else 0
+def against(rival: Rival, ours: list[float | None], runs: list[Run | None]) -> str:
+    theirs, wanted = [speed_of(it) for it in runs], f', wanted {rival.wanted}' if rival.wanted else ''
+    return f'; {rival.name} {said_of(theirs)}{costs_said(runs)}, {said_of(times_of(ours, theirs), 2)} times{wanted}'
 
 
-def peer_of(bench: Bench, receivers: int, loss: int, with_uftp: bool) -> tuple[str, Callable[[], float | None], float] | None:
-    """What a row is compared with: its name, a run of it, and how many times as fast normd is to be."""
-    if with_uftp:
+def rivals_of(bench: Bench, receivers: int, loss: int) -> list[Rival]:
+    """What a row is compared with."""
+    rivals = []
+    for way in bench.ways(receivers, loss):
+        wanted = WANTED_OF_COPIES.get((receivers, loss)) if way.is_crowded else None
+        rivals.append(Rival(way.name, lambda way=way: normd(bench, receivers, loss, way), wanted))
+    if loss == 1:
+        return [*rivals, Rival('without loss', lambda: normd(bench, receivers, 0, bench.own), WANTED_WITHOUT_LOSS)]
+    if bench.with_chain and not loss:
+        rivals.append(Rival('the chain in C', lambda: only_speed(chained(bench, receivers)), WANTED_OF_CHAIN))
+    if bench.with_uftp:
         rate = best_rate(bench, receivers, loss)
-        return f'uftp at {rate}', lambda: uftp(bench, receivers, loss, rate), WANTED[receivers, loss]
-    if (receivers, loss) in WANTED_OF_COPIER:
-        return 'a bare copier', lambda: copied(bench, receivers), WANTED_OF_COPIER[receivers, loss]
+        rivals.append(Rival(f'uftp at {rate}', lambda: only_speed(uftp(bench, receivers, loss, rate)), WANTED_BESIDE if bench.loops else WANTED[receivers, loss]))
+    elif (receivers, loss) in WANTED_OF_COPIER:
+        rivals.append(Rival('a bare copier', lambda: only_speed(copied(bench, receivers)), WANTED_OF_COPIER[receivers, loss]))
+    return rivals
+
+
+def row(bench: Bench, receivers: int, loss: int) -> None:
+    rivals = rivals_of(bench, receivers, loss)
+    ours: list[Run | None] = []
+    theirs: list[list[Run | None]] = [[] for _ in rivals]
+    for _ in range(bench.runs):
+        ours.append(normd(bench, receivers, loss, bench.own))
+        for rival, runs in zip(rivals, theirs):
+            runs.append(rival.run())
+    speeds = [speed_of(it) for it in ours]
+    line = f'{receivers} receivers, {loss:g} % lost: normd {said_of(speeds)}{costs_said(ours)}'
+    print(line + ''.join(against(rival, speeds, runs) for rival, runs in zip(rivals, theirs)), flush=True)
+
+
+def paced(bench: Bench) -> None:
+    """A file at a slow pace, alone and beside busy loops."""
+    programs = [replace(it, gap=PACED_GAP) for it in (bench.own, *bench.others)]
+    ways = [it for program in programs for it in (program, replace(program, loops=PACED_LOOPS))]
+    found: dict[Way, list[float | None]] = {way: [] for way in ways}
+    for _ in range(bench.runs):
+        for way in ways:
+            run = normd(bench, PACED_RECEIVERS, 0, way)
+            found[way].append(run and bench.size * MIB / run.speed / 1e6)
+    for program in programs:
+        alone, beside = found[program], found[replace(program, loops=PACED_LOOPS)]
+        print(f'{bench.size} MiB to {PACED_RECEIVERS} receivers, gap {PACED_GAP}, {program.name}: {said_of(alone)} seconds, beside {PACED_LOOPS} busy loops '
+              f'{said_of(beside)}, {said_of(times_of(beside, alone), 2)} times, wanted at most 1.5', flush=True)
+
+
+def told(nodes: Nodes) -> float | None:
+    """Milliseconds from the sender's line `enq` to the last receiver's `up`, each as it comes here."""
+    began, waiting, end = None, set(nodes.receivers), time.monotonic() + nodes.bench.limit
+    with selectors.DefaultSelector() as ready:
+        for name in ('sender', *nodes.receivers):
+            ready.register(nodes.running[name].stdout, selectors.EVENT_READ, name)
+        while time.monotonic() < end:
+            for key, _ in ready.select(1):
+                now, said = time.monotonic(), os.read(key.fd, 65536)
+                if key.data == 'sender' and began is None and said.startswith(b'enq '):
+                    began = now
+                elif key.data in waiting and b'up ' in said:
+                    waiting.discard(key.data)
+                if not said:
+                    ready.unregister(key.fileobj)
+                if began is not None and not waiting:
+                    return 1000 * (now - began)
     return None
 
 
-def row(bench: Bench, receivers: int, loss: int, with_uftp: bool) -> None:
-    peer = peer_of(bench, receivers, loss, with_uftp)
-    ways, theirs = bench.ways(receivers, loss), []
-    found: dict[Way, list[tuple[float, float] | None]] = {way: [] for way in ways}
-    for _ in range(bench.runs):
+def lone_once(bench: Bench, receivers: int, way: Way) -> float | None:
+    with Nodes(bench, ROWS[receivers, 0], receivers, way) as nodes:
+        nodes.start_others(stdout=subprocess.PIPE)
+        nodes.send(f'1 data {"61" * LONE_OCTETS}\n1 mark\n', stdout=subprocess.PIPE)
+        return told(nodes)
+
+
+def lone(bench: Bench, receivers: int, wanted: float) -> None:
+    """An object of a hundred octets to nodes to which nothing else comes."""
+    ways = (bench.own, *bench.others)
+    found: dict[Way, list[float | None]] = {way: [] for way in ways}
+    for _ in range(LONE_RUNS):
         for way in ways:
-            found[way].append(normd(bench, receivers, loss, way))
-        if peer:
-            theirs.append(peer[1]())
-    ours, *others = ([it and it[0] for it in found[way]] for way in ways)
-    line = f'{receivers} receivers, {loss:g} % lost: normd {said_of(ours)}{hub_said(found[ways[0]])}'
-    for way, figures in zip(ways[1:], others):
-        line += f'; {way.name} {said_of(figures)}; {share_of(ours, figures):.2f} times'
-    if peer:
-        line += f'; {peer[0]} {said_of(theirs)}; {share_of(ours, theirs):.2f} times, wanted {peer[2]}'
-    print(line, flush=True)
+            found[way].append(lone_once(bench, receivers, way))
+    for way, figures in found.items():
+        print(f'{LONE_OCTETS} octets to {receivers} receivers, {way.name}: {said_of(figures, 2)} milliseconds from `enq` to the last `up`, '
+              f'wanted at most {wanted}', flush=True)
 
 
-def idle(bench: Bench, seconds: int = 10) -> None:
+def idle(bench: Bench, way: Way, seconds: int = 10) -> None:
     """Which part of a processor each node takes where nothing is sent. The sender's second object waits for room, since nobody is asked for the first."""
-    room, running = Path(tempfile.mkdtemp(prefix='idle-', dir=bench.room)), {}
-    (room / 'profile.toml').write_text(profile_of(bench, 'loopback', 1, window=1))
-    (room / 'script').write_text('1 data 61\n1 data 62\n')
-    for name, words in {'hub': ['hub', 'profile.toml'], 'receiver': ['recv', 'profile.toml', '2'], 'waiting sender': ['send', 'profile.toml']}.items():
-        with (room / 'script').open() as script:
-            running[name] = subprocess.Popen([bench.program, *words], cwd=room, stdin=script, stdout=subprocess.DEVNULL, stderr=subprocess.DEVNULL,
-                                             env={**os.environ, 'XDG_STATE_HOME': str(room)})
-    time.sleep(seconds)
-    for name, it in running.items():
-        if it.poll() is not None:
-            print(f'idle {name}: it ended with status {it.returncode}', flush=True)
-    for name, (took, memory) in ended({name: it for name, it in running.items() if it.returncode is None}).items():
-        print(f'idle {name}: {100 * took / seconds:.2f} in 100 of a processor, {memory / MIB:.1f} MiB', flush=True)
+    with Nodes(bench, 'loopback', 1, way, window=1) as nodes:
+        nodes.start_others()
+        nodes.send('1 data 61\n1 data 62\n')
+        time.sleep(seconds)
+        for name, it in nodes.running.items():
+            if it.poll() is not None:
+                print(f'idle {name}: it ended with status {it.returncode}', flush=True)
+        for name, (took, memory) in nodes.end_others().items():
+            what = {'hub': 'hub', 'sender': 'waiting sender'}.get(name, 'receiver')
+            print(f'idle {what}, {way.name}: {100 * took / seconds:.2f} in 100 of a processor, {memory / MIB:.1f} MiB', flush=True)
+
+
+def rows_of(bench: Bench, rows: list[tuple[int, int]]) -> None:
+    with busy(bench.loops):
+        for receivers, loss in rows:
+            row(bench, receivers, loss)
+    most = bench.memory.get('receiver', 0)
+    print(f'the greatest memory of a receiver: {most / MIB:.0f} MiB, {(most - 32 * MIB) / (bench.size * MIB):.2f} times the octets and 32 MiB')
+    print(f'the greatest memory of the hub: {bench.memory.get("hub", 0) / MIB:.1f} MiB, of the sender: {bench.memory.get("sender", 0) / MIB:.1f} MiB', flush=True)
+
+
+def take(bench: Bench, given: argparse.Namespace) -> None:
+    """Takes the figures that were asked for."""
+    bench.prepare()
+    if given.paced:
+        paced(bench)
+    elif given.lone:
+        lone(bench, 1, 0.5)
+        lone(bench, 16, 1.5)
+    else:
+        rows_of(bench, [tuple(int(part) for part in it.split(':')) for it in given.only] or list(ROWS))
+    if given.lone or not (given.paced or given.beside or given.only):
+        for way in (bench.own, *(bench.others if given.lone else ())):
+            idle(bench, way)
+
+
+def others_of(given: argparse.Namespace) -> tuple[Way, ...]:
+    before = (Way('before', given.before[0], Path(given.before[1])),) if given.before else ()
+    return (*before, *((Way('against', given.against),) if given.against else ()))
 
 
 def main() -> int:
     parser = argparse.ArgumentParser(description=__doc__, formatter_class=argparse.RawDescriptionHelpFormatter)
     parser.add_argument('--program', default=str(HERE.parent.parent / 'crates/normd/out/normd'))
     parser.add_argument('--size', type=int, default=64)
-    parser.add_argument('--runs', type=int, default=5)
+    parser.add_argument('--runs', type=int, default=9)
     parser.add_argument('--limit', type=float, default=120)
     parser.add_argument('--only', nargs='*', default=[])
     parser.add_argument('--set', nargs='*', default=[])
     parser.add_argument('--before', nargs=2, metavar=('NORMD', 'PROFILES'))
     parser.add_argument('--group', nargs='*', default=[], metavar='GAP')
-    parser.add_argument('--no-uftp', action='store_true')
+    parser.add_argument('--against', metavar='NORMD')
+    parser.add_argument('--beside', type=int, default=0, metavar='N')
+    for word in ('--copies', '--paced', '--lone', '--no-uftp', '--no-chain'):
+        parser.add_argument(word, action='store_true')
     given = parser.parse_args()
-    rows = [tuple(int(part) for part in it.split(':')) for it in given.only] or list(ROWS)
-    bench = Bench(given.program, given.size, given.runs, given.limit, dict(it.split('=', 1) for it in given.set), Path(tempfile.mkdtemp(prefix='bench-', dir='/dev/shm')),
-                  given.before and tuple(given.before), tuple(given.group))
+    bench = Bench(given.program, PACED_SIZE if given.paced else given.size, given.runs, given.limit, dict(it.split('=', 1) for it in given.set),
+                  Path(tempfile.mkdtemp(prefix='bench-', dir='/dev/shm')), others_of(given), tuple(given.group), given.copies,
+                  not given.no_uftp and shutil.which('uftp') is not None, not given.no_chain, given.beside)
     try:
-        bench.prepare()
-        for receivers, loss in rows:
-            row(bench, receivers, loss, not given.no_uftp and shutil.which('uftp') is not None)
-        most = max(bench.memory, default=0)
-        print(f'the greatest memory of a receiver: {most / MIB:.0f} MiB, {(most - 32 * MIB) / (bench.size * MIB):.2f} times the octets and 32 MiB')
-        print(f'the greatest memory of the hub: {max(bench.hub_memory, default=0) / MIB:.1f} MiB')
-        idle(bench)
+        take(bench, given)
     finally:
         shutil.rmtree(bench.room, ignore_errors=True)
     return 0
