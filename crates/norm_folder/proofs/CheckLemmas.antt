@@ -1,7 +1,7 @@
 -- The hand-ups of a node, taken one after the other, and the receivers in their order.
 use Rattle.std.proofs.Common.{◌≡◌, ◌∙◌, ℕ, zero, suc, ◌+◌, ◌-◌, ◌<◌, ◌≤◌, List, [], ◌∷◌, ◌++◌, length, take, get_or, Option, None, Some, Bool, true, false, cond, refl, sym, ap, subst, arith, append-nil, append_assoc, add-one}
 use Rattle.std.specs.Prelude.{◌==◌, map, slice_index_or}
-use Rattle.std.proofs.lemmas.List.{map-append, take_all, take_more}
+use Rattle.std.proofs.lemmas.List.{map-append, take_more}
 use Rattle.std.proofs.lemmas.List.Sums.{fold-append}
 use Rattle.std.proofs.lemmas.Grind.{flat_map-append}
 use Rattle.norm_base.specs.Members.{receivers_of}
@@ -17,21 +17,22 @@ use Rattle.norm_mirror.specs.declared.outcome.Unlike.{Unlike}
 
 -- ---- digests
 
-pub digests_more : (ups : List HandUp) (digests : List (List ℕ)) (h : HandUp) (digest : List ℕ) → AreDigests ups digests → IsDigestOf h.up digest
-    → AreDigests (ups ++ h ∷ []) (digests ++ digest ∷ [])
-digests_more [] [] h digest are is = (is, tt)
-digests_more [] (d ∷ digests) h digest are is = absurd are
-digests_more (u ∷ ups) [] h digest are is = absurd are
-digests_more (u ∷ ups) (d ∷ digests) h digest are is = (are.0, digests_more ups digests h digest are.1 is)
+-- digests that were put in their places at the front of others
+digests_front : (ups : List HandUp) (digests rest : List (List ℕ)) → length digests ≡ length ups
+    → ((i : ℕ) (h : HandUp) (d : List ℕ) → i < length ups → IsDigestOf (slice_index_or ups i h).up (slice_index_or digests i d))
+    → AreDigests ups (take (length ups) (digests ++ rest))
+digests_front [] [] rest count each = tt
+digests_front [] (d ∷ digests) rest count each = absurd (cc)
+digests_front (u ∷ ups) [] rest count each = absurd (cc)
+digests_front (u ∷ ups) (d ∷ digests) rest count each = (
+  each 0 u d (omega arith),
+  digests_front ups digests rest (omega (arith, count)) (λ i h x lt. each (suc i) h x (omega (arith, lt))),
+)
 
-pub digests_on : (ups : List HandUp) (digests after : List (List ℕ)) (i : ℕ) (h : HandUp) (digest : List ℕ) → i < length ups → h ≡ get_or ups i h
-    → AreDigests (take i ups) digests → IsDigestOf h.up digest → after ≡ digests ++ digest ∷ [] → AreDigests (take (i + 1) ups) after
-digests_on ups digests after i h digest lt is are one put =
-    let these : take (i + 1) ups ≡ take i ups ++ h ∷ [] = take_more ups i h lt ∙ ap (λ x. take i ups ++ x ∷ []) (sym is) in
-    subst (λ l. AreDigests l after) (sym these) (subst (AreDigests (take i ups ++ h ∷ [])) (sym put) (digests_more (take i ups) digests h digest are one))
-
-pub digests_all : (ups : List HandUp) (digests : List (List ℕ)) (i : ℕ) → length ups ≤ i → AreDigests (take i ups) digests → AreDigests ups digests
-digests_all ups digests i past are = subst (λ l. AreDigests l digests) (take_all i ups past) are
+pub digests_all : (ups : List HandUp) (digests rest : List (List ℕ)) (n : ℕ) → n ≡ length ups → length digests ≡ length ups
+    → ((i : ℕ) (h : HandUp) (d : List ℕ) → i < length ups → IsDigestOf (slice_index_or ups i h).up (slice_index_or digests i d))
+    → AreDigests ups (take n (digests ++ rest))
+digests_all ups digests rest n is count each = subst (λ k. AreDigests ups (take k (digests ++ rest))) (sym is) (digests_front ups digests rest count each)
 
 pub digests_count : (ups : List HandUp) (digests : List (List ℕ)) → AreDigests ups digests → length digests ≡ length ups
 digests_count [] [] are = refl

@@ -1,6 +1,6 @@
 //! The check of what each receiver handed up in a session.
 
-ghost use Rattle.std.specs.Prelude.{◌≡◌, None, Some, All, map, IfOk, OnOk, if◌then◌else◌};
+ghost use Rattle.std.specs.Prelude.{◌≡◌, ◌<◌, ℕ, None, Some, All, length, map, slice_index_or, IfOk, OnOk, if◌then◌else◌};
 ghost use Rattle.norm_base.specs.Members.{receivers_of};
 ghost use Rattle.norm_mirror.specs.Checking.{checked, taken, IsDigestOf};
 ghost use Rattle.norm_record.specs.HandedUp.{handed_up, hand_of, IsAmong};
@@ -13,6 +13,8 @@ use norm_order::Up;
 use norm_record::{Hand, HandUp, Journal};
 use sha2::{Digest, Sha256};
 use std::alloc::Global;
+use std::thread;
+use std::thread::Threads;
 
 /// The digest of what is handed up, if it is an object.
 fn digest_of(up: &Up) -> [u8; 32]
@@ -24,15 +26,34 @@ fn digest_of(up: &Up) -> [u8; 32]
     }
 }
 
+/// The most threads that compute digests.
+const MOST_THREADS: usize = 4;
+
+/// Puts the digest of each of these hand-ups in its place: in several threads, if they can be started, and otherwise one after the other.
+fn put_digests<R: Threads + Sync>(rt: &R, ups: &[HandUp], digests: &mut [[u8; 32]])
+    requires { length digests.old ≡ length ups.now }
+    ensures count { length digests.new ≡ length ups.now }
+    ensures each { (i : ℕ) (h : _) (d : _) → i < length ups.now → IsDigestOf (slice_index_or ups.now i h).up (slice_index_or digests.new i d) }
+{
+    thread::for_each_mut(
+        rt,
+        digests,
+        MOST_THREADS,
+        &|at, digest| *digest = digest_of(&ups[at].up),
+    );
+}
+
 /// The digests of these hand-ups.
 // One for each that is kept, and so mostly one for all receivers: digests are most of a check's time.
-fn digests_of(alloc: Global, ups: &[HandUp]) -> Result<Vec<[u8; 32]>, Memory>
+fn digests_of<R: Threads + Sync>(
+    rt: &R,
+    alloc: Global,
+    ups: &[HandUp],
+) -> Result<Vec<[u8; 32]>, Memory>
     ensures { IfOk result (λ digests. AreDigests ups.now digests.items) }
 {
-    let mut digests = Vec::new(alloc);
-    for hand_up in ups {
-        digests.push(digest_of(&hand_up.up))?;
-    }
+    let mut digests = vec![in alloc; [0u8; 32]; ups.len()]?;
+    put_digests(rt, ups, &mut digests);
     Ok(digests)
 }
 
@@ -85,12 +106,13 @@ fn unlike_by(node: NodeId, check: &Check) -> Result<Option<Unlike>, Memory>
 }
 
 /// Checks what each receiver of a profile handed up, by a session's journal. Returns what is wrong with the hand-ups of the first that handed up
-/// anything but a manifest and exactly its files. `None` if each did.
+/// anything but a manifest and exactly its files. `None` if each did. Threads of the runtime compute the digests.
 ///
 /// # Errors
 ///
 /// `Memory` if memory runs out.
-pub fn first_unlike(
+pub fn first_unlike<R: Threads + Sync>(
+    rt: &R,
     alloc: Global,
     journal: &Journal,
     profile: &Profile,
@@ -98,7 +120,7 @@ pub fn first_unlike(
     ensures { IfOk result (λ found. found ≡ first_unlike (handed_up journal.now) (receivers_of profile.now profile.now.receivers)) }
 {
     let (ups, hands) = journal.kept_ups();
-    let digests = digests_of(alloc, ups)?;
+    let digests = digests_of(rt, alloc, ups)?;
     for i in 0..u32::from(profile.receivers) {
         let node = profile.receiver(i);
         let check = check_of(alloc, node, ups, hands, &digests)?;

@@ -129,7 +129,12 @@ fn sending_of<D: Files>(alloc: Global, folder: &Folder, files: &mut D) -> Result
 
 /// Why a folder was not mirrored, by the journal of its session, which was whole: a command was refused for good, or a watermark expired, or a
 /// receiver handed up something else. `None` if it may be put.
-fn unmirrored(alloc: Global, journal: &Journal, profile: &Profile) -> Result<Option<Ending>, Memory>
+fn unmirrored<R: Threads + Sync>(
+    rt: &R,
+    alloc: Global,
+    journal: &Journal,
+    profile: &Profile,
+) -> Result<Option<Ending>, Memory>
     ensures { IfOk result (λ why. why ≡ unmirrored journal.now (receivers_of profile.now profile.now.receivers)) }
 {
     if journal.refused() > 0 {
@@ -140,7 +145,7 @@ fn unmirrored(alloc: Global, journal: &Journal, profile: &Profile) -> Result<Opt
         let which = first_unsatisfied(journal);
         return Ok(Some(Ending::NotSatisfied { which }));
     }
-    match first_unlike(alloc, journal, profile)? {
+    match first_unlike(rt, alloc, journal, profile)? {
         Some(why) => Ok(Some(Ending::Unlike { why })),
         None => Ok(None),
     }
@@ -193,7 +198,8 @@ fn end_copies<K: Sink, D: Files>(
 }
 
 /// Ends the mirror of a folder whose session was whole.
-fn end_whole<K: Sink, D: Files>(
+fn end_whole<R: Threads + Sync, K: Sink, D: Files>(
+    rt: &R,
     alloc: Global,
     sending: &Sending,
     journal: &Journal,
@@ -205,7 +211,7 @@ fn end_whole<K: Sink, D: Files>(
         (left (K.pieces output.old) (K.fault_count output.old) (D.contents files.old) (D.fault_count files.old))
         (left (K.pieces output.new) (K.fault_count output.new) (D.contents files.new) (D.fault_count files.new)) }
 {
-    match unmirrored(alloc, journal, &sending.script.profile) {
+    match unmirrored(rt, alloc, journal, &sending.script.profile) {
         Ok(Some(why)) => end_unmirrored(alloc, why, output),
         Ok(None) => end_copies(alloc, sending, journal, output, files),
         Err(Memory) => Ending::Memory,
@@ -253,14 +259,14 @@ fn send<R: Threads + Wait + Sync, S: Source, K: Sink, F: Fabric, D: Files, C: Cl
             if !ended.whole {
                 return end_session(false, lent.output);
             }
-            end_whole(alloc, sending, &ended.journal, lent.output, lent.files)
+            end_whole(rt, alloc, sending, &ended.journal, lent.output, lent.files)
         }
         Err(fault) => stop_session(alloc, fault, lent.output),
     }
 }
 
 /// Sends the folder that the input names to all receivers of a session in this process, checks what each hands up, puts the copies, and returns the
-/// ending; what each ending says is in `EndsMirror`. Only the session itself gets the runtime.
+/// ending; what each ending says is in `EndsMirror`. Only the session itself and the check get the runtime.
 pub(crate) fn end_mirror<
     R: Threads + Wait + Sync,
     S: Source,

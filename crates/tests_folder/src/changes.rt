@@ -133,7 +133,8 @@ fn check_of(alloc: Global, journal: &Journal, node: u32) -> (Option<CheckFault>,
 }
 
 /// Whether the check of each receiver refuses this, or is done if nothing is refused, and node 2 is named as the first that refuses.
-fn is_found(
+fn is_found<R: Threads + Sync>(
+    rt: &R,
     alloc: Global,
     journal: &Journal,
     profile: &Profile,
@@ -141,7 +142,7 @@ fn is_found(
 ) -> Result<bool, Memory> {
     let is = (wanted, wanted.is_none());
     let each = check_of(alloc, journal, 2) == is && check_of(alloc, journal, 3) == is;
-    let named = match first_unlike(alloc, journal, profile)? {
+    let named = match first_unlike(rt, alloc, journal, profile)? {
         Some(why) => why.node.number() == 2 && why.fault == wanted && wanted.is_some(),
         None => wanted.is_none(),
     };
@@ -172,7 +173,7 @@ fn finds<R: Threads + Wait + Sync>(
     if !ended.whole {
         return Ok(None);
     }
-    let found = is_found(alloc, &ended.journal, &folder.profile, wanted)?;
+    let found = is_found(rt, alloc, &ended.journal, &folder.profile, wanted)?;
     Ok(Some(found))
 }
 

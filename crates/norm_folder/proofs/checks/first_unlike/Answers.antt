@@ -8,7 +8,7 @@ use Rattle.norm_folder.proofs.checks.first_unlike.Goals as goal
 
 -- a receiver that handed up something else
 pub returns-in-Some : goal.returns-in-Some
-returns-in-Some c =
+returns-in-Some g c =
     let all = handed_up c.args.journal.now in
     sym (one_unlike all c.args.profile.now c.loop-i.i c.args.profile.now.receivers c.receiver-node.result c.in-Some.found (search rules) c.receiver-node.ensures
     c.loop-i.invariant
@@ -17,7 +17,7 @@ returns-in-Some c =
 
 -- one that did not
 pub loop-i-preserved : goal.loop-i-preserved
-loop-i-preserved c =
+loop-i-preserved g c =
     let all = handed_up c.args.journal.now in
     one_like all c.args.profile.now c.loop-i.i c.receiver-node.result c.receiver-node.ensures c.loop-i.invariant
     (here_is all c.receiver-node.result _ c.in_ok-found.field-0 (c.in_ok-check.ensures ∙ ap (λ (l : List (ℕ × Up)). checked (ups_of c.receiver-node.result l)) c.kept_ups.ensures.are)
