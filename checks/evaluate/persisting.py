@@ -95,8 +95,8 @@ WRONG = [
     ('status 0 though a receiver lacks', 'PersistRun', '[ true ↦ 15 | false ↦ 0 ]\nstatus_of GivenUp', '[ true ↦ 0 | false ↦ 0 ]\nstatus_of GivenUp', '12-two-of-three'),
     ('no line of a struck receiver', 'Printed', 'filter (lacks_now x) x.accounts', 'filter (lacks_now x) (of_members x.judged.world.sender x.accounts)', '03-row-6'),
     ('given up is not an end', 'Persisted', 'is_complete x || is_given_up x ||', 'is_complete x ||', '11-all-silent'),
-    ("an own command takes a script's name", 'Persisted', 'record { producer = 0; number = x.own + 1 }', 'record { producer = 1; number = x.own + 1 }', '04-room'),
-    ('own commands are not numbered', 'Persisted', 'record { producer = 0; number = x.own + 1 }', 'record { producer = 0; number = 1 }', '07-stream-full'),
+    ("an own command takes a script's name", 'Persisted', 'record { producer = 0; number = own + 1 }', 'record { producer = 1; number = own + 1 }', '04-room'),
+    ('own commands are not numbered', 'Persisted', 'record { producer = 0; number = own + 1 }', 'record { producer = 0; number = 1 }', '07-stream-full'),
 ]
 
 

@@ -1,5 +1,5 @@
 -- What members confirmed is what they are listed past, as far as it was told.
-use Rattle.std.proofs.Common.{◌≡◌, ℕ, ◌+◌, cond, List, [], ◌∷◌, ◌++◌, map, Bool, true, false, Option, None, Some, Result, Ok, Err, refl, sym, ap, subst, ◌∙◌, inl, inr}
+use Rattle.std.proofs.Common.{◌≡◌, ◌+◌, ℕ, ◌+◌, cond, List, [], ◌∷◌, ◌++◌, map, Bool, true, false, Option, None, Some, Result, Ok, Err, refl, sym, ap, subst, ◌∙◌, inl, inr}
 use Rattle.std.specs.Prelude.{◌⊎◌, ◌==◌, ◌||◌, find, nat_le, length, Contains, ⊤}
 use Rattle.std.specs.List.{list_any}
 use Rattle.std.proofs.lemmas.Bool.{eqb-true}
@@ -379,7 +379,7 @@ event_agrees j next event.End accounts f agree = subst (λ (n : Judged). Agree n
 kind_agrees : (x : Persisted) (e : Event) (next : Persisted) → Kind x e next → Agree x.judged.world.sender x.accounts → Agree next.judged.world.sender next.accounts
 kind_agrees x e next (Own o) agree =
     let E : Event = event.Job (own_name x) (Some o.own) o.gave in
-    let made : Event → Persisted = λ f. own_made x f (own_gave o.gave (world_after (Commanded (own_name x) o.own x.judged.now) x.judged)) in
+    let made : Event → Persisted = λ f. own_made x f o.gave (own_gave o.gave (world_after (Commanded (own_name x) o.own x.judged.now) x.judged)) in
     let A : Persisted → Type 0 = λ y. Agree y.judged.world.sender y.accounts in
     subst A (sym (o.then ∙ ap made o.event_is))
     (command_agrees x.judged (own_name x) (Some o.own) o.own o.gave x.accounts (same_gave _ o.gave (answers_same _ _ o.answers)) agree)
@@ -388,7 +388,7 @@ kind_agrees x e next (Bound b) agree = by b.bound
     A : Persisted → Type 0
     A y = Agree y.judged.world.sender y.accounts
 
-    by : ((turn : ℕ) × (now : ℕ) × (e ≡ event.Turn turn now) × (b.after ≡ in_turn turn now x.judged)) ⊎ ((e ≡ event.End) × (b.after ≡ at Over x.judged))
+    by : ((turn : ℕ) × (now : ℕ) × (e ≡ event.Turn turn now) × (b.after ≡ in_turn turn now x.judged) × (turn ≡ x.judged.turn + 1)) ⊎ ((e ≡ event.End) × (b.after ≡ at Over x.judged))
         → Agree next.judged.world.sender next.accounts
     by (inl t) = subst A (sym (b.then ∙ ap (λ f. led_to x f b.after) t.2 ∙ ap (λ (j : Judged). led_to x (event.Turn t.0 t.1) j) t.3)) agree
     by (inr t) = subst A (sym (b.then ∙ ap (λ f. led_to x f b.after) t.0 ∙ ap (λ (j : Judged). led_to x event.End j) t.1)) agree

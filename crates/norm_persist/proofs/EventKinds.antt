@@ -1,7 +1,7 @@
 -- What an event that the judge of a run that persists accepts is to the judge of journals: an own command, the beginning of a turn, the
 -- summary, or what it is in a run that does not persist.
-use Rattle.std.proofs.Common.{◌≡◌, ℕ, Bool, true, false, Option, None, Some, Result, refl, sym, ap, subst, ◌∙◌, inl, inr}
-use Rattle.std.specs.Prelude.{◌⊎◌, ◌&&◌}
+use Rattle.std.proofs.Common.{◌≡◌, ℕ, ◌+◌, Bool, true, false, Option, None, Some, Result, refl, sym, ap, subst, ◌∙◌, inl, inr}
+use Rattle.std.specs.Prelude.{◌⊎◌, ◌&&◌, ◌==◌, not}
 use Rattle.std.specs.Option.{option_map}
 use Rattle.std.proofs.lemmas.Option.{none-some, same_Some}
 use Rattle.norm_base.specs.declared.node.Origin.{Origin}
@@ -19,9 +19,9 @@ use Rattle.norm_journal.specs.InWorld.{comes, at, answer_to, world_after}
 use Rattle.norm_journal.specs.Judged.{Judged, news_due}
 use Rattle.norm_journal.specs.Places.{Place, Between, Over}
 use Rattle.norm_journal.specs.Same.{same_answer}
-use Rattle.norm_journal.specs.Turns.{in_turn}
+use Rattle.norm_journal.specs.Turns.{is_moment, in_turn}
 use Rattle.norm_persist.specs.Accepting.{same_own, own_gave, own_made, accepts_own, turns_persisting, ends_persisting, goes_on, accepts_persisting}
-use Rattle.norm_persist.specs.Persisted.{Persisted, led_to, own_due, own_name}
+use Rattle.norm_persist.specs.Persisted.{Persisted, led_to, own_due, own_name, is_over}
 use Rattle.norm_journal.proofs.NameLemmas.{one_name}
 use Rattle.std.proofs.lemmas.Bool.{eqb-true}
 use Rattle.norm_persist.proofs.Reasons.{both}
@@ -35,14 +35,14 @@ pub record IsOwn (x : Persisted) (e : Event) (next : Persisted) : Type 0 where
   pub due : own_due x ≡ Some own
   pub event_is : e ≡ event.Job (own_name x) (Some own) gave
   pub answers : same_answer (answer_to (Commanded (own_name x) own x.judged.now) x.judged) (Gave gave) ≡ true
-  pub then : next ≡ own_made x e (own_gave gave (world_after (Commanded (own_name x) own x.judged.now) x.judged))
+  pub then : next ≡ own_made x e gave (own_gave gave (world_after (Commanded (own_name x) own x.judged.now) x.judged))
 
 -- the beginning of a turn, or the summary: the world stays
 pub record IsBound (x : Persisted) (e : Event) (next : Persisted) : Type 0 where
   pub quiet : news_due x.judged ≡ None
   pub after : Judged
   pub then : next ≡ led_to x e after
-  pub bound : ((turn : ℕ) × (now : ℕ) × (e ≡ event.Turn turn now) × (after ≡ in_turn turn now x.judged)) ⊎ ((e ≡ event.End) × (after ≡ at Over x.judged))
+  pub bound : ((turn : ℕ) × (now : ℕ) × (e ≡ event.Turn turn now) × (after ≡ in_turn turn now x.judged) × (turn ≡ x.judged.turn + 1)) ⊎ ((e ≡ event.End) × (after ≡ at Over x.judged))
 
 -- what it is in a run that does not persist
 pub record IsAsEver (x : Persisted) (e : Event) (next : Persisted) : Type 0 where
@@ -78,10 +78,10 @@ own_kind x (event.Job by (Some given) gave) next due quiet is e =
     let same = both (same_origin (own_name x) by) (same_own due given) two.0 in
     let name : own_name x ≡ by = one_name (own_name x) by same.0 in
     let own : due ≡ given = same_job due given same.1 in
-    let made = mapped (λ after. own_made x (event.Job by (Some given) gave) (own_gave gave after)) (comes (Commanded by given x.judged.now) (Gave gave) x.judged) next two.1 in
+    let made = mapped (λ after. own_made x (event.Job by (Some given) gave) gave (own_gave gave after)) (comes (Commanded by given x.judged.now) (Gave gave) x.judged) next two.1 in
     let came = tested (same_answer (answer_to (Commanded by given x.judged.now) x.judged) (Gave gave)) (Some (world_after (Commanded by given x.judged.now) x.judged)) made.0 made.1 in
     let N : Origin → Type 0 = λ o. same_answer (answer_to (Commanded o given x.judged.now) x.judged) (Gave gave) ≡ true in
-    let then = made.2 ∙ ap (λ (j : Judged). own_made x (event.Job by (Some given) gave) (own_gave gave j)) (sym (same_Some (world_after (Commanded by given x.judged.now) x.judged) made.0 came.1)) in
+    let then = made.2 ∙ ap (λ (j : Judged). own_made x (event.Job by (Some given) gave) gave (own_gave gave j)) (sym (same_Some (world_after (Commanded by given x.judged.now) x.judged) made.0 came.1)) in
     Own (record {
       own = given;
       gave = gave;
@@ -89,13 +89,20 @@ own_kind x (event.Job by (Some given) gave) next due quiet is e =
       due = is ∙ ap Some own;
       event_is = ap (λ (o : Origin). event.Job o (Some given) gave) (sym name);
       answers = subst N (sym name) came.0;
-      then = then ∙ ap (λ (o : Origin). own_made x (event.Job by (Some given) gave) (own_gave gave (world_after (Commanded o given x.judged.now) x.judged))) (sym name);
+      then = then ∙ ap (λ (o : Origin). own_made x (event.Job by (Some given) gave) gave (own_gave gave (world_after (Commanded o given x.judged.now) x.judged))) (sym name);
     })
 own_kind x _ next due quiet is e = absurd (none-some next e)
 
 turn_after : (place : Place) (x : Persisted) (turn now : ℕ) (after : Judged) → turns_persisting place x turn now ≡ Some after → after ≡ in_turn turn now x.judged
 turn_after Between x turn now after e = let two = tested _ (Some (in_turn turn now x.judged)) after e in sym (same_Some (in_turn turn now x.judged) after two.1)
 turn_after _ x turn now after e = absurd (none-some after e)
+
+turn_number : (place : Place) (x : Persisted) (turn now : ℕ) (after : Judged) → turns_persisting place x turn now ≡ Some after → turn ≡ x.judged.turn + 1
+turn_number Between x turn now after e =
+    let two = tested (turn == x.judged.turn + 1 && is_moment x.judged turn now && not (is_over x)) (Some (in_turn turn now x.judged)) after e in
+    let first = both (turn == x.judged.turn + 1 && is_moment x.judged turn now) (not (is_over x)) two.0 in
+    eqb-true turn (x.judged.turn + 1) (both (turn == x.judged.turn + 1) (is_moment x.judged turn now) first.0).0
+turn_number _ x turn now after e = absurd (none-some after e)
 
 end_after : (place : Place) (x : Persisted) (after : Judged) → ends_persisting place x ≡ Some after → after ≡ at Over x.judged
 end_after Between x after e = let two = tested _ (Some (at Over x.judged)) after e in sym (same_Some (at Over x.judged) after two.1)
@@ -106,7 +113,7 @@ as_ever x e after next quiet is then = AsEver (record { after = after; accepted 
 
 other_kind : (x : Persisted) (e : Event) (after : Judged) (next : Persisted) → news_due x.judged ≡ None → goes_on x e ≡ Some after → next ≡ led_to x e after → Kind x e next
 other_kind x (event.Turn turn now) after next quiet is then =
-    Bound (record { quiet = quiet; after = after; then = then; bound = inl (turn, now, refl, turn_after x.judged.place x turn now after is) })
+    Bound (record { quiet = quiet; after = after; then = then; bound = inl (turn, now, refl, turn_after x.judged.place x turn now after is, turn_number x.judged.place x turn now after is) })
 other_kind x event.End after next quiet is then =
     Bound (record { quiet = quiet; after = after; then = then; bound = inr (refl, end_after x.judged.place x after is) })
 other_kind x event.Start after next quiet is then = as_ever x event.Start after next quiet is then

@@ -9,3 +9,5 @@ mod Moves
 mod Deciding
 mod Listed
 mod Confirmed
+pub mod JudgingLemmas
+mod Reporting

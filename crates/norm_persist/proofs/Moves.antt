@@ -1,5 +1,5 @@
 -- A journal of a run that persists, in the nodes' world.
-use Rattle.std.proofs.Common.{◌≡◌, List, [], ◌∷◌, Option, None, Some, refl, sym, ap, subst, ◌∙◌, inl, inr}
+use Rattle.std.proofs.Common.{◌≡◌, ◌+◌, List, [], ◌∷◌, Option, None, Some, refl, sym, ap, subst, ◌∙◌, inl, inr}
 use Rattle.std.specs.Prelude.{◌⊎◌, ℕ}
 use Rattle.std.specs.Option.{option_to_list}
 use Rattle.std.proofs.lemmas.Option.{same_Some, option_and_then_some}
@@ -32,7 +32,7 @@ kind_moves x e next (Own o) =
     (subst (λ (y : Persisted). IsThere x E y) (sym o.then) (record { profile = refl; world = refl }))
 kind_moves x e next (Bound b) = subst (λ (y : Persisted). IsThere x e y) (sym b.then) (by b.bound)
   where
-    by : ((turn : ℕ) × (now : ℕ) × (e ≡ event.Turn turn now) × (b.after ≡ in_turn turn now x.judged)) ⊎ ((e ≡ event.End) × (b.after ≡ at Over x.judged))
+    by : ((turn : ℕ) × (now : ℕ) × (e ≡ event.Turn turn now) × (b.after ≡ in_turn turn now x.judged) × (turn ≡ x.judged.turn + 1)) ⊎ ((e ≡ event.End) × (b.after ≡ at Over x.judged))
         → IsThere x e (led_to x e b.after)
     by (inl t) =
         subst (λ (f : Event). IsThere x f (led_to x f b.after)) (sym t.2)

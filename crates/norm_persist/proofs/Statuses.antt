@@ -45,14 +45,14 @@ both_say true true l e = absurd (clash (sym e))
 both_say false excused l e = absurd (clash l)
 
 -- nobody lacks anything, but for those that the script struck
-none_lacks : (x : Persisted) → is_lacking x ≡ false → AllConfirmed x
+pub none_lacks : (x : Persisted) → is_lacking x ≡ false → AllConfirmed x
 none_lacks x e a has own = not_lacking (last_position x.judged.profile x.judged.world.sender) a (go (lacks_now x a) refl)
   where
     go : (b : Bool) → lacks_now x a ≡ b → lacks_now x a ≡ false
     go false is = is
     go true is = absurd (clash (sym e ∙ any_finds (λ (a : Account). lacks_now x a && not a.excused) x.accounts a has (both_say (lacks_now x a) a.excused is own)))
 
-all_confirmed : (x : Persisted) → AllConfirmed x → is_lacking x ≡ false
+pub all_confirmed : (x : Persisted) → AllConfirmed x → is_lacking x ≡ false
 all_confirmed x all = go (is_lacking x) refl
   where
     go : (b : Bool) → is_lacking x ≡ b → is_lacking x ≡ false

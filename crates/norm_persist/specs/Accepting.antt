@@ -16,7 +16,7 @@ use Rattle.norm_journal.specs.Judged.{Judged, news_due}
 use Rattle.norm_journal.specs.Places.{Place, Between, Over}
 use Rattle.norm_journal.specs.Totals.{with_gave}
 use Rattle.norm_journal.specs.Turns.{is_moment, in_turn}
-use Rattle.norm_persist.specs.Persisted.{Persisted, led_to, own_due, own_name, is_over}
+use Rattle.norm_persist.specs.Persisted.{Persisted, led_to, own_due, own_name, is_over, mark_after}
 
 -- the jobs of own commands are one
 abbrev pub same_own : Job → Job → Bool
@@ -28,14 +28,14 @@ same_own _ _ = false
 abbrev pub own_gave : Result Receipt SendFault → Judged → Judged
 own_gave gave j = record j { totals = with_gave gave j.totals }
 
--- an own command was made in this turn
-abbrev pub own_made : Persisted → Event → Judged → Persisted
-own_made x e next = record (led_to x e next) { own = x.own + 1; own_turn = x.judged.turn }
+-- an own command was made in this turn, and was answered so
+abbrev pub own_made : Persisted → Event → Result Receipt SendFault → Judged → Persisted
+own_made x e gave next = record (led_to x e next) { own = x.own + 1; own_turn = x.judged.turn; own_mark = mark_after gave x.own_mark }
 
 -- the own command that is due, under the next name, with the sender's answer
 abbrev pub accepts_own : Job → Persisted → Event → Option Persisted
 accepts_own due x (event.Job by (Some job) gave) = elim (same_origin (own_name x) by && same_own due job) [
-  | true ↦ option_map (λ next. own_made x (event.Job by (Some job) gave) (own_gave gave next)) (comes (Commanded by job x.judged.now) (Gave gave) x.judged)
+  | true ↦ option_map (λ next. own_made x (event.Job by (Some job) gave) gave (own_gave gave next)) (comes (Commanded by job x.judged.now) (Gave gave) x.judged)
   | false ↦ None
 ]
 accepts_own due x _ = None

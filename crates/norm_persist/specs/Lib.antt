@@ -6,3 +6,6 @@ pub mod Printed
 pub mod PersistRun
 pub mod InWorld
 pub mod Laws
+pub mod Ledger
+pub mod Judging
+pub mod Reports

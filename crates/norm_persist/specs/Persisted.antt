@@ -1,8 +1,10 @@
 -- What the judge of a run that persists knows beside the judge of journals, and what an event changes in it.
-use Rattle.std.specs.Prelude.{ℕ, ◌+◌, ◌==◌, ◌&&◌, ◌||◌, not, List, length, map, Bool, true, false, nat_le, Option, None, is_some, Ok}
+use Rattle.std.specs.Prelude.{ℕ, ◌+◌, ◌==◌, ◌&&◌, ◌||◌, not, List, length, map, Bool, true, false, nat_le, Option, None, is_some, Result, Ok}
 use Rattle.norm_base.specs.declared.node.Origin.{Origin}
 use Rattle.norm_script.specs.Commands.{Commands}
 use Rattle.norm_send_rules.specs.declared.job.Job.{Job}
+use Rattle.norm_send_rules.specs.declared.fault.SendFault.{SendFault}
+use Rattle.norm_send_rules.specs.declared.job.Receipt.{Receipt}
 use Rattle.norm_send_rules.specs.declared.job.Receipt.TheVariants as receipt
 use Rattle.norm_send_rules.specs.declared.news.News.TheVariants as news
 use Rattle.norm_send_rules.specs.declared.news.Outcome.TheVariants as outcome
@@ -17,13 +19,15 @@ use Rattle.norm_persist.specs.Accounts.{accounts_of, begun_anew, excused_by, ris
 use Rattle.norm_persist.specs.Persisting.{own_job, one_lacks, all_silent}
 
 -- The judge's state; after how many marks a member is given up, if that was asked for; the accounts of all receivers; how many own
--- commands were made, and the turn of the last one.
+-- commands were made, the turn of the last one, and the number of the last own mark, or 0. That is the only own mark that can be open: one is
+-- made only if none is (`own_have_reasons`).
 pub record Persisted : Type 0 where
   pub judged : Judged
   pub give_up : Option ℕ
   pub accounts : List Account
   pub own : ℕ
   pub own_turn : ℕ
+  pub own_mark : ℕ
 
 -- as the run of a script with these receivers begins
 abbrev pub persisted_opening : Commands → Told → List ℕ → Option ℕ → Persisted
@@ -33,11 +37,17 @@ persisted_opening script files nodes give_up = record {
   accounts = accounts_of script.profile;
   own = 0;
   own_turn = 0;
+  own_mark = 0;
 }
 
 -- Producers are numbered from 1 on. Commands of producer 0 are the run's own.
 abbrev pub is_own : Origin → Bool
 is_own by = by.producer == 0
+
+-- the number of the last own mark, after an own command was answered so
+abbrev pub mark_after : Result Receipt SendFault → ℕ → ℕ
+mark_after (Ok (receipt.Mark number at)) last = number
+mark_after _ last = last
 
 -- the accounts after an event
 abbrev pub accounts_after : Judged → Event → List Account → List Account
@@ -64,6 +74,11 @@ is_sending _ = false
 abbrev pub may_own : Persisted → Bool
 may_own x = is_sending x.judged.place && not (x.own_turn == x.judged.turn)
 
+-- a job, unless there is none now
+abbrev pub job_unless : Bool → Option Job → Option Job
+job_unless true due = None
+job_unless false due = due
+
 -- the own command that is due
 abbrev pub own_due : Persisted → Option Job
 own_due x = elim (may_own x) [
@@ -71,9 +86,13 @@ own_due x = elim (may_own x) [
   | false ↦ None
 ]
 
+-- the name of the own command after so many
+abbrev pub name_after : ℕ → Origin
+name_after own = record { producer = 0; number = own + 1 }
+
 -- the name of the next own command
 abbrev pub own_name : Persisted → Origin
-own_name x = record { producer = 0; number = x.own + 1 }
+own_name x = name_after x.own
 
 -- the run is whole: nothing is left to do, and no member lacks anything
 abbrev pub is_complete : Persisted → Bool

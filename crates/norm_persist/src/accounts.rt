@@ -1,6 +1,6 @@
 //! What a run that persists keeps of all receivers, and what it decides by that.
 
-ghost use Rattle.std.specs.Prelude.{◌≡◌, ◌&&◌, true, map, option_map, IfOk, OnOk, OnErr};
+ghost use Rattle.std.specs.Prelude.{◌≡◌, ◌&&◌, true, map, filter, option_map, IfOk, OnOk, OnErr};
 ghost use Rattle.std.specs.List.{list_any, list_all};
 ghost use Rattle.norm_base.specs.Settings.{Settings};
 ghost use Rattle.mark_book.specs.BookState.{Stands};
@@ -8,14 +8,15 @@ ghost use Rattle.norm_send_rules.specs.SenderState.{SenderState};
 ghost use Rattle.norm_send_rules.specs.Ticking.{is_idle};
 ghost use Rattle.norm_persist.specs.declared.account.Account.{Account};
 ghost use Rattle.norm_base.specs.Members.{receivers_of};
-ghost use Rattle.norm_persist.specs.Accounts.{accounts_of, opened, begun_anew, excused_by, risen, passed_by, has_room, last_position};
+ghost use Rattle.norm_persist.specs.Accounts.{accounts_of, opened, begun_anew, excused_by, risen, passed_by, has_room, lacks, last_position};
+ghost use Rattle.norm_persist.specs.Ledger.{accounts_heard, accounts_gave};
 ghost use Rattle.norm_persist.specs.Persisting.{own_job, one_lacks, all_silent, first_silent, calls_for_mark, struck_unless, marked_if};
 
 use crate::account::Account;
 use fec_plan::Position;
 use mark_book::Book;
-use norm_base::{Memory, NodeId, Profile};
-use norm_send_rules::Job;
+use norm_base::{Memory, NodeId, Origin, Profile};
+use norm_send_rules::{Job, News, Outcome, Receipt, SendFault};
 use std::alloc::{AllocError, Global};
 use std::marker::Model;
 
@@ -95,6 +96,61 @@ impl Accounts {
         ensures { self.new ≡ map (excused_by node) self.old }
     {
         excuse_all(&mut self.all, node);
+    }
+
+    /// A change was told. `left` are the members that its line names.
+    ///
+    /// # Errors
+    ///
+    /// `Memory` if a count does not fit 64 bits. Nothing changes then.
+    pub fn hear(&mut self, news: &News, left: &[NodeId]) -> Result<(), Memory>
+        ensures heard { OnOk result (self.new ≡ accounts_heard news.now left.now self.old) }
+        ensures same { OnErr result (self.new ≡ self.old) }
+    {
+        match news {
+            News::Past { node, at } => {
+                self.rise(*node, *at);
+                Ok(())
+            }
+            News::Done { outcome, .. } => match outcome {
+                Outcome::Expired { .. } => self.pass(left),
+                Outcome::Open { .. } | Outcome::Satisfied | Outcome::Cut => Ok(()),
+            },
+        }
+    }
+
+    /// A command was answered.
+    pub fn give(&mut self, by: Origin, gave: &Result<Receipt, SendFault>)
+        ensures { self.new ≡ accounts_gave by gave.now self.old }
+    {
+        match gave {
+            Ok(receipt) => match receipt {
+                Receipt::Restarted { .. } => self.begin_anew(),
+                // An own strike excuses nobody.
+                Receipt::Struck { node } => {
+                    if by.producer != 0 {
+                        self.excuse(*node);
+                    }
+                }
+                Receipt::Object { .. }
+                | Receipt::Opened { .. }
+                | Receipt::Wrote { .. }
+                | Receipt::Closed { .. }
+                | Receipt::Mark { .. } => {}
+            },
+            Err(_) => {}
+        }
+    }
+
+    /// The accounts of the receivers that lack something, struck ones too, in order of id.
+    ///
+    /// # Errors
+    ///
+    /// `Memory` if memory runs out.
+    pub fn lacking(&self, alloc: Global, last: &Option<Position>) -> Result<Vec<Account>, Memory>
+        ensures { IfOk result (λ accounts. accounts.items ≡ filter (lacks last.now) self.now) }
+    {
+        lacking(alloc, &self.all, last)
     }
 
     /// Whether some member lacks something, `last` being the position that a mark made now would get.
@@ -229,6 +285,22 @@ fn excuse_all(accounts: &mut [Account], node: NodeId)
     for account in accounts.iter_mut() {
         *account = account.excused_by(node);
     }
+}
+
+fn lacking(
+    alloc: Global,
+    accounts: &[Account],
+    last: &Option<Position>,
+) -> Result<Vec<Account>, Memory>
+    ensures { IfOk result (λ found. found.items ≡ filter (lacks last.now) accounts.now) }
+{
+    let mut found = Vec::new(alloc);
+    for account in accounts {
+        if account.lacks(last) {
+            found.push(*account)?;
+        }
+    }
+    Ok(found)
 }
 
 fn have_room(accounts: &[Account]) -> bool

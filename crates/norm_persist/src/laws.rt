@@ -1,6 +1,7 @@
 //! What is promised of the rule and its judge. Each law is the contract of a function that does nothing.
 
 ghost use Rattle.norm_persist.specs.Laws.{RunsByFronts, OthersAsEver, OwnHaveReasons, OwnComeInTime, OwnAreAccepted, StatusesSay, PersistingMovesTheWorld, ConfirmedIsListed};
+ghost use Rattle.norm_persist.specs.Reports.{ReportsSay};
 
 /// A run goes on from the state that its prefix leaves.
 #[tactic(auto, using(crate::proofs::Steps::runs_by_fronts))]
@@ -50,4 +51,11 @@ pub fn moves_the_world()
 
 pub fn statuses_say()
     ensures { StatusesSay }
+{}
+
+/// Status 0 of a report says that every receiver, except those that the script struck, confirmed everything that was accepted in the last
+/// instance; 15 that one did not.
+#[tactic(auto, using(crate::proofs::Reporting::reports_say))]
+pub fn reports_say()
+    ensures { ReportsSay }
 {}

@@ -5,8 +5,12 @@
 mod account;
 mod accounts;
 pub mod laws;
+mod ledger;
 mod lines;
+mod report;
 
 pub use crate::account::Account;
 pub use crate::accounts::Accounts;
+pub use crate::ledger::Ledger;
 pub use crate::lines::lacks_line;
+pub use crate::report::{Report, Verdict, verdict_of};
