@@ -68,6 +68,10 @@ class Session:
 
         return 1 + symbols + longer_blocks * parity(shorter + 1) + (blocks - longer_blocks) * parity(shorter)
 
+    def asks_within(self, octets: int) -> float:
+        """The seconds within which a sender of so many asks the last time whether a receiver has all of them. It may send what it keeps once more before, to others."""
+        return (2 * wire.FLUSHES * self.grtt + self.unasked(max(1, min(octets, self.octets))) * self.gap) / 1e6 + 1
+
     def warning(self) -> str | None:
         """What is amiss if a block takes longer to send than a receiver waits until it asks again, at most."""
         block, again = self.b * self.gap, (2 * self.k + 2) * self.grtt
