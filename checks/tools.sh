@@ -45,6 +45,8 @@ fi
 # Captures of recorded sessions, and what their receivers make of them.
 if [ -x "$program" ]; then
     checks/tools/captured.py "$program" checks/runs/journal-*.json examples/repair.json || exit 1
+    python3 -c 'import json; print(json.load(open("examples/repair.json"))["output"], end="")' >"$scratch/printed" || exit 1
+    "$program" session <examples/repair.norm | cmp -s - "$scratch/printed" || wrong 'examples/repair.norm does not make the run of examples/repair.json'
 else
     missing 'captures through gather' "$program is not there"
 fi
