@@ -63,6 +63,12 @@ else
     missing 'the units' 'systemd-analyze is not there'
 fi
 
+for unit in normd-receive@.service normd-hub.service; do
+    for line in Restart=always RestartSec=5 StartLimitIntervalSec=0 After=network-online.target User=normd; do
+        grep -qx "$line" "examples/systemd/$unit" || wrong "$unit has no line $line: it would give up, or not start, where the network is late"
+    done
+done
+
 # The archive: made twice it is the same, and what it installs needs nothing else.
 if [ -n "$(git status --porcelain --untracked-files=no 2>&1)" ]; then
     missing 'the archive' 'the checkout has changes'
