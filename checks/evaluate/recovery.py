@@ -25,12 +25,15 @@ use Rattle.norm_safety.specs.InTime.{most_objects}
 use Rattle.norm_safety.specs.Lawful.{is_near}
 use Rattle.norm_safety.specs.World.{is_of}
 use Rattle.norm_send_rules.specs.Wants.{want_before}
-use Rattle.norm_recovery.specs.Left.{has, will_have, in_window, left}
+use Rattle.norm_recovery.specs.Left.{held_for, has, will_have, in_window, left}
 use Rattle.norm_recovery.specs.LeftHeard.{brings}
+use Rattle.norm_recovery.specs.HadBringsNothing.{says_nothing_more}
+use Rattle.norm_receive_rules.specs.Holding.{Plan}
+use Rattle.std.specs.Prelude.{sum}
 use Rattle.norm_recovery.specs.Asking.{asks, all_have, have_wanted, with_closed}
 use Rattle.norm_recovery.specs.RoundAsks.{asks_open}
 use Rattle.norm_recovery.specs.Clean.{hears_of, is_clean, is_clean_from}
-use Rattle.norm_recovery.specs.Watch.{Phase, each_member, is_asked, flushed_at, most_held, owes_nothing, has_waited, has_ticked, closes_later, closes_apart, is_spent, are_apart, is_waiting}
+use Rattle.norm_recovery.specs.Watch.{Phase, each_member, is_asked, flushed_at, most_held, owes_nothing, has_waited, has_ticked, closes_later, closes_apart, is_spent, are_apart, knows_flush, is_behind, is_waited, closes_soon, is_waiting}
 use Rattle.std.specs.Prelude.{is_some}
 use Rattle.fec_plan.specs.Points.{same_point}
 use Rattle.norm_order.specs.Shapes.{is_source, has_info}
@@ -49,12 +52,13 @@ use Rattle.norm_receive_rules.specs.Heard.{heard_all}
 use Rattle.norm_receive_rules.specs.HeardNeeds.{is_heard}
 use Rattle.norm_send_rules.specs.InWindow.{last_index}
 use Rattle.norm_safety.specs.Said.{first_index}
-use Rattle.norm_ext.specs.Message.{Message, Info, Data}
+use Rattle.norm_ext.specs.Message.{Message, Info, Data, Flush, Squelch}
 use Rattle.norm_ext.specs.Written.{Written}
 use Rattle.norm_send_rules.specs.InWindow.{stands_behind}
 use Rattle.norm_send_rules.specs.Repairable.{streams}
 use Rattle.norm_send_rules.specs.declared.want.Want.{Want}
 use Rattle.norm_recovery.specs.RunsOut.{all_new, to_send, last_closing}
+use Rattle.norm_safety.specs.Recovery.{is_satisfied_mark}
 '''
 RECOVERY = open(os.path.join(HERE, 'Recovery.txt'), encoding='utf-8').read()
 # wrong statements, each of which some recorded tail refuses: a hold-off of K round trips, a flush a microsecond sooner, and that all is out a
@@ -80,9 +84,10 @@ FURTHER = 'tail-07'
 
 # Wrong statements of asking and closings, each refused by this tail: that a closing helps though what is wanted is on its way, that it adds only what
 # every member has, that it helps whatever its round asks for, that a round asked for what a NACK asks for before that came, and that a member lacks
-# all of what it needs. And in this tail a round asks for what a member lacks, if every member has all that is wanted.
+# all of what it needs, and that whatever a member hears brings it nothing. And in these tails a round asks for what a member lacks, if every member has
+# all that is wanted; and a member hears what it has.
 ASKING = {'helps_anyway': 'tail-13', 'keeps_always': 'tail-01', 'helps_asked': 'tail-13', 'asked_before': 'tail-05', 'need_lacks_all': 'tail-15',
-          'never_helps': 'tail-01', 'nack_asked_before': 'tail-05'}
+          'never_helps': 'tail-01', 'nack_asked_before': 'tail-05', 'brings_never': 'tail-05', 'always_more': 'tail-05'}
 # Wrong statements of turns, each refused by this tail: that all members are clean from the first turn on, that a back-off that is not clean ends with
 # its member asked for, and that a member is asked for that did not back off. And in this tail a member heard what it lacks, a clean back-off ends, a
 # round closes in vain.
@@ -91,6 +96,11 @@ TURNS = {'all_are_clean': 'tail-18', 'ends_unclean': 'tail-18', 'asked_anyway': 
 # Wrong statements of phases, each refused by this tail: that nothing new is left and all is had from the first turn on, that members are clean then,
 # and that nobody is held off for more than K + 2 round trips after a phase began without being asked for.
 PHASES = {'spent_at_once': 'tail-01', 'clean_at_once': 'tail-18', 'held_off_less': 'tail-18'}
+# No tail lasts until the flush that a phase waits for. If the first flush counts that went once nobody was held off, all was spent and all were clean, it
+# goes in the first of these; in the second it is false that whoever is behind is asked for at once.
+EARLY_FLUSH = {'never_first': 'tail-01', 'all_asked': 'tail-12'}
+# in this one more flushes are counted than are left for a phase of repairs: its watermark expires
+EXPIRES = 'tail-17'
 # in this one a member would not stay clean, if NACKs came to the sender last
 LAST = 'tail-04'
 
@@ -186,10 +196,16 @@ def by_turns(name, run, test):
     return name, declared, 'turns_fail %s %s (run_from %s (world_opening %s) %s) %s ≡ []' % (test, p, p, p, before, tail)
 
 
-def by_phases(name, run, test):
+def by_phases(name, run, test, counts='counts_late'):
     """The test is true at the end of each turn of the tail, by the phase that lasts then."""
     p, declared, before, tail = tail_of(name, run)
-    return name, declared, 'phases_fail %s %s %d (run_from %s (world_opening %s) %s) %s ≡ []' % (test, p, run['last'], p, p, before, tail)
+    return name, declared, 'phases_fail %s %s %s %d (run_from %s (world_opening %s) %s) %s ≡ []' % (counts, test, p, run['last'], p, p, before, tail)
+
+
+def recovers_case(name, run):
+    """The tail satisfies the watermark that is the oldest as it begins."""
+    p, declared, before, tail = tail_of(name, run)
+    return name, declared, 'satisfies_oldest %s (run_from %s (world_opening %s) %s) %s ≡ true' % (p, p, p, before, tail)
 
 
 def sender_last(run):
@@ -230,12 +246,16 @@ def look(space, runs):
     met = [flush_case('%s, a turn with a flush' % name, run, 'is_never_flushed') for name, run in runs if run['lawful'] and has_flush(run)]
     clean = [by_turns('%s, clean' % name, run, 'turns_keep_clean') for name, run in runs if run['lawful']]
     clean += [by_phases('%s, watched' % name, run, 'is_watched') for name, run in runs if run['lawful']]
+    clean += [by_phases('%s, waited for' % name, run, 'waits_on', 'counts_early') for name, run in runs if run['lawful']]
     astray_turns = [by_turns('%s, %s' % (name, w), run, w) for name, run in runs for w, tail in TURNS.items() if name == tail]
     astray_turns += [by_phases('%s, %s' % (name, w), run, w) for name, run in runs for w, tail in PHASES.items() if name == tail]
+    astray_turns += [by_phases('%s, %s' % (name, w), run, w, 'counts_early') for name, run in runs for w, tail in EARLY_FLUSH.items() if name == tail]
     amiss += [early_case('%s, early' % name, run) for name, run in runs if name == EARLY]
+    recovered = [recovers_case('%s, recovers' % name, run) for name, run in runs if run['lawful'] and name != EXPIRES]
+    amiss += [recovers_case('%s, recovers' % name, run) for name, run in runs if name == EXPIRES]
     said = space.evaluate([*(case(name, *of) for name, of in [*whole.items(), *flushed.items(), *wrong.items(), *members.items(), *astray.items(), *asking.items()]),
-                           *late, far, *counted, *turns, *premises, *amiss, *reached, *at_once, *marks, *further, *met, *clean, *astray_turns])
-    false = [name for name in [*whole, *members, *(name for name, _, _ in [*counted, *turns, *reached, *marks, *clean])] if said[name]]
+                           *late, far, *counted, *turns, *premises, *amiss, *reached, *at_once, *marks, *further, *met, *clean, *astray_turns, *recovered])
+    false = [name for name in [*whole, *members, *(name for name, _, _ in [*counted, *turns, *reached, *marks, *clean, *recovered])] if said[name]]
     empty = [name for name in [*flushed, *(name for name, _, _ in met)] if not is_refused(said[name])]
     empty += [name for name, _, _ in premises if not laws.is_refused(said[name])]
     missed = [w for w in WRONG if not any(is_refused(said['%s, %s' % (name, w)]) for name, _ in runs)]

@@ -500,7 +500,7 @@ new_leaves p now s w = let same = noted_leaves w (record s { next = behind w }) 
 
 -- ---- an open watermark is not met
 
-abbrev AllOver : ℕ → List ℕ → Type 0
+abbrev pub AllOver : ℕ → List ℕ → Type 0
 AllOver k nodes = AllByRecursion (λ (n : ℕ). k < n) nodes
 
 -- nodes in order, each once
@@ -533,10 +533,10 @@ receivers_rise p n = (go n).0
         )
 
 -- a listing of the node past the position
-abbrev past_of : Position → ℕ → Listing → Bool
+abbrev pub past_of : Position → ℕ → Listing → Bool
 past_of at node l = l.node == node && is_past at l
 
-abbrev node_in : Listing → ℕ
+abbrev pub node_in : Listing → ℕ
 node_in l = l.node
 
 differs : (a b : ℕ) → a < b → (b == a) ≡ false

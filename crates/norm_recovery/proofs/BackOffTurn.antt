@@ -94,14 +94,14 @@ asked_on p s t r on (inr a) = inr (later_asked p s s t r r on.current refl refl 
 
 module _ (p : Settings) (range : InRange p) (events : List Event) (may : MayGoOn p events) (node : ℕ) (other : (node == p.sender) ≡ false) where
   -- its receiver is in the current instance and backs off
-  record Running (c : Course) : Type 0 where
-    calm : IsCalm p (run p events) c
-    r : ReceiverState
-    found : receiver_at c.world node ≡ Some r
-    runs : is_some r.knows.backoff ≡ true
-    inside : r.instance ≡ Some (run p events).sender.current.id
+  pub record Running (c : Course) : Type 0 where
+    pub calm : IsCalm p (run p events) c
+    pub r : ReceiverState
+    pub found : receiver_at c.world node ≡ Some r
+    pub runs : is_some r.knows.backoff ≡ true
+    pub inside : r.instance ≡ Some (run p events).sender.current.id
 
-  running_on : (e : Event) (c : Course) → Spares node e → ComesInTail c.world e → Running c → Running (comes p e c)
+  pub running_on : (e : Event) (c : Course) → Spares node e → ComesInTail c.world e → Running c → Running (comes p e c)
   running_on e c spares comes_so h = go e spares refl
     where
       calm : IsCalm p (run p events) (comes p e c)
@@ -151,16 +151,16 @@ module _ (p : Settings) (range : InRange p) (events : List Event) (may : MayGoOn
           })
       go NewsAsked spares is = still (world_laws.others p c.world e node (ap (comes_to node) is))
 
-  running_drawn : (c : Course) (n : ℕ) → Running c → Running (record c { used = n })
+  pub running_drawn : (c : Course) (n : ℕ) → Running c → Running (record c { used = n })
   running_drawn c n h = record { calm = draw_calm p (run p events) c n h.calm; r = h.r; found = h.found; runs = h.runs; inside = h.inside }
 
   -- it backs off still, or is asked for
-  abbrev Outcome : SenderState → ReceiverState → Type 0
+  abbrev pub Outcome : SenderState → ReceiverState → Type 0
   Outcome s t = (is_some t.knows.backoff ≡ true) ⊎ IsAsked p s t
 
-  record Stopped (c : Course) : Type 0 where
-    calm : IsCalm p (run p events) c
-    so : (t : ReceiverState) → receiver_at c.world node ≡ Some t → Outcome c.world.sender t
+  pub record Stopped (c : Course) : Type 0 where
+    pub calm : IsCalm p (run p events) c
+    pub so : (t : ReceiverState) → receiver_at c.world node ≡ Some t → Outcome c.world.sender t
 
   outcome_on : (s t : SenderState) (r : ReceiverState) → AsksOn p s t → Outcome s r → Outcome t r
   outcome_on s t r on (inl runs) = inl runs
@@ -404,7 +404,7 @@ module _ (p : Settings) (range : InRange p) (events : List Event) (may : MayGoOn
           its_turn hold none member (takes p node c) (takes_own p range events may node other 0 (untaken c.world node) c clean)
           (takes_spare p draws node Running running_on running_drawn node (untaken c.world node) c h) (all_are_taken p node (untaken c.world node) c refl)
 
-      all_served : (nodes : List ℕ) → AllByRecursion (λ (q : ℕ). (q == p.sender) ≡ false) nodes
+      pub all_served : (nodes : List ℕ) → AllByRecursion (λ (q : ℕ). (q == p.sender) ≡ false) nodes
           → AllByRecursion (λ (q : ℕ). find (λ (to : ℕ). to == q) (receivers_of p p.receivers) ≡ None → ⊥) nodes → Differ nodes
           → (find (λ (to : ℕ). to == node) nodes ≡ None → ⊥) → (c : Course) → Clean p range events may node other 0 c → Running c → Stopped (fold (serves p draws now) c nodes)
       all_served [] mine present differ has c clean h = absurd (has refl)

@@ -296,7 +296,7 @@ put_grows x (v ∷ ws) = go (want_before x v) (want_before v x) (put_grows x ws)
     go false true (inr more) = inr (ap suc more)
     go false false more = inl refl
 
-sets_grow : (more ws : List Want) → (with_members want_before more ws ≡ ws) ⊎ (length ws < length (with_members want_before more ws))
+pub sets_grow : (more ws : List Want) → (with_members want_before more ws ≡ ws) ⊎ (length ws < length (with_members want_before more ws))
 sets_grow [] ws = inl refl
 sets_grow (x ∷ more) ws = go (put_grows x ws) (sets_grow more (with_member want_before x ws))
   where

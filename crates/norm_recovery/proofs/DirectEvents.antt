@@ -9,7 +9,6 @@ use Rattle.norm_base.specs.Settings.{Settings, InRange}
 use Rattle.norm_base.specs.declared.node.Origin.{Origin}
 use Rattle.norm_ext.specs.Written.{Written}
 use Rattle.norm_receive_rules.specs.ReceiverState.{ReceiverState}
-use Rattle.norm_order.specs.declared.up.Up.{Up}
 use Rattle.norm_safety.specs.Events.{Event as WorldEvent, Commanded, Delivered, Ticked, Offered, UpTaken, NewsAsked, Answer, Gave, Sent as Gives, Took, Told, Silent}
 use Rattle.norm_safety.specs.History.{Happening}
 use Rattle.norm_safety.specs.InTime.{FewObjects}
@@ -30,7 +29,7 @@ use Rattle.norm_journal.specs.Follows.{Follows, SendersTick, ReceiversTick}
 use Rattle.norm_journal.specs.Jobs.{file_of_length}
 use Rattle.norm_journal.specs.Judged.{Judged}
 use Rattle.norm_journal.specs.Places.{Place, Starting, Between, Pulling, Giving, Again, Sending, Offering, Taking, Handing, Over, handing, after_tick}
-use Rattle.norm_journal.specs.Takes.{is_receiver, delivered}
+use Rattle.norm_journal.specs.Takes.{is_receiver}
 use Rattle.norm_journal.specs.WorldEvents.{job_at, delivery, world_event}
 use Rattle.norm_journal.proofs.WorldLemmas.{event_moves}
 use Rattle.norm_send_rules.specs.declared.job.Job.{Job}

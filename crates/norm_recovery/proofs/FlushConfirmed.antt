@@ -43,15 +43,13 @@ use Rattle.norm_safety.proofs.WorldLemmas.{world_laws}
 use Rattle.norm_laws.proofs.CountSender.{sender_after, sender_is}
 use Rattle.norm_laws.proofs.LaterTailLemmas.{if_own}
 use Rattle.norm_laws.proofs.NewOrder.{clash}
-use Rattle.norm_recovery.specs.Flush.{MayFlush}
 use Rattle.norm_recovery.specs.FlushConfirmed.{is_asked, HandedThrough, FlushConfirmed}
 use Rattle.norm_recovery.specs.TailKeeps.{Stays}
 use Rattle.norm_recovery.specs.TailLawful.{MayGoOn, GoesOn}
 use Rattle.norm_recovery.specs.TailOf.{ComesInTail}
-use Rattle.norm_recovery.proofs.FlushKnown.{after_run, flush_of, flush_command, FlushSays, flush_says, HearsIt, hears_it}
+use Rattle.norm_recovery.proofs.FlushKnown.{after_run, flush_of, GivesFlush, gives_of, flush_command, FlushSays, flush_says, HearsIt, hears_it}
 use Rattle.norm_recovery.proofs.FlushListed.{flush_listed}
 use Rattle.norm_recovery.proofs.FlushOwed.{handed_there, owes_flush, Says, says_due, ack_reads, member_asked, ack_is_counted, names_due}
-use Rattle.norm_recovery.proofs.FlushTurn.{gives_flush}
 use Rattle.norm_recovery.proofs.KeepsSender.{quiet_run_stays}
 use Rattle.norm_recovery.proofs.LawfulTail.{goes_on}
 use Rattle.norm_recovery.proofs.MarksEnd.{oldest_ends, marks_end}
@@ -193,11 +191,11 @@ module _ (p : Settings) (range : InRange p) (events : List Event) (may : MayGoOn
 
   -- ---- a member that is listed
 
-  record Listed (c : Course) : Type 0 where
-    calm : IsCalm p (run p events) c
-    listed : is_listed_past c.world.sender node at ≡ true
+  pub record Listed (c : Course) : Type 0 where
+    pub calm : IsCalm p (run p events) c
+    pub listed : is_listed_past c.world.sender node at ≡ true
 
-  listed_on : (e : Event) (c : Course) → ComesInTail c.world e → Listed c → Listed (comes p e c)
+  pub listed_on : (e : Event) (c : Course) → ComesInTail c.world e → Listed c → Listed (comes p e c)
   listed_on e c comes_so h = record {
     calm = comes_calm p (run p events) e c comes_so h.calm;
     listed = ap (λ (s : SenderState). is_listed_past s node at) (sender_is p c.world e) ∙ go e comes_so;
@@ -217,10 +215,10 @@ module _ (p : Settings) (range : InRange p) (events : List Event) (may : MayGoOn
       go (UpTaken to) comes_so = h.listed
       go NewsAsked comes_so = flush_listed.stays p c.world.sender sender.NewsAsked node at tt h.listed
 
-  listed_drawn : (c : Course) (n : ℕ) → Listed c → Listed (record c { used = n })
+  pub listed_drawn : (c : Course) (n : ℕ) → Listed c → Listed (record c { used = n })
   listed_drawn c n h = record { calm = draw_calm p (run p events) c n h.calm; listed = h.listed }
 
-  listed_nodes : (c : Course) → Listed c → nodes_of c.world ≡ receivers_of p p.receivers
+  pub listed_nodes : (c : Course) → Listed c → nodes_of c.world ≡ receivers_of p p.receivers
   listed_nodes c h = h.calm.nodes ∙ world_laws.nodes p events
 
   -- ---- its turn comes
@@ -363,7 +361,7 @@ module _ (p : Settings) (range : InRange p) (events : List Event) (may : MayGoOn
 -- ---- the turn
 
 -- a part of the order ends with the position of a watermark
-handed_part : (p : Settings) → InRange p → (events : List Event) → MayGoOn p events → (now : ℕ) (wm : Watermark) → MayFlush p now (run p events).sender wm
+handed_part : (p : Settings) → InRange p → (events : List Event) → MayGoOn p events → (now : ℕ) (wm : Watermark) → GivesFlush p now (run p events).sender wm
     → (node : ℕ) (r : ReceiverState) → HandedThrough p (history p events) node (run p events).sender.current.id r wm.at
     → HandedAll p (history p events) node (run p events).sender.current.id r wm.at
 handed_part p range events may now wm flush node r through = record {
@@ -379,21 +377,20 @@ handed_part p range events may now wm flush node r through = record {
     s : SenderState
     s = (run p events).sender
 
-is_listed : (p : Settings) → InRange p → (events : List Event) → MayGoOn p events → (draws : ℕ → ℕ) (now : ℕ) (wm : Watermark)
-    → MayFlush p now (run p events).sender wm → (node : ℕ) (r : ReceiverState) → is_asked (run p events).sender wm.at node ≡ true
-    → HandedAll p (history p events) node (run p events).sender.current.id r wm.at
+pub is_listed : (p : Settings) → InRange p → (events : List Event) → MayGoOn p events → (draws : ℕ → ℕ) (now : ℕ) (wm : Watermark)
+    → GivesFlush p now (run p events).sender wm → (node : ℕ) (r : ReceiverState) → is_asked (run p events).sender wm.at node ≡ true
+    → receiver_at (run p events) node ≡ Some r → r.instance ≡ Some (run p events).sender.current.id
+    → ((now draw : ℕ) → HearsIt p r (flush_command p (run p events).sender wm) wm.at
+    → owes (received p r (flush_of p (run p events).sender wm).octets now draw) wm.at ≡ true)
     → is_listed_past (tail_turn p draws now (course_from (run p events))).world.sender node wm.at ≡ true
-is_listed p range events may draws now wm flush node r asked handed =
+is_listed p range events may draws now wm flush node r asked found inside owed =
     (all_served_list p range events may node other wm.at asked draws now (receivers_of p p.receivers) there
     (passes_on p draws now (sender_ticks p now (course_from (run p events))) p.sender)
-    (passed p range events may draws now (flush_of p (run p events).sender wm) (gives_flush p (run p events).sender now wm flush) node other r found K hears
+    (passed p range events may draws now (flush_of p (run p events).sender wm) flush.gives node other r found K hears
     (copies_spare p draws node K (owed_on p range events may node other wm.at) (owed_drawn p range events may node other wm.at) now p.sender octets))).listed
   where
     octets : List ℕ
     octets = (flush_of p (run p events).sender wm).octets
-
-    found : receiver_at (run p events) node ≡ Some r
-    found = handed_there p events node (run p events).sender.current.id r wm.at handed
 
     other : (node == p.sender) ≡ false
     other = is_other p (run p events) (world_laws.nodes p events) node r found
@@ -413,9 +410,9 @@ is_listed p range events may draws now wm flush node r asked handed =
       calm = calm;
       r = received p r octets now (draws c.used);
       found = moved_is;
-      owed = owes_flush p range events may wm node r asked handed octets now (draws c.used) says.read it;
-      inside = stays_in p range events may node other next calm r (received p r octets now (draws c.used)) (receiver.Delivered octets now (draws c.used)) moved_is refl handed.inside
-          ∙ handed.inside;
+      owed = owed now (draws c.used) it;
+      inside = stays_in p range events may node other next calm r (received p r octets now (draws c.used)) (receiver.Delivered octets now (draws c.used)) moved_is refl inside
+          ∙ inside;
     }
       where
         next : Course
@@ -442,4 +439,12 @@ is_listed p range events may draws now wm flush node r asked handed =
 
 pub flush_confirmed : FlushConfirmed
 flush_confirmed p range events may draws now wm flush node r asked through =
-    is_listed p range events may draws now wm flush node r asked (handed_part p range events may now wm flush node r through)
+    is_listed p range events may draws now wm gives node r asked (handed_there p events node (run p events).sender.current.id r wm.at handed) handed.inside
+    (λ moment draw hears. owes_flush p range events may wm node r asked handed (flush_of p (run p events).sender wm).octets moment draw
+    (flush_says p range events may now wm gives).read hears)
+  where
+    gives : GivesFlush p now (run p events).sender wm
+    gives = gives_of p now (run p events).sender wm flush
+
+    handed : HandedAll p (history p events) node (run p events).sender.current.id r wm.at
+    handed = handed_part p range events may now wm gives node r through

@@ -21,7 +21,8 @@ use Rattle.norm_receive_rules.specs.Receiving.{received}
 use Rattle.norm_send_rules.specs.Messages.{command_head, flush_message}
 use Rattle.norm_send_rules.specs.Restarting.{instances, first_id}
 use Rattle.norm_send_rules.specs.SenderState.{SenderState, Watermark}
-use Rattle.norm_send_rules.specs.Watermarks.{pending}
+use Rattle.norm_send_rules.specs.Ticking.{ticked}
+use Rattle.norm_send_rules.specs.Watermarks.{oldest, pending}
 use Rattle.norm_safety.specs.Events.{Event}
 use Rattle.norm_safety.specs.History.{Happening, happens}
 use Rattle.norm_safety.specs.InTime.{FewObjects}
@@ -136,11 +137,18 @@ may_enter p range events lawful are node r found = by (is_in r id) (goes_to r id
 abbrev pub flush_of : Settings → SenderState → Watermark → Written
 flush_of p s w = writes (flush_message p s w.at (pending s w.at)) (w.at.index ∷ [])
 
+-- A tick gives a flush for the oldest watermark, whatever round it closes.
+pub record GivesFlush (p : Settings) (now : ℕ) (s : SenderState) (w : Watermark) : Type 0 where
+  pub is_oldest : oldest s ≡ Some w
+  pub gives : (ticked p s now).1 ≡ Some (flush_of p s w)
+
+pub gives_of : (p : Settings) (now : ℕ) (s : SenderState) (w : Watermark) → MayFlush p now s w → GivesFlush p now s w
+gives_of p now s w may = record { is_oldest = may.is_oldest; gives = ap (λ (step : SenderState × Option Written). step.1) (flush_goes p now s w may) }
+
 flush_true : (p : Settings) → InRange p → (past : List Happening) (accepted : List Origin) (v : World) (now : ℕ) (w : Watermark) → WorldHolds p past accepted v
-    → MayFlush p now v.sender w → SpeaksTrue p v.sender (flush_of p v.sender w)
-flush_true p range past accepted v now w holds may =
-    subst (SentTrue p v.sender) (ap (λ (step : SenderState × Option Written). step.1) (flush_goes p now v.sender w may))
-    (tick_true p range v.sender now holds.sender holds.once.ids)
+    → GivesFlush p now v.sender w → SpeaksTrue p v.sender (flush_of p v.sender w)
+flush_true p range past accepted v now w holds flush =
+    subst (SentTrue p v.sender) flush.gives (tick_true p range v.sender now holds.sender holds.once.ids)
 
 -- the command of a watermark's flush
 abbrev pub flush_command : Settings → SenderState → Watermark → FlushCommand
@@ -190,7 +198,7 @@ pub record FlushSays (p : Settings) (s : SenderState) (octets : List ℕ) (m : F
   pub small : at.index ≤ 32767
   pub place : position at.index m.id.block m.id.symbol ≡ at
 
-pub flush_says : (p : Settings) → InRange p → (events : List Event) → MayGoOn p events → (now : ℕ) (w : Watermark) → MayFlush p now (run p events).sender w
+pub flush_says : (p : Settings) → InRange p → (events : List Event) → MayGoOn p events → (now : ℕ) (w : Watermark) → GivesFlush p now (run p events).sender w
     → FlushSays p (run p events).sender (flush_of p (run p events).sender w).octets (flush_command p (run p events).sender w) w.at
 flush_says p range events may now w flush =
     let k = after_run p range events may.lawful may.jobs in

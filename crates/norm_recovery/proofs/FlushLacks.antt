@@ -59,10 +59,10 @@ use Rattle.norm_recovery.proofs.TailWalk.{turn_keeps}
 -- ---- nothing can be handed up after any run
 
 -- nothing more can be handed up to any node
-abbrev AllFar : Settings → World → Type 0
+abbrev pub AllFar : Settings → World → Type 0
 AllFar p w = (node : ℕ) (r : ReceiverState) → (node == p.sender) ≡ false → receiver_at w node ≡ Some r → IsFar p r.holding
 
-far_from : (p : Settings) (w : World) (events : List Event) → AllFar p w → AllFar p (run_from p w events)
+pub far_from : (p : Settings) (w : World) (events : List Event) → AllFar p w → AllFar p (run_from p w events)
 far_from p w [] h = h
 far_from p w (e ∷ events) h = far_from p (world_step p w e).0 events next
   where
@@ -76,7 +76,7 @@ far_from p w (e ∷ events) h = far_from p (world_step p w e).0 events next
             by (Still same) = subst (λ (x : ReceiverState). IsFar p x.holding) (sym same) (h node b.r other b.found)
             by (Steps own is) = subst (λ (x : ReceiverState). IsFar p x.holding) (sym is) (far_laws.goes_on p b.r own (h node b.r other b.found))
 
-far_opening : (p : Settings) → AllFar p (world_opening p)
+pub far_opening : (p : Settings) → AllFar p (world_opening p)
 far_opening p node r other found =
     found_holds (λ (x : ReceiverState). IsFar p x.holding) (λ (x : ReceiverState). x.node == node) (world_opening p).receivers r (each (receivers_of p p.receivers)) found
   where
@@ -119,12 +119,12 @@ none_in_window (suc d) (y ∷ order) zero x none le found = absurd (omega (arith
 none_in_window (suc d) (y ∷ order) (suc i) x none le found = none_in_window d order i x none (omega (arith, le)) found
 
 -- the entry of a plan of the order, which is no stream
-record PlannedBy (p : Settings) (order : List Entry) (plan : Plan) : Type 0 where
-  entry : Entry
-  found : slice_get order plan.index ≡ Some entry
-  is : PlanIs p entry.object plan.fti plan.flags
+pub record PlannedBy (p : Settings) (order : List Entry) (plan : Plan) : Type 0 where
+  pub entry : Entry
+  pub found : slice_get order plan.index ≡ Some entry
+  pub is : PlanIs p entry.object plan.fti plan.flags
 
-planned_by : (p : Settings) (order : List Entry) (plan : Plan) → IsPlanOf p order plan → PlannedBy p order plan
+pub planned_by : (p : Settings) (order : List Entry) (plan : Plan) → IsPlanOf p order plan → PlannedBy p order plan
 planned_by p order plan h = go (slice_get order plan.index) refl h
   where
     go : (o : Option Entry) → slice_get order plan.index ≡ o
@@ -171,7 +171,7 @@ at_point p order d h plan plans none le e =
       kind = none_in_window d order plan.index entry.entry none (let own = of.1 in omega (arith, own, le)) entry.found;
     }
 
-says_no_stream : (p : Settings) (x : Entry) (plan : Plan) → PlanIs p x.object plan.fti plan.flags → is_stream x ≡ false → says_stream plan.flags ≡ false
+pub says_no_stream : (p : Settings) (x : Entry) (plan : Plan) → PlanIs p x.object plan.fti plan.flags → is_stream x ≡ false → says_stream plan.flags ≡ false
 says_no_stream p x plan is kind = says_its x.object plan.flags is.flags ∙ go x.object kind
   where
     go : (o : Object) → is_stream (record x { object = o }) ≡ false → is_stream_object o ≡ false
@@ -228,7 +228,7 @@ before_in_run p range events lawful are none node other r found at ends knows no
         let a = at_point p (run p events).sender.current.order (run p events).sender.current.drop.index r.holding plan plans none not_dropped e in
         no_more_blocks p (run p events).sender.current.order at plan a.by.entry a.by.found a.by.is a.kind ends
 
-lacks_in_run : (p : Settings) → InRange p → p.mode ≡ Hold → (events : List Event) → Lawful p events → AreEvents events → streams (run p events).sender ≡ 0
+pub lacks_in_run : (p : Settings) → InRange p → p.mode ≡ Hold → (events : List Event) → Lawful p events → AreEvents events → streams (run p events).sender ≡ 0
     → (node : ℕ) → (node == p.sender) ≡ false → (r : ReceiverState) → receiver_at (run p events) node ≡ Some r → has_member node (run p events).sender ≡ true
     → (at : Position) → EndsPartOf p (run p events).sender.current.order at → KnowsFlush r (run p events).sender.current.id at
     → position_before at r.holding.point ≡ false → Lacks p (run p events).sender r

@@ -10,21 +10,19 @@ use Rattle.norm_receive_rules.specs.ReceiverState.{ReceiverState}
 use Rattle.norm_receive_rules.specs.ReceiverStep.{ReceiverEvent, receiver_step}
 use Rattle.norm_receive_rules.specs.ReceiverStep as receiver
 use Rattle.norm_receive_rules.specs.Receiving.{received}
-use Rattle.norm_send_rules.specs.SenderState.{SenderState, Watermark}
-use Rattle.norm_send_rules.specs.Ticking.{ticked}
+use Rattle.norm_send_rules.specs.SenderState.{Watermark}
 use Rattle.norm_safety.specs.Events.{Event, Delivered}
 use Rattle.norm_safety.specs.Tail.{Course, course_from, events_of, comes, passes_on, sender_ticks, tail_turn}
 use Rattle.norm_safety.specs.World.{World, receiver_at}
 use Rattle.norm_safety.specs.WorldLaws.{nodes_of}
 use Rattle.norm_safety.specs.WorldStep.{run}
 use Rattle.norm_safety.proofs.WorldLemmas.{world_laws}
-use Rattle.norm_recovery.specs.Flush.{MayFlush, KnowsFlush}
+use Rattle.norm_recovery.specs.Flush.{KnowsFlush}
 use Rattle.norm_recovery.specs.FlushTurn.{FlushComes}
 use Rattle.norm_recovery.specs.TailLawful.{MayGoOn, GoesOn}
 use Rattle.norm_recovery.specs.TailOf.{ComesInTail}
-use Rattle.norm_recovery.proofs.FlushGoes.{flush_goes}
 use Rattle.norm_recovery.proofs.FlushHeard.{flush_heard}
-use Rattle.norm_recovery.proofs.FlushKnown.{flush_of, flush_command, FlushSays, flush_says, hears_flush}
+use Rattle.norm_recovery.proofs.FlushKnown.{flush_of, GivesFlush, gives_of, flush_command, FlushSays, flush_says, hears_flush}
 use Rattle.norm_recovery.proofs.LawfulTail.{goes_on}
 use Rattle.norm_recovery.proofs.MembersRun.{no_node}
 use Rattle.norm_recovery.proofs.PassTurn.{After, Still, Steps, Before, before, same_id, stays_in, Waits, calm_then, comes_lawfully, is_other, passed}
@@ -40,11 +38,11 @@ same_some x y e = cc
 module _ (p : Settings) (range : InRange p) (events : List Event) (may : MayGoOn p events) (node : ℕ) (other : (node == p.sender) ≡ false) (at : Position) where
   -- ---- who knows the flush knows it further on
 
-  record Known (c : Course) : Type 0 where
-    calm : IsCalm p (run p events) c
-    knows : (r : ReceiverState) → receiver_at c.world node ≡ Some r → KnowsFlush r (run p events).sender.current.id at
+  pub record Known (c : Course) : Type 0 where
+    pub calm : IsCalm p (run p events) c
+    pub knows : (r : ReceiverState) → receiver_at c.world node ≡ Some r → KnowsFlush r (run p events).sender.current.id at
 
-  known_on : (e : Event) (c : Course) → ComesInTail c.world e → Known c → Known (comes p e c)
+  pub known_on : (e : Event) (c : Course) → ComesInTail c.world e → Known c → Known (comes p e c)
   known_on e c comes_so h = record { calm = calm; knows = knows }
     where
       calm : IsCalm p (run p events) (comes p e c)
@@ -69,14 +67,14 @@ module _ (p : Settings) (range : InRange p) (events : List Event) (may : MayGoOn
                   subst (λ (x : ReceiverState). KnowsFlush x (run p events).sender.current.id at) (sym steps)
                   (step b.r own k (stays_in p range events may node other (comes p e c) calm b.r t own is steps k.inside))
 
-  known_drawn : (c : Course) (n : ℕ) → Known c → Known (record c { used = n })
+  pub known_drawn : (c : Course) (n : ℕ) → Known c → Known (record c { used = n })
   known_drawn c n h = record { calm = draw_calm p (run p events) c n h.calm; knows = h.knows }
 
-  known_nodes : (c : Course) → Known c → nodes_of c.world ≡ receivers_of p p.receivers
+  pub known_nodes : (c : Course) → Known c → nodes_of c.world ≡ receivers_of p p.receivers
   known_nodes c h = h.calm.nodes ∙ world_laws.nodes p events
 
   -- it comes to know it
-  arrives : (d : Written) (m : FlushCommand) → FlushSays p (run p events).sender d.octets m at → (draws : ℕ → ℕ) (now : ℕ) (r : ReceiverState) (c : Course)
+  pub arrives : (d : Written) (m : FlushCommand) → FlushSays p (run p events).sender d.octets m at → (draws : ℕ → ℕ) (now : ℕ) (r : ReceiverState) (c : Course)
       → Waits p range events may node other d r c → Known (comes p (Delivered node d.octets now (draws c.used)) (record c { used = c.used + 1 }))
   arrives d m says draws now r c h = record { calm = calm_then p range events may node other d draws now r c h; knows = knows }
     where
@@ -102,18 +100,14 @@ module _ (p : Settings) (range : InRange p) (events : List Event) (may : MayGoOn
 
 -- ---- the turn
 
--- a watermark's flush is what the sender's tick gives
-pub gives_flush : (p : Settings) (s : SenderState) (now : ℕ) (wm : Watermark) → MayFlush p now s wm → (ticked p s now).1 ≡ Some (flush_of p s wm)
-gives_flush p s now wm flush = ap (λ (step : SenderState × Option Written). step.1) (flush_goes p now s wm flush)
-
--- and reaches a node that has a receiver
-reaches_one : (p : Settings) (range : InRange p) (events : List Event) (may : MayGoOn p events) (draws : ℕ → ℕ) (now : ℕ) (wm : Watermark)
-    → MayFlush p now (run p events).sender wm → (node : ℕ) (other : (node == p.sender) ≡ false) (r : ReceiverState)
+-- a watermark's flush, which the sender's tick gives, reaches a node that has a receiver
+pub reaches_one : (p : Settings) (range : InRange p) (events : List Event) (may : MayGoOn p events) (draws : ℕ → ℕ) (now : ℕ) (wm : Watermark)
+    → GivesFlush p now (run p events).sender wm → (node : ℕ) (other : (node == p.sender) ≡ false) (r : ReceiverState)
     → receiver_at (run p events) node ≡ Some r → Known p range events may node other wm.at (tail_turn p draws now (course_from (run p events)))
 reaches_one p range events may draws now wm flush node other r found =
     all_served p draws K (known_nodes p range events may node other wm.at) (known_on p range events may node other wm.at)
     (known_drawn p range events may node other wm.at) now (receivers_of p p.receivers) (passes_on p draws now (sender_ticks p now (course_from (run p events))) p.sender)
-    (passed p range events may draws now d (gives_flush p (run p events).sender now wm flush) node other r found K
+    (passed p range events may draws now d flush.gives node other r found K
     (arrives p range events may node other wm.at d (flush_command p (run p events).sender wm) (flush_says p range events may now wm flush) draws now r)
     (copies_keep p draws K (known_nodes p range events may node other wm.at) (known_on p range events may node other wm.at)
     (known_drawn p range events may node other wm.at) now p.sender d.octets))
@@ -124,8 +118,11 @@ reaches_one p range events may draws now wm flush node other r found =
     K : Course → Type 0
     K c = Known p range events may node other wm.at c
 
-pub flush_comes : FlushComes
-flush_comes p range events may draws now wm flush node t found = go (receiver_at (run p events) node) refl
+-- at its end each receiver knows it
+pub known_after : (p : Settings) → InRange p → (events : List Event) → MayGoOn p events → (draws : ℕ → ℕ) (now : ℕ) (wm : Watermark)
+    → GivesFlush p now (run p events).sender wm → (node : ℕ) (r : ReceiverState)
+    → receiver_at (tail_turn p draws now (course_from (run p events))).world node ≡ Some r → KnowsFlush r (run p events).sender.current.id wm.at
+known_after p range events may draws now wm flush node t found = go (receiver_at (run p events) node) refl
   where
     calm : IsCalm p (run p events) (tail_turn p draws now (course_from (run p events)))
     calm = turn_keeps p draws (IsCalm p (run p events)) (λ c h. h.nodes ∙ world_laws.nodes p events) (comes_calm p (run p events)) (draw_calm p (run p events)) now
@@ -146,3 +143,7 @@ flush_comes p range events may draws now wm flush node t found = go (receiver_at
     go None none = absurd (gone none)
     go (Some r) is =
         (reaches_one p range events may draws now wm flush node other r is).knows t found
+
+pub flush_comes : FlushComes
+flush_comes p range events may draws now wm flush node t found =
+    known_after p range events may draws now wm (gives_of p now (run p events).sender wm flush) node t found

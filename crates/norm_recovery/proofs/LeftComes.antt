@@ -174,13 +174,13 @@ module _ (p : Settings) (range : InRange p) (hold : p.mode ≡ Hold) (events : L
   abbrev t : ReceiverState
   t = received p r octets now draw
 
-  lawful : Lawful p events
+  pub lawful : Lawful p events
   lawful = front_laws.lawful p events (Delivered node octets now draw ∷ []) may.lawful
 
-  jobs : AreEvents events
+  pub jobs : AreEvents events
   jobs = front_laws.events events (Delivered node octets now draw ∷ []) may.jobs
 
-  k : HoldsIn p (run p events)
+  pub k : HoldsIn p (run p events)
   k = after_run p range events lawful jobs
 
   delivery : LawfulDelivery p (run p events) node octets
@@ -196,7 +196,7 @@ module _ (p : Settings) (range : InRange p) (hold : p.mode ≡ Hold) (events : L
   found_next = ap (λ (v : World). receiver_at v node) next
       ∙ world_laws.moves p (run p events) (Delivered node octets now draw) node (receiver.Delivered octets now draw) r other refl found
 
-  few : FewObjects s
+  pub few : FewObjects s
   few = subst FewObjects same_sender may.few
 
   -- what it holds after it
@@ -205,10 +205,10 @@ module _ (p : Settings) (range : InRange p) (hold : p.mode ≡ Hold) (events : L
       let H : SenderState → Type 0 = λ u. t.instance ≡ Some u.current.id → Held p u t in
       subst H same_sender (λ is. holds_in_run p range (events ++ Delivered node octets now draw ∷ []) may.lawful may.jobs node t found_next is) inside
 
-  order_is : order_of s s.current.id ≡ s.current.order
+  pub order_is : order_of s s.current.id ≡ s.current.order
   order_is = current_order s k.holds.once.ids
 
-  stands : Stands s r
+  pub stands : Stands s r
   stands = stands_in_run p range hold events lawful jobs node r found member
 
   comes : (is_in r s.current.id || goes_to r s.current.id) ≡ true
@@ -240,11 +240,11 @@ module _ (p : Settings) (range : InRange p) (hold : p.mode ≡ Hold) (events : L
   fits : Fits p s.current.order s.current.drop
   fits = (run_fits p range (world_opening p) events (record { drops = drop_laws.begins p p.instance; fits = fits_opening p p.instance })).fits
 
-  sized : AreSized p s.current.order
+  pub sized : AreSized p s.current.order
   sized = current_sized p s k.holds.sender
 
   -- the datagram that came is this message, and its indices are near
-  near : (m : Message) (id object : ℕ) (indices : List ℕ) → decoded octets ≡ Ok m → (SaysNothing (Ok m) → ⊥) → Speaks p id object indices
+  pub near : (m : Message) (id object : ℕ) (indices : List ℕ) → decoded octets ≡ Ok m → (SaysNothing (Ok m) → ⊥) → Speaks p id object indices
       → AreUpTo most_apart indices
       → ((xs : List ℕ) → IsTrueOf p s xs m → Speaks p id object xs × AreUpTo most_apart xs) → are_near (receiver_knows r m) indices ≡ true
   near m id object indices read something speaks low of =

@@ -228,6 +228,10 @@ module _ (p : Settings) (range : InRange p) (hold : p.mode ≡ Hold) (events : L
       (λ y. neither (is_member want_before y closed.wants) (all_will_have p before y) (is_member want_before y after.sender.wants) (all_will_have p after y)
       (λ e. or_right (is_member want_before y after.sender.wants) (all_will_have p after y) (all_go_on y e)))
 
+  -- no more is left than after the closing
+  pub turn_lowers : left p (tail_turn p draws now (course_from (run p events))).world ≤ left p (record (run p events) { sender = closed_where_due p now (run p events).sender })
+  turn_lowers = let same = ap (λ (ys : List Want). length (filter (test after) ys)) window in let turned = no_more in omega (arith, same, turned)
+
   never_rises : left p after ≤ left p (run p events)
   never_rises =
       let same = ap (λ (ys : List Want). length (filter (test after) ys)) window in

@@ -49,7 +49,7 @@ pub data Goes (s : SenderState) (step : SenderState × Option Written) : Type 0 
   Leaves : step.0.wants ≡ s.wants → Goes s step
   Brings : (y : Want) (d : Written) → s.wants ≡ y ∷ step.0.wants → step.1 ≡ Some d → brings (first_index d.indices) d.message ≡ Some y → Goes s step
 
-brings_it : (p : Settings) (s : SenderState) (y : Want) (o : Object) (repair : ℕ) → brings (want_index y) (message_of p s y o repair) ≡ Some y
+pub brings_it : (p : Settings) (s : SenderState) (y : Want) (o : Object) (repair : ℕ) → brings (want_index y) (message_of p s y o repair) ≡ Some y
 brings_it p s (Info index) (Whole kind (Some info) octets) repair = refl
 brings_it p s (Info index) (Whole kind None octets) repair = refl
 brings_it p s (Info index) (Stream parts) repair = refl

@@ -71,7 +71,7 @@ none_has (q ∷ plans) index e = go (q.index == index) e (none_has plans index)
 
 -- ---- plans go on
 
-joined_has : (new : Plan) (plans : List Plan) (index : ℕ) → has_plan plans index ≡ true → has_plan (with_member plan_before new plans) index ≡ true
+pub joined_has : (new : Plan) (plans : List Plan) (index : ℕ) → has_plan plans index ≡ true → has_plan (with_member plan_before new plans) index ≡ true
 unfolding with_member
 joined_has new [] index e = absurd (clash e)
 joined_has new (q ∷ plans) index e = go (plan_before new q) (plan_before q new) (joined_has new plans index)
@@ -93,7 +93,7 @@ joined_has new (q ∷ plans) index e = go (plan_before new q) (plan_before q new
     go false true more = keep own more e
     go false false more = e
 
-seen_has : (at : Point) (plans : List Plan) (index : ℕ) → has_plan plans index ≡ true → has_plan (map (plan_seen at) plans) index ≡ true
+pub seen_has : (at : Point) (plans : List Plan) (index : ℕ) → has_plan plans index ≡ true → has_plan (map (plan_seen at) plans) index ≡ true
 seen_has at [] index e = e
 seen_has at (q ∷ plans) index e = go (q.index == at.index && says_stream q.flags) (seen_has at plans index) e
   where

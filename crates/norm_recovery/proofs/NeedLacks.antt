@@ -218,7 +218,7 @@ few_held index block n (y ∷ held) =
     omega (arith, some, one, more)
 
 -- as many are there as are held of the block, at most
-few_there : (h : Holding) (index block n : ℕ) → length (filter (is_there [] h) (symbols_of index n block)) ≤ length (held_of h index block)
+pub few_there : (h : Holding) (index block n : ℕ) → length (filter (is_there [] h) (symbols_of index n block)) ≤ length (held_of h index block)
 few_there h index block n =
     let le = more_mapped (λ i. position index block i) (is_there [] h) (λ (x : Position). list_any (λ (y : Held). y.at.symbol == x.symbol) (held_of h index block)) (range_with_len 0 n)
     (λ i e. own (holds h (position index block i)) (is_member want_before (want.Symbol (position index block i)) []) (none_member (want.Symbol (position index block i))) e) in
@@ -256,14 +256,14 @@ module _ (p : Settings) (range : InRange p) (s : SenderState) (h : Holding) (k :
   abbrev d : Point
   d = s.current.drop
 
-  low : d.index ≤ h.point.index
+  pub low : d.index ≤ h.point.index
   low = let past = behind_point (point_of h.point) d k.front in omega (arith, past)
 
   pub no_stream : (index : ℕ) (x : Entry) → h.point.index ≤ index → slice_get order index ≡ Some x → is_stream x ≡ false
   no_stream index x le found = none_in_window d.index order index x k.none (let least = low in omega (arith, least, le)) found
 
   -- an entry's shape
-  shape_found : (index : ℕ) (x : Entry) → slice_get order index ≡ Some x → slice_get (current_shapes p s) index ≡ Some (shape_of p x.object)
+  pub shape_found : (index : ℕ) (x : Entry) → slice_get order index ≡ Some x → slice_get (current_shapes p s) index ≡ Some (shape_of p x.object)
   shape_found index x found =
       slice_get-map (λ (e : Entry). shape_of p e.object) order index ∙ ap (option_map (λ (e : Entry). shape_of p e.object)) found
 
@@ -278,7 +278,7 @@ module _ (p : Settings) (range : InRange p) (s : SenderState) (h : Holding) (k :
   kind_is x e o is = ap (λ (z : Object). elim z as (λ _. Bool) [ Whole kind info octets ↦ false | Stream parts ↦ true ]) (sym is) ∙ e
 
   -- whatever is of an object at the hand-up point or behind it stands behind the drop point
-  block_zero : (x : Entry) → slice_get order h.point.index ≡ Some x → h.point.block ≡ 0
+  pub block_zero : (x : Entry) → slice_get order h.point.index ≡ Some x → h.point.block ≡ 0
   block_zero x found = go x.object refl (no_stream h.point.index x (omega arith) found)
     where
       S : Option Entry → Type 0
@@ -310,7 +310,7 @@ module _ (p : Settings) (range : InRange p) (s : SenderState) (h : Holding) (k :
       go false e = refl
 
   -- a block of which too few are held is not complete
-  not_complete : (index block : ℕ) (x : Entry) → slice_get order index ≡ Some x
+  pub not_complete : (index block : ℕ) (x : Entry) → slice_get order index ≡ Some x
       → length (held_of h index block) < source_symbols (shape_of p x.object).cut block
       → is_complete [] h index block (slice_get (current_shapes p s) index) ≡ false
   not_complete index block x found few =
@@ -347,7 +347,7 @@ module _ (p : Settings) (range : InRange p) (s : SenderState) (h : Holding) (k :
   -- ---- each kind of need
 
   -- of an object without a plan nothing is held
-  nothing_held : (index block : ℕ) → plan_of h index ≡ None → length (held_of h index block) ≡ 0
+  pub nothing_held : (index block : ℕ) → plan_of h index ≡ None → length (held_of h index block) ≡ 0
   nothing_held index block none = go h.held k.planned
     where
       go : (held : List Held) → AllByRecursion (λ (x : Held). has_plan h.plans x.at.index ≡ true) held
@@ -571,7 +571,7 @@ module _ (p : Settings) (range : InRange p) (hold : p.mode ≡ Hold) (events : L
       let own : SeenBy p s r (Some s.current.id) = subst (SeenBy p s r) (in_instance_is r s.current.id inside) (subst A found (all node)) in
       subst (λ (order : List Entry). SeenIn p order r) (current_order s world.holds.once.ids) own
 
-  holds_so : Holds p s r.holding
+  pub holds_so : Holds p s r.holding
   holds_so = record {
     plans = held.plans;
     planned = planned_from p (world_opening p) events (planned_opening p) node r other found;

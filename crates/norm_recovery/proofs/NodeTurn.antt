@@ -1,6 +1,6 @@
 -- What holds of a node's receiver as a turn begins, and is kept by what it hears, holds as it ticks; and what holds after its tick, to the turn's end.
 use Rattle.std.proofs.Common.{◌≡◌, ◌≢◌, ℕ, zero, suc, ◌+◌, cond, List, [], ◌∷◌, Bool, true, false, Option, None, Some, refl, sym, ap, ◌∙◌, subst}
-use Rattle.std.specs.Prelude.{◌==◌, find, fold}
+use Rattle.std.specs.Prelude.{Contains, ◌==◌, find, fold}
 use Rattle.std.specs.Fn.{iterate}
 use Rattle.std.specs.List.{AllByRecursion}
 use Rattle.std.specs.Option.{option_map}
@@ -9,7 +9,6 @@ use Rattle.norm_base.specs.Members.{receivers_of, members_of}
 use Rattle.norm_base.specs.Settings.{Settings, InRange}
 use Rattle.norm_ext.specs.Written.{Written}
 use Rattle.norm_receive_rules.specs.Heard.{Heard}
-use Rattle.norm_receive_rules.specs.Holding.{Holding}
 use Rattle.norm_receive_rules.specs.ReceiverState.{ReceiverState}
 use Rattle.norm_receive_rules.specs.ReceiverStep.{ReceiverEvent, receiver_step}
 use Rattle.norm_receive_rules.specs.ReceiverStep as receiver
@@ -36,7 +35,7 @@ use Rattle.norm_recovery.proofs.MembersRun.{none_stays}
 use Rattle.norm_recovery.proofs.PassTurn.{news_leave, own_answer, others_mine}
 use Rattle.norm_recovery.proofs.ServeWalk.{KeptServing, news_rest, gave_passes, has_receiver, serves_other}
 use Rattle.norm_recovery.proofs.TailCourses.{IsCalm, comes_calm, begins_calm, draw_calm}
-use Rattle.norm_recovery.proofs.TailWalk.{all_are_taken, no_receiver, sender_takes_none, HasOffered, given_may_come, given_offered, offered_may_come, others_differ, copy_offered, Gift}
+use Rattle.norm_recovery.proofs.TailWalk.{all_are_taken, no_receiver, sender_takes_none, given_may_come, given_itself, offered_may_come, others_differ, copy_offered}
 
 none_some : {X : Type 0} (x : X) → None ≡ Some x → ⊥
 none_some x e = cc
@@ -44,10 +43,9 @@ none_some x e = cc
 same_some : {X : Type 0} (x y : X) → Some x ≡ Some y → x ≡ y
 same_some x y e = cc
 
--- It does not depend on what was heard, nor on what is held.
+-- It does not depend on what was heard.
 pub record Plain (R : ReceiverState → Type 0) : Type 0 where
   pub heard : (r : ReceiverState) (heard : Heard) → R r → R (record r { knows = record (r.knows) { heard = heard } })
-  pub held : (r : ReceiverState) (held : Holding) → R r → R (record r { holding = held })
 
 module _ (p : Settings) (range : InRange p) (events : List Event) (may : MayGoOn p events) (node : ℕ) (other : (node == p.sender) ≡ false) (draws : ℕ → ℕ) (now : ℕ) where
   module _ (R : ReceiverState → Type 0) (plain : Plain R) where
@@ -67,26 +65,26 @@ module _ (p : Settings) (range : InRange p) (events : List Event) (may : MayGoOn
 
     -- an event of the receiver's own
     pub holds_own : (S : ReceiverState → Type 0) → (c : Course) (e : Event) (own : ReceiverEvent) → ComesInTail c.world e → is_senders p e ≡ false
-        → to_receiver e ≡ Some (node, own) → ((r : ReceiverState) → R r → S (receiver_step p r own).0) → Holds c
+        → to_receiver e ≡ Some (node, own) → ((r : ReceiverState) → receiver_at c.world node ≡ Some r → R r → S (receiver_step p r own).0) → Holds c
         → IsCalm p (run p events) (comes p e c) × ((t : ReceiverState) → receiver_at (comes p e c).world node ≡ Some t → S t)
     holds_own S c e own may_come theirs to steps h = (comes_calm p (run p events) e c may_come h.calm, λ t is. go t is (receiver_at c.world node) refl)
       where
         go : (t : ReceiverState) → receiver_at (world_step p c.world e).0 node ≡ Some t → (found : Option ReceiverState) → receiver_at c.world node ≡ found → S t
         go t is None none = absurd (none_some t (sym (none_stays p c.world e node none) ∙ is))
         go t is (Some r) found =
-            subst S (same_some (receiver_step p r own).0 t (sym (world_laws.moves p c.world e node own r theirs to found) ∙ is)) (steps r (h.so r found))
+            subst S (same_some (receiver_step p r own).0 t (sym (world_laws.moves p c.world e node own r theirs to found) ∙ is)) (steps r found (h.so r found))
 
-    holds_takes : (n : ℕ) (c : Course) → Holds c → Holds (iterate (comes p (UpTaken node)) n c)
-    holds_takes zero c h = h
-    holds_takes (suc n) c h =
-        let next = holds_own R c (UpTaken node) receiver.UpTaken tt refl refl (λ r so. plain.held r (took r).0.holding so) h in
-        holds_takes n (comes p (UpTaken node) c) (record { calm = next.0; so = next.1 })
+    holds_takes : ((r : ReceiverState) → R r → R (took r).0) → (n : ℕ) (c : Course) → Holds c → Holds (iterate (comes p (UpTaken node)) n c)
+    holds_takes taken zero c h = h
+    holds_takes taken (suc n) c h =
+        let next = holds_own R c (UpTaken node) receiver.UpTaken tt refl refl (λ r found so. taken r so) h in
+        holds_takes taken n (comes p (UpTaken node) c) (record { calm = next.0; so = next.1 })
 
     holds_hears : (c : Course) (d : Written) (f : Feed p d) (draw : ℕ) → ComesInTail c.world (Delivered node d.octets now draw) → Joined p d f c.world.sender
         → Holds c → Holds (comes p (Delivered node d.octets now draw) c)
     holds_hears c d f draw may_come joined h =
         let next = holds_own R c (Delivered node d.octets now draw) (receiver.Delivered d.octets now draw) may_come other refl
-        (λ r so. feed_leaves p r d f now draw R (λ heard. plain.heard r heard so)) h in
+        (λ r found so. feed_leaves p r d f now draw R (λ heard. plain.heard r heard so)) h in
         record { calm = next.0; so = next.1 }
 
     pub holding : KeptServing p (run p events) node now Holds
@@ -106,10 +104,15 @@ module _ (p : Settings) (range : InRange p) (events : List Event) (may : MayGoOn
 
     -- ---- what the sender's tick gave
 
-    module _ (d : Written) (own : (r : ReceiverState) (draw : ℕ) → R r → R (received p r d.octets now draw)) where
+    -- Whenever it is heard, what holds of the node's receiver goes on to hold.
+    abbrev pub Hears : Written → Type 0
+    Hears d = (c : Course) → IsCalm p (run p events) c → Contains c.world.offered (p.sender, d) → (draw : ℕ)
+        → ComesInTail c.world (Delivered node d.octets now draw) → (r : ReceiverState) → receiver_at c.world node ≡ Some r → R r → R (received p r d.octets now draw)
+
+    module _ (d : Written) (own : Hears d) where
       record Passed (c : Course) : Type 0 where
         kept : Holds c
-        offered : HasOffered p.sender d.octets c.world
+        offered : Contains c.world.offered (p.sender, d)
 
       copy_passed : (to : ℕ) → (to == p.sender) ≡ false → p.sender ≢ to → (c : Course) → Passed c → Passed (copy_comes p draws now d.octets c to)
       copy_passed to mine apart c h = record {
@@ -117,19 +120,19 @@ module _ (p : Settings) (range : InRange p) (events : List Event) (may : MayGoOn
           | true ↦ tells p (comes p (Delivered to d.octets now 0) c)
           | false ↦ comes p (Delivered to d.octets now (draws c.used)) (record c { used = c.used + 1 })
         ]) mine)) (go (to == node) refl);
-        offered = subst (Gift p.sender d.octets) (sym (copy_offered p draws now d.octets c to)) h.offered;
+        offered = subst (λ (os : List (ℕ × Written)). Contains os (p.sender, d)) (sym (copy_offered p draws now d.octets c to)) h.offered;
       }
         where
           v : Course
           v = record c { used = c.used + 1 }
 
           comes_so : ComesInTail c.world (Delivered to d.octets now (draws c.used))
-          comes_so = offered_may_come c.world p.sender to d.octets apart h.offered
+          comes_so = offered_may_come c.world p.sender to d.octets apart (d, h.offered, refl)
 
           mine_hears : ComesInTail c.world (Delivered node d.octets now (draws c.used)) → Holds (comes p (Delivered node d.octets now (draws c.used)) v)
           mine_hears may_come =
               let next = holds_own R v (Delivered node d.octets now (draws c.used)) (receiver.Delivered d.octets now (draws c.used)) may_come other refl
-              (λ r so. own r (draws c.used) so) (holds_drawn c (c.used + 1) h.kept) in
+              (λ r found so. own v (draw_calm p (run p events) c (c.used + 1) h.kept.calm) h.offered (draws c.used) may_come r found so) (holds_drawn c (c.used + 1) h.kept) in
               record { calm = next.0; so = next.1 }
 
           go : (b : Bool) → (to == node) ≡ b → Holds (comes p (Delivered to d.octets now (draws c.used)) v)
@@ -145,7 +148,7 @@ module _ (p : Settings) (range : InRange p) (events : List Event) (may : MayGoOn
           copies_passed nodes mine.1 apart.1 (copy_comes p draws now d.octets c to) (copy_passed to mine.0 apart.0 c h)
 
     passes_own : (c : Course) (given : Option Written) → given_by c.world p.sender ≡ given
-        → ((d : Written) → given ≡ Some d → (r : ReceiverState) (draw : ℕ) → R r → R (received p r d.octets now draw)) → Holds c → Holds (passes_on p draws now c p.sender)
+        → ((d : Written) → given ≡ Some d → Hears d) → Holds c → Holds (passes_on p draws now c p.sender)
     passes_own c None is own h = subst Holds (sym (ap (λ (g : Option Written). elim g as (λ _. Course) [
       | Some x ↦ fold (copy_comes p draws now x.octets) (comes p (Offered p.sender x.octets) c) (others_than p p.sender)
       | None ↦ c
@@ -157,13 +160,12 @@ module _ (p : Settings) (range : InRange p) (events : List Event) (may : MayGoOn
         (copies_passed d (own d refl) (others_than p p.sender) (others_mine p (members_of p)) (others_differ p.sender (members_of p)) (comes p (Offered p.sender d.octets) c)
         (record {
           kept = holds_rests (Offered p.sender d.octets) c (given_may_come c.world p.sender d is) tt refl h;
-          offered = given_offered p c.world p.sender d is;
+          offered = given_itself p c.world p.sender d is;
         })).kept
 
     -- up to when the receivers are served
     pub passed_holds : (r : ReceiverState) → receiver_at (run p events) node ≡ Some r → R r
-        → ((d : Written) → (ticked p (run p events).sender now).1 ≡ Some d → (x : ReceiverState) (draw : ℕ) → R x → R (received p x d.octets now draw))
-        → Holds (passes_on p draws now (sender_ticks p now (course_from (run p events))) p.sender)
+        → ((d : Written) → (ticked p (run p events).sender now).1 ≡ Some d → Hears d) → Holds (passes_on p draws now (sender_ticks p now (course_from (run p events))) p.sender)
     passed_holds r found so own =
         passes_own (sender_ticks p now (course_from (run p events))) (ticked p (run p events).sender now).1 given own told
       where
@@ -187,24 +189,24 @@ module _ (p : Settings) (range : InRange p) (events : List Event) (may : MayGoOn
 
   -- ---- its own tick
 
-  module _ (R S : ReceiverState → Type 0) (plain : Plain R) (after : Plain S) (ticks : (r : ReceiverState) → R r → S (receiver_ticked p r now).0)
+  module _ (R S : ReceiverState → Type 0) (plain : Plain R) (takes_on : (r : ReceiverState) → R r → R (took r).0) (after : Plain S) (ticks : (r : ReceiverState) → R r → S (receiver_ticked p r now).0)
       (r0 : ReceiverState) (found0 : receiver_at (run p events) node ≡ Some r0) where
     there0 : find (λ (to : ℕ). to == node) (receivers_of p p.receivers) ≡ None → ⊥
     there0 none = none_some r0 (sym (no_receiver node (run p events).receivers (ap (find (λ (n : ℕ). n == node)) (world_laws.nodes p events) ∙ none)) ∙ found0)
 
     is_served : (c : Course) → Holds R plain c → Holds S after (serves p draws now c node)
     is_served c h =
-        let next = holds_own R plain S (takes p node c) (Ticked node now) (receiver.Ticked now) (all_are_taken p node (untaken c.world node) c refl) other refl ticks taken in
+        let next = holds_own R plain S (takes p node c) (Ticked node now) (receiver.Ticked now) (all_are_taken p node (untaken c.world node) c refl) other refl (λ r found so. ticks r so) taken in
         gave_passes p range events may node other draws now (Holds S after) (holding S after) node other (takes p node c) who.0 taken.calm who.1
         (record { calm = next.0; so = next.1 })
       where
         taken : Holds R plain (takes p node c)
-        taken = holds_takes R plain (untaken c.world node) c h
+        taken = holds_takes R plain takes_on (untaken c.world node) c h
 
         who : (r : ReceiverState) × (receiver_at (takes p node c).world node ≡ Some r)
         who = has_receiver p range events may node other draws now (Holds R plain) (holding R plain) (takes p node c) taken.calm node there0
 
-    all_served : (nodes : List ℕ) → AllByRecursion (λ (q : ℕ). (q == p.sender) ≡ false) nodes
+    pub all_served : (nodes : List ℕ) → AllByRecursion (λ (q : ℕ). (q == p.sender) ≡ false) nodes
         → AllByRecursion (λ (q : ℕ). find (λ (to : ℕ). to == q) (receivers_of p p.receivers) ≡ None → ⊥) nodes → Differ nodes
         → (find (λ (to : ℕ). to == node) nodes ≡ None → ⊥) → (c : Course) → Holds R plain c → Holds S after (fold (serves p draws now) c nodes)
     all_served [] mine there differ has c h = absurd (has refl)
@@ -223,8 +225,13 @@ module _ (p : Settings) (range : InRange p) (events : List Event) (may : MayGoOn
             (serves_other p range events may node other draws now (Holds R plain) (holding R plain) q mine.0 e there.0 c h)
 
     -- so it is at the turn's end
-    pub node_turn : R r0 → ((d : Written) → (ticked p (run p events).sender now).1 ≡ Some d → (x : ReceiverState) (draw : ℕ) → R x → R (received p x d.octets now draw))
+    pub node_turn_in : R r0 → ((d : Written) → (ticked p (run p events).sender now).1 ≡ Some d → Hears R plain d)
         → (t : ReceiverState) → receiver_at (tail_turn p draws now (course_from (run p events))).world node ≡ Some t → S t
-    node_turn so own t is =
+    node_turn_in so own t is =
         (all_served (receivers_of p p.receivers) (not_sender p p.receivers) (each_there (receivers_of p p.receivers)) (receivers_rise p p.receivers).1 there0
         (passes_on p draws now (sender_ticks p now (course_from (run p events))) p.sender) (passed_holds R plain r0 found0 so own)).so t is
+
+    -- and if it holds whoever hears it
+    pub node_turn : R r0 → ((d : Written) → (ticked p (run p events).sender now).1 ≡ Some d → (x : ReceiverState) (draw : ℕ) → R x → R (received p x d.octets now draw))
+        → (t : ReceiverState) → receiver_at (tail_turn p draws now (course_from (run p events))).world node ≡ Some t → S t
+    node_turn so own t is = node_turn_in so (λ d gives c calm offered draw may_come r found h. own d gives r draw h) t is

@@ -133,7 +133,7 @@ told_rests p s =
     let same = told_same s in
     record { current = same.0; wants = same.1; next = (told_leaves s).next; squelch = told_squelch s; send = tick_laws.stays p s sender.NewsAsked tt }
 
-same_to_send : (p : Settings) (s t : SenderState) → Rests s t → to_send p t ≡ to_send p s
+pub same_to_send : (p : Settings) (s t : SenderState) → Rests s t → to_send p t ≡ to_send p s
 same_to_send p s t h =
     ap (λ b. one_if b + length t.wants + length (all_new p t)) h.squelch
     ∙ ap (λ ws. one_if s.squelch_due + length ws + length (all_new p t)) h.wants
@@ -143,7 +143,7 @@ same_to_send p s t h =
     new = ap (λ (i : Instance). length (all_new p (record t { current = i }))) h.current
         ∙ ap (λ (w : Want). length (all_new p (record t { current = s.current; next = w }))) h.next
 
-same_window : (p : Settings) (s t : SenderState) → t.current ≡ s.current → repairable p t ≡ repairable p s
+pub same_window : (p : Settings) (s t : SenderState) → t.current ≡ s.current → repairable p t ≡ repairable p s
 same_window p s t e = ap (λ (i : Instance). repairable p (record t { current = i })) e
 
 pub quiet_rests : (p : Settings) (w : World) (e : Event) → Quiet p e → Rests w.sender (world_step p w e).0.sender

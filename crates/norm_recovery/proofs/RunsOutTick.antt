@@ -35,24 +35,25 @@ Stays p s t = to_send p t ≡ to_send p s
 
 -- ---- one datagram goes
 
--- no more than this is to be sent, and the next datagram goes a gap later
-record Goes (p : Settings) (now n : ℕ) (t : SenderState) : Type 0 where
-  left : to_send p t ≤ n
-  next : t.next_send ≡ moment_after now p.gap
+-- no more than this is to be sent, the next datagram goes a gap later, and the last flush stays
+pub record Goes (p : Settings) (now n : ℕ) (last : Option ℕ) (t : SenderState) : Type 0 where
+  pub left : to_send p t ≤ n
+  pub next : t.next_send ≡ moment_after now p.gap
+  pub flush : t.last_flush ≡ last
 
 -- a want or what is new, of which so much is left
-want_goes : (p : Settings) (now n : ℕ) (repair : Object → ℕ) (w : Want) (s : SenderState) → to_send p s ≤ n → Goes p now n (sends_want p now repair w s).0
-want_goes p now n repair (Info index) s le = record { left = le; next = refl }
-want_goes p now n repair (Symbol at) s le = record { left = le; next = refl }
+want_goes : (p : Settings) (now n : ℕ) (repair : Object → ℕ) (w : Want) (s : SenderState) → to_send p s ≤ n → Goes p now n s.last_flush (sends_want p now repair w s).0
+want_goes p now n repair (Info index) s le = record { left = le; next = refl; flush = refl }
+want_goes p now n repair (Symbol at) s le = record { left = le; next = refl; flush = refl }
 
-sends_one : (p : Settings) (now n : ℕ) (s : SenderState) → to_send p s ≡ suc n → Goes p now n (sends_first p now s).0
+sends_one : (p : Settings) (now n : ℕ) (s : SenderState) → to_send p s ≡ suc n → Goes p now n s.last_flush (sends_first p now s).0
 sends_one p now n s e = first s.squelch_due refl
   where
     quiet : s.squelch_due ≡ false → one_if s.squelch_due ≡ 0
     quiet is = ap one_if is
 
     further : (found : Option Want) → next_new p s ≡ found → s.squelch_due ≡ false → s.wants ≡ []
-        → Goes p now n (left_by (elim found [ Some w ↦ sends_new p now w s | None ↦ flushes p now s ]))
+        → Goes p now n s.last_flush (left_by (elim found [ Some w ↦ sends_new p now w s | None ↦ flushes p now s ]))
     further None is due none =
         let nothing = none_new p s is in
         let no_squelch = quiet due in
@@ -64,25 +65,25 @@ sends_one p now n s e = first s.squelch_due refl
         want_goes p now n (λ object. 0) w t (omega (arith, less, e))
 
     wanted : (wants : List Want) → s.wants ≡ wants → s.squelch_due ≡ false
-        → Goes p now n (left_by (elim wants [ [] ↦ sends_further p now s | w ∷ more ↦ repairs_next p now w more s ]))
+        → Goes p now n s.last_flush (left_by (elim wants [ [] ↦ sends_further p now s | w ∷ more ↦ repairs_next p now w more s ]))
     wanted [] none due = further (next_new p s) refl due none
     wanted (w ∷ more) some due =
         let many = ap length some in
         want_goes p now n (λ object. repair_flags p object w) w (record s { wants = more }) (omega (arith, many, e))
 
-    first : (b : Bool) → s.squelch_due ≡ b → Goes p now n (left_by (elim b [
+    first : (b : Bool) → s.squelch_due ≡ b → Goes p now n s.last_flush (left_by (elim b [
       | true ↦ sends p now (writes (squelch_message p s s.current.drop) (s.current.drop.index ∷ [])) (record s { squelch_due = false })
       | false ↦ sends_wanted p now s
     ]))
-    first true due = record { left = (let one = ap one_if due in omega (arith, one, e)); next = refl }
+    first true due = record { left = (let one = ap one_if due in omega (arith, one, e)); next = refl; flush = refl }
     first false due = wanted s.wants refl due
 
 -- a tick with something to be sent: it is not due, or one datagram goes
-data Ticks (p : Settings) (now n : ℕ) (s t : SenderState) : Type 0 where
+pub data Ticks (p : Settings) (now n : ℕ) (s t : SenderState) : Type 0 where
   Early : (before : now < s.next_send) (same : t ≡ s) → Ticks p now n s t
-  Sends : (due : s.next_send ≤ now) (goes : Goes p now n t) → Ticks p now n s t
+  Sends : (due : s.next_send ≤ now) (goes : Goes p now n s.last_flush t) → Ticks p now n s t
 
-sends_some : (p : Settings) (now n : ℕ) (s : SenderState) → to_send p s ≡ suc n → Ticks p now n s (sends_in_time p now s).0
+pub sends_some : (p : Settings) (now n : ℕ) (s : SenderState) → to_send p s ≡ suc n → Ticks p now n s (sends_in_time p now s).0
 sends_some p now n s e = go (nat_lt now s.next_send) refl
   where
     go : (b : Bool) → nat_lt now s.next_send ≡ b → Ticks p now n s (left_by (elim b [ true ↦ (s, None) | false ↦ sends_first p now s ]))

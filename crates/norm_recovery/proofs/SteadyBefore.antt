@@ -4,7 +4,7 @@ use Rattle.std.specs.Prelude.{slice_get, nat_eq, nat_lt, IfSome, if◌then◌els
 use Rattle.std.specs.List.{AllByRecursion, IsDistinct}
 use Rattle.std.proofs.lemmas.Bool.Decides.{Decides-ltb}
 use Rattle.norm_base.specs.Settings.{Settings, InRange}
-use Rattle.fec_plan.specs.Points.{Point, point, point_before, position_before, further, further_point}
+use Rattle.fec_plan.specs.Points.{Point, point_before, position_before, further, further_point}
 use Rattle.fec_plan.specs.declared.position.Position.{Position}
 use Rattle.fec_plan.proofs.PositionLemmas.{Before as ComesBefore, before_decides}
 use Rattle.norm_order.specs.Entries.{Object, Whole, Stream, Entry}

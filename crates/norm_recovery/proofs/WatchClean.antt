@@ -31,7 +31,7 @@ use Rattle.norm_recovery.proofs.WatchSpent.{WasThere, was_there, each_after, spe
 use Rattle.norm_recovery.proofs.WatchTurn.{goes}
 
 -- a back-off that ends early enough
-early_clean : (p : Settings) (late : ℕ) (s : SenderState) (r : ReceiverState) → IfSome r.knows.backoff (λ ends. ends < late) → is_clean_from late p s r ≡ true
+pub early_clean : (p : Settings) (late : ℕ) (s : SenderState) (r : ReceiverState) → IfSome r.knows.backoff (λ ends. ends < late) → is_clean_from late p s r ≡ true
 early_clean p late s r early = go r.knows.backoff early
   where
     left_is : (a b : Bool) → a ≡ true → (a || b) ≡ true
@@ -43,7 +43,7 @@ early_clean p late s r early = go r.knows.backoff early
     go None lt = refl
     go (Some ends) lt = left_is (nat_lt ends late) (is_clean p s r) ((Decides-ltb ends late).1 lt)
 
-sooner : (found : Option ℕ) (n late : ℕ) → n < late → IfSome found (λ ends. ends ≤ n) → IfSome found (λ ends. ends < late)
+pub sooner : (found : Option ℕ) (n late : ℕ) → n < late → IfSome found (λ ends. ends ≤ n) → IfSome found (λ ends. ends < late)
 sooner None n late lt h = tt
 sooner (Some ends) n late lt h = omega (arith, lt, h)
 

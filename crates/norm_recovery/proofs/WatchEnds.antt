@@ -10,8 +10,10 @@ use Rattle.norm_send_rules.specs.SenderState.{SenderState, Round}
 use Rattle.norm_safety.specs.Recovery.{IsPaced}
 use Rattle.norm_safety.specs.World.{World}
 use Rattle.norm_safety.proofs.EntryLemmas.{clash}
-use Rattle.norm_recovery.specs.Watch.{Phase, Watch, most_held, closes_soon, is_behind, is_waited, each_member}
+use Rattle.norm_recovery.specs.Watch.{Phase, Watch, most_held, closes_soon, is_behind, is_waited, each_member, knows_flush, flushed_before, sends_soon, waits_to_send}
 use Rattle.norm_recovery.specs.WatchEnds.{WatchEnds}
+use Rattle.norm_recovery.specs.RunsOut.{to_send}
+use Rattle.norm_recovery.proofs.BeforeFlush.{before_is, not_late}
 
 both : (a b : Bool) → (a && b) ≡ true → (a ≡ true) × (b ≡ true)
 both true b e = (refl, e)
@@ -27,7 +29,7 @@ le_of a b e = go (leb_tells a b)
 -- ---- moments
 
 -- a datagram and a turn, twice, take no more than a round trip
-paced : (p : Settings) (s : SenderState) → IsPaced p s → 2 * (p.gap + p.step) ≤ p.grtt
+pub paced : (p : Settings) (s : SenderState) → IsPaced p s → 2 * (p.gap + p.step) ≤ p.grtt
 paced p s h = go (repairable p s) h.twice
   where
     go : (m : ℕ) → 2 * (m + 1) * (p.gap + p.step) ≤ p.grtt → 2 * (p.gap + p.step) ≤ p.grtt
@@ -72,11 +74,24 @@ ends p s pace ph now w h = go ph.first h.asking
     Ends : Type 0
     Ends = 4 * now ≤ 4 * ph.began + (16 * p.k + 37) * p.grtt
 
+    held : ℕ
+    held = most_held p ph
+
+    in_time : ℕ → Bool
+    in_time flush = nat_le (2 * flush) (2 * most_held p ph + 5 * p.grtt + 2 * (p.gap + p.step))
+
+    known : Bool
+    known = each_member (knows_flush w.sender) w
+
+    behind : Bool
+    behind = not (each_member (λ r. not (is_behind w.sender r)) w)
+
     waits : Option ℕ → Bool
     waits first = elim first [
-      | Some flush ↦ nat_le flush now && nat_le (2 * flush) (2 * most_held p ph + 5 * p.grtt + 2 * (p.gap + p.step))
-          && not (each_member (λ r. not (is_behind w.sender r)) w) && each_member (is_waited p flush w.sender) w && closes_soon p flush now w.sender
-      | None ↦ nat_le (2 * now) (2 * most_held p ph + 5 * p.grtt + 2 * (p.gap + p.step))
+      | Some flush ↦ nat_le (most_held p ph) flush && nat_le flush now && nat_le (2 * flush) (2 * most_held p ph + 5 * p.grtt + 2 * (p.gap + p.step))
+          && each_member (knows_flush w.sender) w && not (each_member (λ r. not (is_behind w.sender r)) w) && each_member (is_waited p flush w.sender) w
+          && closes_soon p flush now w.sender
+      | None ↦ flushed_before p ph w.sender && sends_soon p ph w.sender && waits_to_send p ph now w.sender
     ]
 
     closes : (flush : ℕ) → 2 * flush ≤ 2 * most_held p ph + 5 * p.grtt + 2 * (p.gap + p.step) → (found : Option Round)
@@ -95,16 +110,17 @@ ends p s pace ph now w h = go ph.first h.asking
 
     go : (first : Option ℕ) → waits first ≡ true → Ends
     go None e =
-        before_flush p.k p.grtt p.gap p.step ph.began now pace.often few (le_of (2 * now) (2 * most_held p ph + 5 * p.grtt + 2 * (p.gap + p.step)) e)
+        let b = before_is p ph now w.sender e in
+        before_flush p.k p.grtt p.gap p.step ph.began now pace.often few
+        (not_late p.grtt p.gap p.step (most_held p ph) now ph.since w.sender.next_send (to_send p w.sender * (p.gap + p.step)) pace.often few b.soon b.waits)
     go (Some flush) e =
-        let last = both (nat_le flush now && nat_le (2 * flush) (2 * most_held p ph + 5 * p.grtt + 2 * (p.gap + p.step))
-        && not (each_member (λ r. not (is_behind w.sender r)) w) && each_member (is_waited p flush w.sender) w) (closes_soon p flush now w.sender) e in
-        let third = both (nat_le flush now && nat_le (2 * flush) (2 * most_held p ph + 5 * p.grtt + 2 * (p.gap + p.step))
-        && not (each_member (λ r. not (is_behind w.sender r)) w)) (each_member (is_waited p flush w.sender) w) last.0 in
-        let second = both (nat_le flush now && nat_le (2 * flush) (2 * most_held p ph + 5 * p.grtt + 2 * (p.gap + p.step)))
-        (not (each_member (λ r. not (is_behind w.sender r)) w)) third.0 in
-        let first = both (nat_le flush now) (nat_le (2 * flush) (2 * most_held p ph + 5 * p.grtt + 2 * (p.gap + p.step))) second.0 in
-        soon flush (le_of (2 * flush) (2 * most_held p ph + 5 * p.grtt + 2 * (p.gap + p.step)) first.1) (nat_lt now (flush + p.k * p.grtt + 2 * p.step)) refl last.1
+        let soonest = both (nat_le held flush && nat_le flush now && in_time flush && known && behind && each_member (is_waited p flush w.sender) w)
+        (closes_soon p flush now w.sender) e in
+        let fourth = both (nat_le held flush && nat_le flush now && in_time flush && known && behind) (each_member (is_waited p flush w.sender) w) soonest.0 in
+        let third = both (nat_le held flush && nat_le flush now && in_time flush && known) behind fourth.0 in
+        let second = both (nat_le held flush && nat_le flush now && in_time flush) known third.0 in
+        let first = both (nat_le held flush && nat_le flush now) (in_time flush) second.0 in
+        soon flush (le_of (2 * flush) (2 * most_held p ph + 5 * p.grtt + 2 * (p.gap + p.step)) first.1) (nat_lt now (flush + p.k * p.grtt + 2 * p.step)) refl soonest.1
 
 -- ---- flushes
 

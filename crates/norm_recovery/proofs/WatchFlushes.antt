@@ -232,7 +232,7 @@ event_count p w e quiet = subst (NoMore w.sender) (sym (sender_is p w e)) (after
 -- ---- two round trips apart
 
 -- so many since the phase began, by the moment of the last
-data Apart (g c t : ℕ) (s : SenderState) : Type 0 where
+pub data Apart (g c t : ℕ) (s : SenderState) : Type 0 where
   Few : s.flushes ≤ c → Apart g c t s
   By : (last : ℕ) → s.last_flush ≡ Some last → t + 2 * g * (s.flushes - c) ≤ last + 2 * g → Apart g c t s
 
@@ -243,7 +243,7 @@ le_of a b e = go (leb_tells a b)
     go (inl tells) = tells.1
     go (inr tells) = absurd (clash (sym tells.0 ∙ e))
 
-le_so : (a b : ℕ) → a ≤ b → nat_le a b ≡ true
+pub le_so : (a b : ℕ) → a ≤ b → nat_le a b ≡ true
 le_so a b le = go (leb_tells a b)
   where
     go : ((nat_le a b ≡ true) × (a ≤ b)) ⊎ ((nat_le a b ≡ false) × (b < a)) → nat_le a b ≡ true
@@ -318,7 +318,26 @@ apart_ticks p now c t s u (One_more may few last) began fits some (By before is 
 
 -- ---- the turn
 
-module _ (p : Settings) (events : List Event) (last : ℕ) (draws : ℕ → ℕ) (f : Follows p events last) (ph : Phase) (h : Watch p ph last (run p events)) where
+of_watch : (p : Settings) (events : List Event) (last : ℕ) (ph : Phase) → Watch p ph last (run p events) → Apart p.grtt ph.counted ph.began (run p events).sender
+of_watch p events last ph h = go (nat_le (run p events).sender.flushes ph.counted) refl h.flushed
+  where
+    s : SenderState
+    s = (run p events).sender
+
+    by : (found : Option ℕ) → s.last_flush ≡ found
+        → (elim found as (λ _. Bool) [ Some last ↦ nat_le (ph.began + 2 * p.grtt * (s.flushes - ph.counted)) (last + 2 * p.grtt) | None ↦ false ]) ≡ true
+        → Apart p.grtt ph.counted ph.began (run p events).sender
+    by None is e = absurd (clash e)
+    by (Some last) is e = By last is (le_of (ph.began + 2 * p.grtt * (s.flushes - ph.counted)) (last + 2 * p.grtt) e)
+
+    go : (b : Bool) → nat_le s.flushes ph.counted ≡ b
+        → (b || elim s.last_flush [ Some last ↦ nat_le (ph.began + 2 * p.grtt * (s.flushes - ph.counted)) (last + 2 * p.grtt) | None ↦ false ]) ≡ true
+        → Apart p.grtt ph.counted ph.began (run p events).sender
+    go true is e = Few (le_of s.flushes ph.counted is)
+    go false is e = by s.last_flush refl e
+
+module _ (p : Settings) (events : List Event) (last : ℕ) (draws : ℕ → ℕ) (f : Follows p events last) (ph : Phase) (began : ph.began ≤ last)
+    (was : Apart p.grtt ph.counted ph.began (run p events).sender) where
   abbrev A : SenderState → Type 0
   A s = Apart p.grtt ph.counted ph.began s
 
@@ -329,36 +348,18 @@ module _ (p : Settings) (events : List Event) (last : ℕ) (draws : ℕ → ℕ)
       → Apart p.grtt ph.counted ph.began (comes p e c).world.sender
   each e quiet at c a = apart_fewer p.grtt ph.counted ph.began c.world.sender (world_step p c.world e).0.sender (event_count p c.world e quiet) a
 
-  of_watch : Apart p.grtt ph.counted ph.began (run p events).sender
-  of_watch = go (nat_le (run p events).sender.flushes ph.counted) refl h.flushed
-    where
-      s : SenderState
-      s = (run p events).sender
-
-      by : (found : Option ℕ) → s.last_flush ≡ found
-          → (elim found as (λ _. Bool) [ Some last ↦ nat_le (ph.began + 2 * p.grtt * (s.flushes - ph.counted)) (last + 2 * p.grtt) | None ↦ false ]) ≡ true
-          → Apart p.grtt ph.counted ph.began (run p events).sender
-      by None is e = absurd (clash e)
-      by (Some last) is e = By last is (le_of (ph.began + 2 * p.grtt * (s.flushes - ph.counted)) (last + 2 * p.grtt) e)
-
-      go : (b : Bool) → nat_le s.flushes ph.counted ≡ b
-          → (b || elim s.last_flush [ Some last ↦ nat_le (ph.began + 2 * p.grtt * (s.flushes - ph.counted)) (last + 2 * p.grtt) | None ↦ false ]) ≡ true
-          → Apart p.grtt ph.counted ph.began (run p events).sender
-      go true is e = Few (le_of s.flushes ph.counted is)
-      go false is e = by s.last_flush refl e
-
   after_tick : Apart p.grtt ph.counted ph.began (comes p (Ticked p.sender (last + p.step)) (course_from (run p events))).world.sender
   after_tick =
       subst (Apart p.grtt ph.counted ph.began) (sym (own_tick p (run p events) (last + p.step)))
       (apart_ticks p (last + p.step) ph.counted ph.began (run p events).sender (ticked p (run p events).sender (last + p.step)).0
-      (tick_count p (last + p.step) (run p events).sender) (let a = h.within.0 in let b = h.within.1 in omega (arith, a, b)) f.fits f.profile.grtt.0 of_watch)
+      (tick_count p (last + p.step) (run p events).sender) (omega (arith, began)) f.fits f.profile.grtt.0 was)
 
   at_end : Apart p.grtt ph.counted ph.began (tail_turn p draws (last + p.step) (course_from (run p events))).world.sender
   at_end =
       round_keeps p draws (last + p.step) Kept each (λ c n a. a) (sender_ticks p (last + p.step) (course_from (run p events)))
       (tells_keep p draws (last + p.step) Kept each (λ c n a. a) (comes p (Ticked p.sender (last + p.step)) (course_from (run p events))) after_tick)
 
-  flushes_apart : are_apart p (goes_to ph (turn_after p draws events last)) (turn_after p draws events last).world.sender ≡ true
+  pub flushes_apart : are_apart p (goes_to ph (turn_after p draws events last)) (turn_after p draws events last).world.sender ≡ true
   flushes_apart = go at_end
     where
       t : SenderState
@@ -388,5 +389,5 @@ watch_keeps = record {
   within = λ p events last draws f ph h. within p events last draws f ph h;
   runs_out = λ p events last draws f ph h. runs_out p events last draws f ph h;
   apart = λ p events last draws f ph h. apart p events last draws f ph h;
-  flushed = λ p events last draws f ph h. flushes_apart p events last draws f ph h;
+  flushed = λ p events last draws f ph h. flushes_apart p events last draws f ph (let a = h.within.0 in let b = h.within.1 in omega (arith, a, b)) (of_watch p events last ph h);
 }

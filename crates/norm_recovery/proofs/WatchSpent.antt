@@ -190,7 +190,7 @@ module _ (p : Settings) (events : List Event) (last : ℕ) (draws : ℕ → ℕ)
   -- ---- what every member had
 
   -- a closing that leaves no less adds only what every member has
-  closed_have : have_wanted p (run p events) ≡ true
+  pub closed_have : have_wanted p (run p events) ≡ true
       → have_wanted p (record (run p events) { sender = closed_where_due p (last + p.step) (run p events).sender }) ≡ true
   closed_have have = go s.round same
     where

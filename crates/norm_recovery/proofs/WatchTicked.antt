@@ -192,8 +192,8 @@ module _ (p : Settings) (events : List Event) (last : ℕ) (draws : ℕ → ℕ)
 
   acked : list_all owes_nothing (tail_turn p draws (last + p.step) (course_from (run p events))).world.receivers ≡ true
   acked = each_receiver owes_nothing (λ x r other found there. ap (λ o. is_none o)
-      (node_turn p f.profile events may x.node other draws now (λ t. ⊤) (λ t. t.knows.due ≡ None) (record { heard = λ t heard h. tt; held = λ t held h. tt })
-      (record { heard = λ t heard h. h; held = λ t held h. h }) (λ t h. (tick_done p (λ n. ⊤) t now).owes) r found tt (λ d gives t draw h. tt) x there))
+      (node_turn p f.profile events may x.node other draws now (λ t. ⊤) (λ t. t.knows.due ≡ None) (record { heard = λ t heard h. tt }) (λ t h. tt)
+      (record { heard = λ t heard h. h }) (λ t h. (tick_done p (λ n. ⊤) t now).owes) r found tt (λ d gives t draw h. tt) x there))
 
   -- ---- back-offs
 
@@ -242,8 +242,8 @@ module _ (p : Settings) (events : List Event) (last : ℕ) (draws : ℕ → ℕ)
     at_end : (x r : ReceiverState) → (x.node == p.sender) ≡ false → receiver_at (run p events) x.node ≡ Some r
         → receiver_at (tail_turn p draws (last + p.step) (course_from (run p events))).world x.node ≡ Some x → Before r → After x
     at_end x r other found there before =
-        node_turn p f.profile events may x.node other draws now Before After (record { heard = λ t heard h. h; held = λ t held h. h })
-        (record { heard = λ t heard h. h; held = λ t held h. h }) ticks r found before hears x there
+        node_turn p f.profile events may x.node other draws now Before After (record { heard = λ t heard h. h }) (λ t h. h)
+        (record { heard = λ t heard h. h }) ticks r found before hears x there
 
   -- ---- the phase
 

@@ -37,11 +37,11 @@ use Rattle.norm_recovery.proofs.TimelyWorld.{event_timely, runs_are_timely}
 -- ---- rounds of a turn
 
 -- when an open round closes
-abbrev closing_of : Option Round → Option ℕ
+abbrev pub closing_of : Option Round → Option ℕ
 closing_of found = elim found [ Some r ↦ Some r.closes | None ↦ None ]
 
 -- A round is as it was, but for what is asked in it; or none was open, and it closes K + 1 round trips after the turn's moment.
-data RoundGoes (p : Settings) (now : ℕ) (was is : Option Round) : Type 0 where
+pub data RoundGoes (p : Settings) (now : ℕ) (was is : Option Round) : Type 0 where
   Stays : closing_of is ≡ closing_of was → RoundGoes p now was is
   Opens : closing_of was ≡ None → closing_of is ≡ Some (moment_after now ((p.k + 1) * p.grtt)) → RoundGoes p now was is
 
@@ -105,7 +105,7 @@ event_goes p now w e quiet at = subst (λ (s : SenderState). RoundGoes p now w.s
     after (UpTaken node) quiet at = Stays refl
     after NewsAsked quiet at = Stays (ap closing_of (told_round w.sender))
 
-by_moment : (now : ℕ) (e : Event) → IsAt now e → ComesBy now e
+pub by_moment : (now : ℕ) (e : Event) → IsAt now e → ComesBy now e
 by_moment now (Commanded by job moment) at = omega (arith, at)
 by_moment now (Delivered node datagram moment draw) at = omega (arith, at)
 by_moment now (Ticked node moment) at = omega (arith, at)
@@ -167,7 +167,7 @@ module _ (p : Settings) (events : List Event) (last : ℕ) (draws : ℕ → ℕ)
   -- what holds from the sender's tick on
   pub record Goes (since : ℕ) (c : Course) : Type 0 where
     pub timely : WorldTimely p (last + p.step) c.world
-    round : RoundGoes p (last + p.step) (ticked p (run p events).sender (last + p.step)).0.round c.world.sender.round
+    pub round : RoundGoes p (last + p.step) (ticked p (run p events).sender (last + p.step)).0.round c.world.sender.round
     pub closing : last_closing since c.happened ≡ closing_or (closed_by (last + p.step) (run p events).sender.round (ticked p (run p events).sender (last + p.step)).0.round) since
 
   each : (since : ℕ) (e : Event) → Quiet p e → IsAt (last + p.step) e → (c : Course) → Goes since c → Goes since (comes p e c)
@@ -238,19 +238,14 @@ module _ (p : Settings) (events : List Event) (last : ℕ) (draws : ℕ → ℕ)
       go (Some b) (Some a) e = inl e
       go (Some b) None e = inr e
 
-  module _ (ph : Phase) (h : Watch p ph last (run p events)) where
-    pub within : (ph.began ≤ (goes_to ph (turn_after p draws events last)).since) × ((goes_to ph (turn_after p draws events last)).since ≤ last + p.step)
-    within = go (closing_is ph.since)
+  module _ (ph : Phase) (lies : (ph.began ≤ ph.since) × (ph.since ≤ last)) (was_apart : closes_apart p ph (run p events).sender ≡ true) where
+    pub within_from : (ph.began ≤ (goes_to ph (turn_after p draws events last)).since) × ((goes_to ph (turn_after p draws events last)).since ≤ last + p.step)
+    within_from = go (closing_is ph.since)
       where
         go : (last_closing ph.since turn.happened ≡ ph.since) ⊎ (last_closing ph.since turn.happened ≡ last + p.step)
             → (ph.began ≤ last_closing ph.since turn.happened) × (last_closing ph.since turn.happened ≤ last + p.step)
-        go (inl e) = let a = h.within.0 in let b = h.within.1 in (omega (arith, e, a), omega (arith, e, b))
-        go (inr e) = let a = h.within.0 in let b = h.within.1 in (omega (arith, e, a, b), omega (arith, e))
-
-    pub runs_out : RunsOut p ((goes_to ph (turn_after p draws events last)).since + p.grtt) (last + p.step) (turn_after p draws events last).world.sender
-    runs_out =
-        (turn_on p f.profile draws ph.since (repairable p (run p events).sender) last (course_from (run p events)) f.twice (let fits = f.fits in omega (arith, fits))
-        (record { runs = inr h.runs_out; soon = h.timely.sender.send; hold = wants_hold_in_runs p events f.profile; window = refl })).runs
+        go (inl e) = let a = lies.0 in let b = lies.1 in (omega (arith, e, a), omega (arith, e, b))
+        go (inr e) = let a = lies.0 in let b = lies.1 in (omega (arith, e, a, b), omega (arith, e))
 
     -- a round that closes at a moment does so a round trip after the last closing
     abbrev apart_by : ℕ → Option ℕ → Bool
@@ -286,8 +281,8 @@ module _ (p : Settings) (events : List Event) (last : ℕ) (draws : ℕ → ℕ)
         go None = inr refl
         go (Some r) = by r (nat_le r.closes (last + p.step))
 
-    pub apart : closes_apart p (goes_to ph (turn_after p draws events last)) (turn_after p draws events last).world.sender ≡ true
-    apart = apart_is (last_closing ph.since turn.happened) turn.world.sender.round ∙ go (goes ph.since).round (due_round (run p events).sender)
+    pub apart_from : closes_apart p (goes_to ph (turn_after p draws events last)) (turn_after p draws events last).world.sender ≡ true
+    apart_from = apart_is (last_closing ph.since turn.happened) turn.world.sender.round ∙ go (goes ph.since).round (due_round (run p events).sender)
       where
         same_closing : (found : Option Round) → closing_or (closed_by (last + p.step) found found) ph.since ≡ ph.since
         same_closing None = refl
@@ -300,7 +295,7 @@ module _ (p : Settings) (events : List Event) (last : ℕ) (draws : ℕ → ℕ)
             ap (apart_by (last_closing ph.since turn.happened)) e
             ∙ or_so (last_closing ph.since turn.happened == ph.began) (nat_le (last_closing ph.since turn.happened + p.grtt) (moment_after (last + p.step) ((p.k + 1) * p.grtt)))
             (le_so (last_closing ph.since turn.happened + p.grtt) (moment_after (last + p.step) ((p.k + 1) * p.grtt))
-            (let least = opened in let le = within.1 in omega (arith, least, le)))
+            (let least = opened in let le = within_from.1 in omega (arith, least, le)))
         go (Stays e) (inl none) =
             ap (apart_by (last_closing ph.since turn.happened)) (e ∙ ap closing_of (tick_round p (run p events).sender (last + p.step) ∙ none))
             ∙ or_so (last_closing ph.since turn.happened == ph.began) true refl
@@ -310,4 +305,16 @@ module _ (p : Settings) (events : List Event) (last : ℕ) (draws : ℕ → ℕ)
             ∙ ap (λ (after : Option Round). closing_or (closed_by (last + p.step) (run p events).sender.round after) ph.since) (tick_round p (run p events).sender (last + p.step) ∙ same)
             ∙ same_closing (run p events).sender.round)
             ∙ ap (apart_by ph.since) (e ∙ ap closing_of (tick_round p (run p events).sender (last + p.step) ∙ same))
-            ∙ sym (apart_is ph.since (run p events).sender.round) ∙ h.apart
+            ∙ sym (apart_is ph.since (run p events).sender.round) ∙ was_apart
+
+  module _ (ph : Phase) (h : Watch p ph last (run p events)) where
+    pub within : (ph.began ≤ (goes_to ph (turn_after p draws events last)).since) × ((goes_to ph (turn_after p draws events last)).since ≤ last + p.step)
+    within = within_from ph h.within h.apart
+
+    pub runs_out : RunsOut p ((goes_to ph (turn_after p draws events last)).since + p.grtt) (last + p.step) (turn_after p draws events last).world.sender
+    runs_out =
+        (turn_on p f.profile draws ph.since (repairable p (run p events).sender) last (course_from (run p events)) f.twice (let fits = f.fits in omega (arith, fits))
+        (record { runs = inr h.runs_out; soon = h.timely.sender.send; hold = wants_hold_in_runs p events f.profile; window = refl })).runs
+
+    pub apart : closes_apart p (goes_to ph (turn_after p draws events last)) (turn_after p draws events last).world.sender ≡ true
+    apart = apart_from ph h.within h.apart

@@ -36,3 +36,9 @@ pub mod SteadySent
 pub mod SteadyNothing
 pub mod SteadyAsked
 pub mod SteadyTurns
+pub mod HadBringsNothing
+pub mod WatchHolds
+pub mod WatchWaits
+pub mod WatchGoesOn
+pub mod FewRecover
+pub mod TailRecovers

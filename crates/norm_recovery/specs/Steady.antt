@@ -1,5 +1,5 @@
 -- Sessions whose number of turns their script tells: data, files and marks alone, and each object is sent as it comes.
-use Rattle.std.specs.Prelude.{◌≡◌, ◌≤◌, ℕ, ◌+◌, ◌*◌, List, length, count_by, Bool, true, false, IfSome, Result, Err}
+use Rattle.std.specs.Prelude.{◌≡◌, ◌≤◌, ℕ, ◌+◌, ◌*◌, List, length, count_by, Bool, true, false, IfSome, Err}
 use Rattle.std.specs.Int.{div_ceil}
 use Rattle.std.specs.List.{AllByRecursion}
 use Rattle.norm_base.specs.Members.{receivers_of}

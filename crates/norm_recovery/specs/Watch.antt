@@ -2,7 +2,8 @@
 use Rattle.std.specs.Prelude.{◌≡◌, ◌≤◌, ◌+◌, ◌*◌, ◌-◌, ◌==◌, ◌&&◌, ◌||◌, ℕ, length, not, nat_lt, nat_le, Bool, true, false, Option, None, Some, is_none}
 use Rattle.std.specs.List.{list_all, list_any}
 use Rattle.norm_base.specs.Settings.{Settings}
-use Rattle.fec_plan.specs.Points.{position_before}
+use Rattle.fec_plan.specs.Points.{position_before, reached_by}
+use Rattle.norm_receive_rules.specs.Leaving.{is_in}
 use Rattle.norm_receive_rules.specs.ReceiverState.{ReceiverState}
 use Rattle.norm_send_rules.specs.SenderState.{SenderState}
 use Rattle.norm_send_rules.specs.Watermarks.{oldest, has_member}
@@ -12,7 +13,7 @@ use Rattle.norm_recovery.specs.Asking.{have_wanted}
 use Rattle.norm_recovery.specs.Clean.{is_clean_from}
 use Rattle.norm_recovery.specs.Left.{has, in_window}
 use Rattle.norm_recovery.specs.RoundAsks.{asks_open}
-use Rattle.norm_recovery.specs.RunsOut.{RunsOut, all_new}
+use Rattle.norm_recovery.specs.RunsOut.{RunsOut, all_new, to_send}
 use Rattle.norm_recovery.specs.Timely.{WorldTimely}
 
 -- A phase: when it began, with so many flushes counted; the last closing since, or its begin; and the first flush that went once no member was held off
@@ -88,12 +89,33 @@ closes_soon p flush now s = nat_lt now (flush + p.k * p.grtt + 2 * p.step) || el
   | None ↦ false
 ]
 
--- Before that flush it is not too late for it. After it some member is behind, each of those is waited for, and the open round closes soon.
+-- a member knows a flush of the oldest watermark's position, or of a further one
+abbrev pub knows_flush : SenderState → ReceiverState → Bool
+knows_flush s r = is_in r s.current.id && elim (oldest s) [ Some w ↦ reached_by r.knows.flush w.at | None ↦ false ]
+
+-- no flush went once nobody was held off by what it heard before
+abbrev pub flushed_before : Settings → Phase → SenderState → Bool
+flushed_before p ph s = elim s.last_flush [ Some last ↦ nat_lt last (most_held p ph) | None ↦ true ]
+
+-- all that is to be sent goes by a gap after that moment, or half a round trip and a gap after the last closing
+abbrev pub sends_soon : Settings → Phase → SenderState → Bool
+sends_soon p ph s =
+    nat_le (s.next_send + to_send p s * (p.gap + p.step)) (most_held p ph + p.gap)
+    || nat_le (2 * (s.next_send + to_send p s * (p.gap + p.step) + p.step)) (2 * (ph.since + p.gap) + p.grtt)
+
+-- From two round trips after it on the sender may not send yet; and since the first turn then no round closed.
+abbrev pub waits_to_send : Settings → Phase → ℕ → SenderState → Bool
+waits_to_send p ph now s =
+    nat_lt now (most_held p ph + 2 * p.grtt) || nat_lt now s.next_send && nat_lt ph.since (most_held p ph + 2 * p.grtt + p.step)
+
+-- Before that flush it goes as soon as the sender may send. After it every member knows it, some member is behind, each of those is waited for, and the
+-- open round closes soon.
 abbrev pub is_waiting : Settings → Phase → ℕ → World → Bool
 is_waiting p ph now w = elim ph.first [
-  | Some flush ↦ nat_le flush now && nat_le (2 * flush) (2 * most_held p ph + 5 * p.grtt + 2 * (p.gap + p.step))
-      && not (each_member (λ r. not (is_behind w.sender r)) w) && each_member (is_waited p flush w.sender) w && closes_soon p flush now w.sender
-  | None ↦ nat_le (2 * now) (2 * most_held p ph + 5 * p.grtt + 2 * (p.gap + p.step))
+  | Some flush ↦ nat_le (most_held p ph) flush && nat_le flush now && nat_le (2 * flush) (2 * most_held p ph + 5 * p.grtt + 2 * (p.gap + p.step))
+      && each_member (knows_flush w.sender) w && not (each_member (λ r. not (is_behind w.sender r)) w) && each_member (is_waited p flush w.sender) w
+      && closes_soon p flush now w.sender
+  | None ↦ flushed_before p ph w.sender && sends_soon p ph w.sender && waits_to_send p ph now w.sender
 ]
 
 -- Of a world at a moment at which a turn ended, in this phase.

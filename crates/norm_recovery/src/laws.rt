@@ -7,6 +7,8 @@ ghost use Rattle.norm_recovery.specs.Flush.{FlushHeard};
 ghost use Rattle.norm_recovery.specs.FlushListed.{FlushListed};
 ghost use Rattle.norm_recovery.specs.FlushNeeds.{FlushNeeds};
 ghost use Rattle.norm_recovery.specs.FlushReaches.{FlushReaches};
+ghost use Rattle.norm_recovery.specs.FewRecover.{FewRecover};
+ghost use Rattle.norm_recovery.specs.HadBringsNothing.{HadBringsNothing};
 ghost use Rattle.norm_recovery.specs.Left.{LeftTells};
 ghost use Rattle.norm_recovery.specs.LeftHeard.{LeftHeard};
 ghost use Rattle.norm_recovery.specs.LeftNeverRises.{LeftNeverRises};
@@ -27,10 +29,14 @@ ghost use Rattle.norm_recovery.specs.SteadyTakes.{DirectTakesAll};
 ghost use Rattle.norm_recovery.specs.SteadyTurns.{TurnsSuffice};
 ghost use Rattle.norm_recovery.specs.TailKeeps.{TailKeeps};
 ghost use Rattle.norm_recovery.specs.TailLawful.{TailIsLawful};
+ghost use Rattle.norm_recovery.specs.TailRecovers.{TailRecovers};
 ghost use Rattle.norm_recovery.specs.WatchCleans.{WatchCleans};
 ghost use Rattle.norm_recovery.specs.WatchEnds.{WatchEnds};
+ghost use Rattle.norm_recovery.specs.WatchGoesOn.{WatchGoesOn};
+ghost use Rattle.norm_recovery.specs.WatchHolds.{WatchHolds};
 ghost use Rattle.norm_recovery.specs.WatchKeeps.{WatchKeeps};
 ghost use Rattle.norm_recovery.specs.WatchTicks.{WatchTicks};
+ghost use Rattle.norm_recovery.specs.WatchWaits.{WatchWaits};
 ghost use Rattle.norm_recovery.specs.Timely.{RunsAreTimely};
 
 /// No run, lawful or not, puts anything off further than the rules say. If no event passes a moment, then within a gap of it the sender may
@@ -165,6 +171,35 @@ pub fn watch_ticks()
     ensures { WatchTicks }
 {}
 
+/// And a turn of a tail whose closing leaves no less keeps of a phase, in `hold` mode, with no stream in the window: whoever is held off for longer than by
+/// what it heard before the phase is asked for. No other one is held off after a back-off that ended while it needed something.
+pub fn watch_holds()
+    ensures { WatchHolds }
+{}
+
+/// As a phase begins, and after each turn of it that leaves no less, in `hold` mode with no stream in the window: the oldest watermark is flushed for in time; from
+/// its first flush after nobody was held off any more each member that is behind is asked for, or backs off, and the open round closes soon.
+pub fn watch_waits()
+    ensures { WatchWaits }
+{}
+
+/// Each turn of a tail satisfies its watermark, or leaves its phase as it was, or begins the next one with less left, whatever the draws: in `hold` mode, with
+/// no stream in the window, at the pace of a tail, and if no more than 15 - 2 K flushes were counted as the phase began.
+pub fn watch_goes_on()
+    ensures { WatchGoesOn }
+{}
+
+/// Bounded recovery: from a lawful run of few objects, in `hold` mode, with no stream in the window and at the pace of a tail, some number of turns that is no
+/// more than `tail_bound` satisfies the oldest watermark, whatever the draws. Until then no tick expires it.
+pub fn bounded_recovery()
+    ensures { FewRecover }
+{}
+
+/// And so a whole tail, which ends with the tick or the turn that ends its watermark, leaves that satisfied; and with its events the run may go on.
+pub fn tail_recovers()
+    ensures { TailRecovers }
+{}
+
 /// With the position of an open watermark a part of the order ends: it is the last source symbol of data or a file, or a closed segment of a
 /// stream ends with it. So it is after every lawful run, whatever was enqueued since. A restart leaves no watermark open.
 #[tactic(auto, using(crate::proofs::MarksEnd::marks_end))]
@@ -176,6 +211,12 @@ pub fn marks_end()
 /// of the current instance, and come after a lawful run of few objects.
 pub fn left_heard()
     ensures { LeftHeard }
+{}
+
+/// In `hold` mode, with no stream in the window, a member that hears an info or a symbol that it has, a flush, or a squelch up to where the window begins,
+/// holds then what it held. The datagram has to be offered, of the current instance, and come after a lawful run of few objects.
+pub fn had_brings_nothing()
+    ensures { HadBringsNothing }
 {}
 
 /// Over a turn no more is left: in `hold` mode, with no stream in the window, after a run that may go on, and whatever the draws. A closing only adds

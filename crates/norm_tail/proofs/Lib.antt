@@ -5,3 +5,4 @@ mod TurnLemmas
 mod BeginLemmas
 pub mod FitLemmas
 mod RunLemmas
+pub mod RecoverLemmas

@@ -5,6 +5,7 @@ ghost use Rattle.norm_safety.specs.Tail.{tail_fault};
 ghost use Rattle.norm_safety.specs.World.{World as Rules};
 ghost use Rattle.norm_tail.specs.Beginning.{CanTail, refused_by};
 ghost use Rattle.norm_tail.specs.Ending.{MakesTail, BreaksOff};
+ghost use Rattle.norm_tail.specs.Recovering.{RecoversRuns};
 ghost use Rattle.norm_tail.specs.declared.fault.TailFault.TheVariants as fault;
 ghost use Rattle.norm_world.specs.WorldKept.{IsReady, StandsFor};
 
@@ -35,6 +36,8 @@ pub struct TailEnd {
 /// if it gave one, comes to each receiver. Then each receiver in order ticks after its hand-ups were taken, and a copy of its datagram, if it gave
 /// one, comes to each other member, the sender first. The sender's news are taken after its tick and after each copy that comes to it.
 ///
+/// After a run that bounded recovery speaks of (`MayRecover`), in which no instance had more than 32,768 objects, an `Ok` left the watermark satisfied.
+///
 /// # Errors
 ///
 /// The first [`TailFault`] that applies, with nothing changed, or `Memory` if memory runs out. Then what happened in the world stays, `draws`
@@ -55,6 +58,7 @@ pub fn run_tail(
     ensures refused { (w : Rules) → StandsFor world.old w → refused_by result ≡ tail_fault profile.now w.sender }
     ensures same { IfErr result (λ why. why ≢ fault.Memory → (world.new ≡ world.old) × (draws.new ≡ draws.old)) }
     ensures course { IfOk result (λ end. MakesTail profile.now draws.old draws.new last world.old world.new end.turns end.bound end.steps.items) }
+    ensures recovers { IfOk result (λ end. RecoversRuns profile.now draws.old last world.old world.new) }
     ensures bound { IfOk result (λ end. end.turns ≤ end.bound) }
     ensures memory { IfErr result (λ why. why ≡ fault.Memory → BreaksOff profile.now draws.old last world.old world.new) }
 {

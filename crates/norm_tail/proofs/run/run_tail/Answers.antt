@@ -9,6 +9,7 @@ use Rattle.norm_tail.specs.declared.fault.TailFault.{TailFault}
 use Rattle.norm_tail.specs.declared.fault.TailFault.TheVariants as fault
 use Rattle.norm_tail.specs.declared.step.TailStep.{TailStep}
 use Rattle.norm_tail.proofs.BeginLemmas.{may_begin, few_symbols, none_open}
+use Rattle.norm_tail.proofs.RecoverLemmas.{made_recovers}
 use Rattle.norm_tail.proofs.RunLemmas.{at_memory, mark_is, bound_is, closed_refuses, made, broken}
 use Rattle.norm_tail.proofs.run.run_tail.Goals as goal
 
@@ -54,3 +55,8 @@ returns-clause-course c w mark st oldest =
     (λ x t none last here.
     c.in_ok-turns.ensures.goes x t none last
     (subst (λ (ss : List TailStep). At x t.course c.args.world.now ss c.args.draws.now) (sym c.new-steps.ensures.items) here))
+
+pub returns-clause-recovers : goal.returns-clause-recovers
+returns-clause-recovers c =
+    made_recovers c.args.profile.now c.args.draws.now c.turns_until.new.draws c.args.last c.args.world.now c.turns_until.new.world c.in_ok-turns.turns
+    c.bound_of-bound.result c.turns_until.new.steps.items (λ w mark st oldest. returns-clause-course c w mark st oldest)
