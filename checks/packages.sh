@@ -65,7 +65,7 @@ fi
 
 for unit in normd-receive@.service normd-hub.service; do
     for line in Restart=always RestartSec=5 StartLimitIntervalSec=0 After=network-online.target User=normd; do
-        grep -qx "$line" "examples/systemd/$unit" || wrong "$unit has no line $line: it would give up, or not start, where the network is late"
+        grep -qx "$line" "examples/systemd/$unit" || wrong "$unit has no line $line: it would give up, or not start, if the network is late"
     done
 done
 

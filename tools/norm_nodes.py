@@ -69,7 +69,8 @@ class Session:
         return 1 + symbols + longer_blocks * parity(shorter + 1) + (blocks - longer_blocks) * parity(shorter)
 
     def asks_within(self, octets: int) -> float:
-        """The seconds within which a sender of so many asks the last time whether a receiver has all of them. It may send what it keeps once more before, to others."""
+        """The seconds within which a sender of this many octets asks the last time whether a receiver has them all. Before, it may send what it keeps
+        once more, to others."""
         return (2 * wire.FLUSHES * self.grtt + self.unasked(max(1, min(octets, self.octets))) * self.gap) / 1e6 + 1
 
     def warning(self) -> str | None:
